@@ -1,0 +1,2 @@
+-- The action of a polynomial on endless sequences.
+-- Assumes nothing.

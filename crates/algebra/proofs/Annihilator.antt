@@ -1,0 +1,2 @@
+-- Annihilators of a sequence and the minimal polynomial.
+-- Assumes nothing.

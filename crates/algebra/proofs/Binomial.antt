@@ -1,0 +1,2 @@
+-- Binomial coefficients, and that a prime divides the inner ones of its row.
+-- Assumes nothing.

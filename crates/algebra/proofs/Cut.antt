@@ -1,0 +1,2 @@
+-- Cutting a sequence at a place.
+-- Assumes nothing.

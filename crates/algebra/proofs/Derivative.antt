@@ -1,0 +1,2 @@
+-- The formal derivative; x^N - 1 is squarefree where N is invertible.
+-- Assumes nothing.

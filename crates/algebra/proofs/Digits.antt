@@ -1,0 +1,2 @@
+-- The powers of f below which nothing survives, found digit by digit from the top.
+-- Assumes nothing.

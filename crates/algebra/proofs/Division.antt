@@ -1,0 +1,2 @@
+-- Division with remainder, divisibility.
+-- Assumes nothing.

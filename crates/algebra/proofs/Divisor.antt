@@ -1,0 +1,2 @@
+-- Greatest common divisors with Bezout's equation, least common multiples.
+-- Assumes nothing.

@@ -1,0 +1,2 @@
+-- Fields with finitely many elements: powers of a residue modulo an irreducible polynomial.
+-- Assumes nothing.

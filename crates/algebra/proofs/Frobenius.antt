@@ -1,0 +1,2 @@
+-- Characteristic p: p-th powers are additive.
+-- Assumes nothing.

@@ -1,0 +1,2 @@
+-- Ideals of a commutative ring, coprime elements, and products of powers of coprime elements.
+-- Assumes nothing.

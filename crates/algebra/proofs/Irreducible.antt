@@ -1,0 +1,2 @@
+-- Irreducible polynomials.
+-- Assumes nothing.

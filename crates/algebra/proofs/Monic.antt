@@ -1,0 +1,2 @@
+-- Degrees, leading terms and monic polynomials.
+-- Assumes nothing.

@@ -1,0 +1,2 @@
+-- Laws of the natural numbers: remainders of products, divisors, primes, Euclid's lemma.
+-- Assumes nothing.

@@ -1,0 +1,2 @@
+-- The order of x modulo a power of an irreducible polynomial, and the least period.
+-- Assumes nothing.

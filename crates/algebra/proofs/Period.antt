@@ -1,0 +1,2 @@
+-- Powers of an irreducible polynomial that annihilate a periodic sequence.
+-- Assumes nothing.

@@ -1,0 +1,2 @@
+-- Polynomials over a ring with decided equality, as a ring with plain equality.
+-- Assumes nothing.

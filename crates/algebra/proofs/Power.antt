@@ -1,0 +1,2 @@
+-- Powers in a ring.
+-- Assumes nothing.

@@ -1,0 +1,2 @@
+-- The numbers below p are a field, for every prime p together.
+-- Assumes nothing.

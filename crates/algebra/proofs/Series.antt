@@ -1,0 +1,2 @@
+-- Power series over a ring, a commutative ring themselves; lists stand for the series of their elements.
+-- Assumes nothing.

@@ -1,0 +1,2 @@
+-- A solver for equations of commutative rings, by reflection.
+-- Assumes nothing.

@@ -1,0 +1,2 @@
+-- Finite sums in a ring.
+-- Assumes nothing.

@@ -1,0 +1,1 @@
+// Mathematics over any field. Theory only: everything stands in proofs/.
