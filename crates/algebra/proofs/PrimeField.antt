@@ -1,2 +1,236 @@
--- The numbers below p are a field, for every prime p together.
+-- The numbers below p: a ring for every p > 0, a field for every prime p.
+--
+--   Below p            == the numbers below p, each with the proof that it is; `x .0` is the number
+--   residue p pos n    == the remainder of n modulo p > 0, as a number below p
+--   residueRing p pos  == the ring of the numbers below p > 0, with sums and products modulo p
+--   primeRing P        == the same for a prime p, P the proof that it is prime
+--   primeField P       == primeRing P is a field
+--   elements p         == the list of all numbers below p, each once, the greatest first
+--
 -- Assumes nothing.
+use Prim.Native.Nat.{ℕ, zero, suc, _+_, _-_, _*_, _%_, _≤_, _<_, _∣_, Fin, suc-le-suc}
+use mathlib.Core.Path.{_≡_, refl, sym, ap, _∙_, fst-path}
+use mathlib.Core.HLevel.{hedberg, ⊥-prop}
+use mathlib.Core.Logic.{inl, inr, ∥∥₁-elim}
+use mathlib.Core.List.{
+  List,
+  [],
+  _∷_,
+  List·Memᴰ,
+  List·Memᴰ·head,
+  List·Memᴰ·tail,
+  List·Memᴰ·not-nil,
+  List·Memᴰ·cases-cons,
+  List·Nodup,
+  Pairwise·nil,
+  Pairwise·cons,
+}
+use native.Mathlib.Nat.{
+  add-assoc,
+  add-comm,
+  add-zero,
+  mul-assoc,
+  mul-comm,
+  mul-one,
+  mul-add,
+  mod-lt,
+  mod-eq-of-lt,
+  mod-add-mod,
+  add-mod-mod,
+  mod-self,
+  add-sub-of-le,
+  le-of-lt,
+  zero-mod,
+  add-mod,
+  le-of-suc-le,
+  pos-of-ne-zero,
+  le-refl,
+  eq-or-lt-of-le,
+  le-of-suc-le-suc,
+  le-step,
+  le-of-eq,
+  ne-of-gt,
+}
+use native.Mathlib.Decide.{Fin·val-path, Fin-discrete}
+use native.Mathlib.Omega.{arith}
+use lib.ListN.{length}
+use Rattle.algebra.proofs.Ring.{Ring, Field}
+use Rattle.algebra.proofs.Number.{
+  Prime,
+  prime-pos,
+  prime-inverse,
+  mul-mod,
+  mul-mod-mod,
+  mod-mul-mod,
+  one-mod-prime,
+  not-divides-below,
+}
+
+abbrev pub Below : ℕ → Type 0
+Below p = Fin p
+
+pub below-path : {p : ℕ} {a b : Below p} → a .0 ≡ b .0 → a ≡ b
+below-path e = Fin·val-path e
+
+module _ (p : ℕ) (pos : 0 < p) where
+  unfoldable pub residue : ℕ → Below p
+  residue n = (n % p, mod-lt n pos)
+
+  unfoldable pub residueRing : Ring (Below p)
+  unfolding residue
+  residueRing =
+      record {
+        isSet = hedberg (Fin-discrete p);
+        0# = residue 0;
+        1# = residue 1;
+        _⊕_ = λ a b. residue (a .0 + b .0);
+        _⊗_ = λ a b. residue (a .0 * b .0);
+        ⊖_ = λ a. residue (p - a .0);
+        add-assoc = λ a b c. below-path (simp (mod-add-mod, add-mod-mod, add-assoc));
+        add-comm = λ a b. ap residue (add-comm (a .0) (b .0));
+        add-zero = λ a. below-path (simp (add-mod-mod, add-zero) (mod-eq-of-lt (a .1)));
+        add-neg = λ a. below-path (simp (add-mod-mod, add-sub-of-le (le-of-lt (a .1)), mod-self, zero-mod));
+        mul-assoc = λ a b c. below-path (simp (mod-mul-mod, mul-mod-mod, mul-assoc));
+        mul-comm = λ a b. ap residue (mul-comm (a .0) (b .0));
+        mul-one = λ a. below-path (simp (mul-mod-mod, mul-one) (mod-eq-of-lt (a .1)));
+        mul-add = λ a b c. below-path (simp (mul-mod-mod, mul-add, mod-add-mod, add-mod-mod));
+      }
+
+  open Ring residueRing using (0#, 1#, _⊕_, _⊗_, ⊖_)
+
+  infixl 60 _⊕_
+  infixl 70 _⊗_
+  infix 80 ⊖_
+  -- The number that stands in a result
+  pub value-residue : (n : ℕ) → (residue n) .0 ≡ n % p
+  unfolding residue
+  value-residue n = refl
+
+  pub value-zero : 0# .0 ≡ 0
+  unfolding residueRing residue
+  value-zero = zero-mod p
+
+  pub value-add : (a b : Below p) → (a ⊕ b) .0 ≡ (a .0 + b .0) % p
+  unfolding residueRing residue
+  value-add a b = refl
+
+  pub value-mul : (a b : Below p) → (a ⊗ b) .0 ≡ a .0 * b .0 % p
+  unfolding residueRing residue
+  value-mul a b = refl
+
+  pub value-neg : (a : Below p) → (⊖ a) .0 ≡ (p - a .0) % p
+  unfolding residueRing residue
+  value-neg a = refl
+
+  -- The map from the numbers onto the numbers below p carries 0, 1, sums and products
+  pub residue-value : (a : Below p) → residue (a .0) ≡ a
+  unfolding residue
+  residue-value a = below-path (mod-eq-of-lt (a .1))
+
+  pub residue-zero : residue 0 ≡ 0#
+  unfolding residueRing
+  residue-zero = refl
+
+  pub residue-one : residue 1 ≡ 1#
+  unfolding residueRing
+  residue-one = refl
+
+  pub residue-add : (m n : ℕ) → residue (m + n) ≡ residue m ⊕ residue n
+  unfolding residueRing residue
+  residue-add m n = below-path (add-mod m n p)
+
+  pub residue-mul : (m n : ℕ) → residue (m * n) ≡ residue m ⊗ residue n
+  unfolding residueRing residue
+  residue-mul m n = below-path (mul-mod m n p)
+
+  pub residue-same : (m n : ℕ) → m % p ≡ n % p → residue m ≡ residue n
+  unfolding residue
+  residue-same m n e = below-path e
+
+abbrev pub primeRing : {p : ℕ} → Prime p → Ring (Below p)
+primeRing {p} P = residueRing p (prime-pos P)
+
+module _ {p : ℕ} (P : Prime p) where
+  open Ring (primeRing P) using (0#, 1#, _⊕_, _⊗_)
+
+  infixl 70 _⊗_
+  nonzero-value : (a : Below p) → ¬ (a ≡ 0#) → ¬ (p ∣ a .0)
+  nonzero-value a h =
+      not-divides-below (pos-of-ne-zero (λ e. h (below-path (e ∙ sym (value-zero p (prime-pos P)))))) (a .1)
+
+  pub value-one : 1# .0 ≡ 1
+  unfolding residueRing residue
+  value-one = one-mod-prime P
+
+  inverse-decided : (a : Below p) → Dec (a ≡ 0#) → Below p
+  inverse-decided a (yes e) = a
+  inverse-decided a (no h) = residue p (prime-pos P) ((prime-inverse P (a .0) (nonzero-value a h)) .0)
+
+  mul-inverse-decided : (a : Below p) (d : Dec (a ≡ 0#)) → ¬ (a ≡ 0#) → a ⊗ inverse-decided a d ≡ 1#
+  unfolding residueRing residue inverse-decided
+  mul-inverse-decided a (yes e) h = absurd (h e)
+  mul-inverse-decided a (no k) h =
+      below-path (simp mul-mod-mod ((prime-inverse P (a .0) (nonzero-value a k)) .1 ∙ sym (one-mod-prime P)))
+
+  one-is-not-zero : ¬ (1# ≡ 0#)
+  unfolding residueRing residue
+  one-is-not-zero e = omega (arith, one-mod-prime P, zero-mod p, fst-path e)
+
+  pub primeField : Field (primeRing P)
+  primeField =
+      record {
+        discrete = Fin-discrete p;
+        inverse = λ a. inverse-decided a (Fin-discrete p a 0#);
+        one-nonzero = one-is-not-zero;
+        mul-inverse = λ a h. mul-inverse-decided a (Fin-discrete p a 0#) h;
+      }
+
+-- All numbers below p: those below k, for k at most p
+first : {p : ℕ} (k : ℕ) → k ≤ p → List (Below p)
+first zero l = []
+first (suc k) l = (k, l) ∷ first k (le-of-suc-le l)
+
+module _ {p : ℕ} where
+  first-length : (k : ℕ) (l : k ≤ p) → length (first k l) ≡ k
+  unfolding first
+  first-length zero l = refl
+  first-length (suc k) l = ap suc (first-length k (le-of-suc-le l))
+
+  first-complete : (k : ℕ) (l : k ≤ p) (a : Below p) → a .0 < k → List·Memᴰ a (first k l)
+  unfolding first
+  first-complete zero l a c = absurd (omega arith)
+  first-complete (suc k) l a c = elim (eq-or-lt-of-le (le-of-suc-le-suc c)) [
+    | inl e ↦ List·Memᴰ·head (below-path e)
+    | inr d ↦ List·Memᴰ·tail (first-complete k (le-of-suc-le l) a d)
+  ]
+
+  first-sound : (k : ℕ) (l : k ≤ p) (a : Below p) → List·Memᴰ a (first k l) → a .0 < k
+  unfolding first
+  first-sound zero l a m = absurd (List·Memᴰ·not-nil m)
+  first-sound (suc k) l a m = elim (List·Memᴰ·cases-cons m) [
+    | inl e ↦ suc-le-suc (le-of-eq (fst-path e))
+    | inr n ↦ le-step (first-sound k (le-of-suc-le l) a n)
+  ]
+
+  first-once : (k : ℕ) (l : k ≤ p) → List·Nodup (first k l)
+  unfolding first
+  first-once zero l = Pairwise·nil
+  first-once (suc k) l =
+      Pairwise·cons
+      (λ a m e. ∥∥₁-elim m ⊥-prop (λ n. ne-of-gt (first-sound k (le-of-suc-le l) a n) (fst-path e)))
+      (first-once k (le-of-suc-le l))
+
+pub elements : (p : ℕ) → List (Below p)
+elements p = first p (le-refl p)
+
+pub elements-length : (p : ℕ) → length (elements p) ≡ p
+unfolding elements
+elements-length p = first-length p (le-refl p)
+
+pub elements-complete : {p : ℕ} (a : Below p) → List·Memᴰ a (elements p)
+unfolding elements
+elements-complete {p} a = first-complete p (le-refl p) a (a .1)
+
+pub elements-once : (p : ℕ) → List·Nodup (elements p)
+unfolding elements
+elements-once p = first-once p (le-refl p)
