@@ -1,6 +1,7 @@
 pub mod Number
 pub mod Binomial
 pub mod Ring
+pub mod Multiple
 pub mod Solver
 pub mod Sum
 pub mod Power

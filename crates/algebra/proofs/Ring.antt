@@ -36,7 +36,8 @@ pub record Field {K : Type 0} (R : Ring K) : Type 0 where
   pub mul-inverse : (a : K) → ¬ (a ≡ R .0#) → (R ._⊗_) a (inverse a) ≡ R .1#
 
 module _ {K : Type 0} (R : Ring K) where
-  open Ring R using (0#, 1#, _⊕_, _⊗_, ⊖_, add-assoc, add-comm, add-zero, add-neg, mul-assoc, mul-comm, mul-one, mul-add)
+  open Ring R using (0#, 1#, _⊕_, _⊗_, ⊖_)
+  open Ring R using (add-assoc, add-comm, add-zero, add-neg, mul-assoc, mul-comm, mul-one, mul-add)
 
   infixl 60 _⊕_
   infixl 70 _⊗_
@@ -53,10 +54,11 @@ module _ {K : Type 0} (R : Ring K) where
   add-left-comm a b c = sym (add-assoc a b c) ∙ ap (λ x. x ⊕ c) (add-comm a b) ∙ add-assoc b a c
 
   pub add-right-comm : (a b c : K) → a ⊕ b ⊕ c ≡ a ⊕ c ⊕ b
-  add-right-comm a b c = add-assoc a b c ∙ ap (λ x. a ⊕ x) (add-comm b c) ∙ sym (add-assoc a c b)
+  add-right-comm a b c = add-assoc a b c ∙ ap (_⊕_ a) (add-comm b c) ∙ sym (add-assoc a c b)
 
   pub add-add-comm : (a b c d : K) → a ⊕ b ⊕ (c ⊕ d) ≡ a ⊕ c ⊕ (b ⊕ d)
-  add-add-comm a b c d = add-assoc a b (c ⊕ d) ∙ ap (λ x. a ⊕ x) (add-left-comm b c d) ∙ sym (add-assoc a c (b ⊕ d))
+  add-add-comm a b c d =
+      add-assoc a b (c ⊕ d) ∙ ap (_⊕_ a) (add-left-comm b c d) ∙ sym (add-assoc a c (b ⊕ d))
 
   pub neg-add-cancel : (a b : K) → ⊖ a ⊕ (a ⊕ b) ≡ b
   neg-add-cancel a b = sym (add-assoc (⊖ a) a b) ∙ ap (λ x. x ⊕ b) (neg-add-self a) ∙ zero-add b
@@ -65,10 +67,10 @@ module _ {K : Type 0} (R : Ring K) where
   add-neg-cancel a b = sym (add-assoc a (⊖ a) b) ∙ ap (λ x. x ⊕ b) (add-neg a) ∙ zero-add b
 
   pub add-sub-cancel : (a b : K) → a ⊕ b ⊕ ⊖ b ≡ a
-  add-sub-cancel a b = add-assoc a b (⊖ b) ∙ ap (λ x. a ⊕ x) (add-neg b) ∙ add-zero a
+  add-sub-cancel a b = add-assoc a b (⊖ b) ∙ ap (_⊕_ a) (add-neg b) ∙ add-zero a
 
   pub sub-add-cancel : (a b : K) → a ⊕ ⊖ b ⊕ b ≡ a
-  sub-add-cancel a b = add-assoc a (⊖ b) b ∙ ap (λ x. a ⊕ x) (neg-add-self b) ∙ add-zero a
+  sub-add-cancel a b = add-assoc a (⊖ b) b ∙ ap (_⊕_ a) (neg-add-self b) ∙ add-zero a
 
   pub add-left-cancel : (a : K) {b c : K} → a ⊕ b ≡ a ⊕ c → b ≡ c
   add-left-cancel a {b} {c} e = sym (neg-add-cancel a b) ∙ ap (λ x. ⊖ a ⊕ x) e ∙ neg-add-cancel a c
@@ -97,10 +99,11 @@ module _ {K : Type 0} (R : Ring K) where
   neg-zero = sym (neg-unique (add-zero 0#))
 
   pub neg-injective : {a b : K} → ⊖ a ≡ ⊖ b → a ≡ b
-  neg-injective {a} {b} e = sym (neg-neg a) ∙ ap (λ x. ⊖ x) e ∙ neg-neg b
+  neg-injective {a} {b} e = sym (neg-neg a) ∙ ap ⊖_ e ∙ neg-neg b
 
   pub neg-add : (a b : K) → ⊖ (a ⊕ b) ≡ ⊖ a ⊕ ⊖ b
-  neg-add a b = sym (neg-unique (add-add-comm a b (⊖ a) (⊖ b) ∙ ap₂ (λ x y. x ⊕ y) (add-neg a) (add-neg b) ∙ add-zero 0#))
+  neg-add a b =
+      sym (neg-unique (add-add-comm a b (⊖ a) (⊖ b) ∙ ap₂ _⊕_ (add-neg a) (add-neg b) ∙ add-zero 0#))
 
   -- Products.
 
@@ -108,35 +111,36 @@ module _ {K : Type 0} (R : Ring K) where
   one-mul a = rw mul-comm (mul-one a)
 
   pub add-mul : (a b c : K) → (a ⊕ b) ⊗ c ≡ a ⊗ c ⊕ b ⊗ c
-  add-mul a b c = mul-comm (a ⊕ b) c ∙ mul-add c a b ∙ ap₂ (λ x y. x ⊕ y) (mul-comm c a) (mul-comm c b)
+  add-mul a b c = mul-comm (a ⊕ b) c ∙ mul-add c a b ∙ ap₂ _⊕_ (mul-comm c a) (mul-comm c b)
 
   pub mul-left-comm : (a b c : K) → a ⊗ (b ⊗ c) ≡ b ⊗ (a ⊗ c)
   mul-left-comm a b c = sym (mul-assoc a b c) ∙ ap (λ x. x ⊗ c) (mul-comm a b) ∙ mul-assoc b a c
 
   pub mul-right-comm : (a b c : K) → a ⊗ b ⊗ c ≡ a ⊗ c ⊗ b
-  mul-right-comm a b c = mul-assoc a b c ∙ ap (λ x. a ⊗ x) (mul-comm b c) ∙ sym (mul-assoc a c b)
+  mul-right-comm a b c = mul-assoc a b c ∙ ap (_⊗_ a) (mul-comm b c) ∙ sym (mul-assoc a c b)
 
   pub mul-mul-comm : (a b c d : K) → a ⊗ b ⊗ (c ⊗ d) ≡ a ⊗ c ⊗ (b ⊗ d)
-  mul-mul-comm a b c d = mul-assoc a b (c ⊗ d) ∙ ap (λ x. a ⊗ x) (mul-left-comm b c d) ∙ sym (mul-assoc a c (b ⊗ d))
+  mul-mul-comm a b c d =
+      mul-assoc a b (c ⊗ d) ∙ ap (_⊗_ a) (mul-left-comm b c d) ∙ sym (mul-assoc a c (b ⊗ d))
 
   pub mul-zero : (a : K) → a ⊗ 0# ≡ 0#
   mul-zero a =
-      add-left-cancel (a ⊗ 0#) (sym (mul-add a 0# 0#) ∙ ap (λ x. a ⊗ x) (add-zero 0#) ∙ sym (add-zero (a ⊗ 0#)))
+      add-left-cancel (a ⊗ 0#) (sym (mul-add a 0# 0#) ∙ ap (_⊗_ a) (add-zero 0#) ∙ sym (add-zero (a ⊗ 0#)))
 
   pub zero-mul : (a : K) → 0# ⊗ a ≡ 0#
   zero-mul a = mul-comm 0# a ∙ mul-zero a
 
   pub mul-neg : (a b : K) → a ⊗ ⊖ b ≡ ⊖ (a ⊗ b)
-  mul-neg a b = neg-unique (sym (mul-add a b (⊖ b)) ∙ ap (λ x. a ⊗ x) (add-neg b) ∙ mul-zero a)
+  mul-neg a b = neg-unique (sym (mul-add a b (⊖ b)) ∙ ap (_⊗_ a) (add-neg b) ∙ mul-zero a)
 
   pub neg-mul : (a b : K) → ⊖ a ⊗ b ≡ ⊖ (a ⊗ b)
-  neg-mul a b = mul-comm (⊖ a) b ∙ mul-neg b a ∙ ap (λ x. ⊖ x) (mul-comm b a)
+  neg-mul a b = mul-comm (⊖ a) b ∙ mul-neg b a ∙ ap ⊖_ (mul-comm b a)
 
   pub neg-mul-neg : (a b : K) → ⊖ a ⊗ ⊖ b ≡ a ⊗ b
-  neg-mul-neg a b = neg-mul a (⊖ b) ∙ ap (λ x. ⊖ x) (mul-neg a b) ∙ neg-neg (a ⊗ b)
+  neg-mul-neg a b = neg-mul a (⊖ b) ∙ ap ⊖_ (mul-neg a b) ∙ neg-neg (a ⊗ b)
 
   pub neg-one-mul : (a : K) → ⊖ 1# ⊗ a ≡ ⊖ a
-  neg-one-mul a = neg-mul 1# a ∙ ap (λ x. ⊖ x) (one-mul a)
+  neg-one-mul a = neg-mul 1# a ∙ ap ⊖_ (one-mul a)
 
   pub mul-sub : (a b c : K) → a ⊗ (b ⊕ ⊖ c) ≡ a ⊗ b ⊕ ⊖ (a ⊗ c)
   mul-sub a b c = mul-add a b (⊖ c) ∙ ap (λ x. a ⊗ b ⊕ x) (mul-neg a c)
@@ -195,7 +199,7 @@ module _ {K : Type 0} {R : Ring K} (F : Field R) where
   mul-nonzero {a} {b} h k e = k (mul-left-cancel a h (e ∙ sym (mul-zero R a)))
 
   pub inverse-nonzero : {a : K} → ¬ (a ≡ 0#) → ¬ (inverse a ≡ 0#)
-  inverse-nonzero {a} h z = one-nonzero (sym (mul-inverse a h) ∙ ap (λ x. a ⊗ x) z ∙ mul-zero R a)
+  inverse-nonzero {a} h z = one-nonzero (sym (mul-inverse a h) ∙ ap (_⊗_ a) z ∙ mul-zero R a)
 
   pub neg-nonzero : {a : K} → ¬ (a ≡ 0#) → ¬ (⊖ a ≡ 0#)
   neg-nonzero {a} h z = h (neg-injective R (z ∙ sym (neg-zero R)))
@@ -213,7 +217,7 @@ module _ {K : Type 0} {R : Ring K} (F : Field R) where
       inverse-unique
       (
       mul-mul-comm R a b (inverse a) (inverse b)
-      ∙ ap₂ (λ x y. x ⊗ y) (mul-inverse a h) (mul-inverse b k)
+      ∙ ap₂ _⊗_ (mul-inverse a h) (mul-inverse b k)
       ∙ mul-one 1#
       )
       )
