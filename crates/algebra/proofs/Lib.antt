@@ -5,6 +5,7 @@ pub mod Multiple
 pub mod Solver
 pub mod Sum
 pub mod Power
+pub mod Characteristic
 pub mod PrimeField
 pub mod Ideal
 pub mod Series

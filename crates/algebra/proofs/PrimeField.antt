@@ -5,6 +5,7 @@
 --   residueRing p pos  == the ring of the numbers below p > 0, with sums and products modulo p
 --   primeRing P        == the same for a prime p, P the proof that it is prime
 --   primeField P       == primeRing P is a field
+--   residue-numeral    == the remainder of n is the n-fold sum of 1
 --   elements p         == the list of all numbers below p, each once, the greatest first
 --
 -- Assumes nothing.
@@ -52,9 +53,12 @@ use native.Mathlib.Nat.{
   ne-of-gt,
 }
 use native.Mathlib.Decide.{Fin·val-path, Fin-discrete}
+use native.Mathlib.Numerals.{add-one}
 use native.Mathlib.Omega.{arith}
 use lib.ListN.{length}
 use Rattle.algebra.proofs.Ring.{Ring, Field}
+use Rattle.algebra.proofs.Multiple.{numeral, numeral-zero, numeral-suc}
+use Rattle.algebra.proofs.Characteristic.{Characteristic}
 use Rattle.algebra.proofs.Number.{
   Prime,
   prime-pos,
@@ -147,6 +151,14 @@ module _ (p : ℕ) (pos : 0 < p) where
   unfolding residue
   residue-same m n e = below-path e
 
+  pub residue-numeral : (n : ℕ) → residue n ≡ numeral residueRing n
+  residue-numeral zero = residue-zero ∙ sym (numeral-zero residueRing)
+  residue-numeral (suc n) =
+      rw (numeral-suc residueRing n, ← residue-numeral n, ← residue-one, ← residue-add, add-one)
+
+  pub value-numeral : (n : ℕ) → (numeral residueRing n) .0 ≡ n % p
+  value-numeral n = fst-path (sym (residue-numeral n)) ∙ value-residue n
+
 abbrev pub primeRing : {p : ℕ} → Prime p → Ring (Below p)
 primeRing {p} P = residueRing p (prime-pos P)
 
@@ -175,6 +187,15 @@ module _ {p : ℕ} (P : Prime p) where
   one-is-not-zero : ¬ (1# ≡ 0#)
   unfolding residueRing residue
   one-is-not-zero e = omega (arith, one-mod-prime P, zero-mod p, fst-path e)
+
+  pub prime-characteristic : Characteristic (primeRing P) p
+  prime-characteristic = record { prime = P; vanishes = sym (residue-numeral p s p) ∙ wraps }
+    where
+      s : 0 < p
+      s = prime-pos P
+
+      wraps : residue p s p ≡ 0#
+      wraps = residue-same p s p 0 (mod-self p ∙ sym (zero-mod p)) ∙ residue-zero p s
 
   pub primeField : Field (primeRing P)
   primeField =
