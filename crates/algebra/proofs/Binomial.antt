@@ -5,11 +5,15 @@
 --   choose-prime    == a prime p divides p over k for 0 < k < p
 --
 -- Assumes nothing.
-use Prim.Native.Nat.{ℕ, zero, suc, _+_, _*_, _<_, _∣_}
-use mathlib.Core.Path.{_≡_, refl}
+use Prim.Native.Nat.{ℕ, zero, suc, _+_, _-_, _*_, _<_, _∣_}
+use mathlib.Core.Path.{_≡_, refl, sym, ap, ap₂, _∙_}
 use mathlib.Core.Logic.{inl, inr}
-use native.Mathlib.Nat.{dvd-mul-right}
+use native.Mathlib.Nat.{dvd-mul-right, suc-sub-suc, sub-zero, sub-self}
 use native.Mathlib.Omega.{arith}
+use native.Mathlib.Decide.{decLt}
+use Rattle.algebra.proofs.Ring.{Ring, mul-right-comm, zero-mul, one-mul}
+use Rattle.algebra.proofs.Multiple.{multiple, multiple-zero, multiple-one, multiple-add, multiple-mul-left}
+use Rattle.algebra.proofs.Power.{power, power-zero, power-suc}
 use Rattle.algebra.proofs.Number.{Prime, euclid, not-divides-below}
 
 unfoldable pub choose : ℕ → ℕ → ℕ
@@ -54,3 +58,46 @@ choose-prime {p = suc n} P (suc k) s l = elim (euclid P (suc k) (choose (suc n) 
   where
     product : suc n ∣ suc k * choose (suc n) (suc k)
     product = rw choose-absorb (dvd-mul-right (suc n) (choose n k))
+
+-- The terms of the power of a sum
+module _ {K : Type 0} (R : Ring K) (a b : K) where
+  open Ring R using (0#, 1#, _⊕_, _⊗_, mul-comm, mul-assoc, mul-one)
+
+  infixl 60 _⊕_
+  infixl 70 _⊗_
+  unfoldable pub binomialTerm : ℕ → ℕ → K
+  binomialTerm n k = multiple R (choose n k) (power R a k ⊗ power R b (n - k))
+
+  term-above : (n k : ℕ) → n < k → binomialTerm n k ≡ 0#
+  unfolding binomialTerm
+  term-above n k l = rw (choose-above n k l) (multiple-zero R _)
+
+  -- the powers of a and of b in the two parts of Pascal's rule
+  term-left : (n k : ℕ) → multiple R (choose n k) (power R a (suc k) ⊗ power R b (n - k)) ≡ binomialTerm n k ⊗ a
+  unfolding binomialTerm
+  term-left n k = rw (multiple-mul-left R, power-suc R a k, mul-right-comm R (power R a k) a (power R b (n - k)))
+
+  term-right : (n k : ℕ) → multiple R (choose n (suc k)) (power R a (suc k) ⊗ power R b (n - k)) ≡ binomialTerm n (suc k) ⊗ b
+  unfolding binomialTerm
+  term-right n k = elim (decLt k n) [
+      yes l ↦ rw (multiple-mul-left R, less n k l, power-suc R b (n - suc k), ← mul-assoc)
+    | no h ↦ rw (choose-above n (suc k) (omega arith), multiple-zero R, multiple-zero R) (sym (zero-mul R b)) ]
+    where
+      less : (n k : ℕ) → k < n → n - k ≡ suc (n - suc k)
+      less n k l = omega arith
+
+  pub term-pascal : (n k : ℕ) → binomialTerm (suc n) (suc k) ≡ binomialTerm n k ⊗ a ⊕ binomialTerm n (suc k) ⊗ b
+  term-pascal n k = open-term ∙ ap₂ _⊕_ (term-left n k) (term-right n k)
+    where
+      open-term : binomialTerm (suc n) (suc k)
+          ≡ multiple R (choose n k) (power R a (suc k) ⊗ power R b (n - k))
+          ⊕ multiple R (choose n (suc k)) (power R a (suc k) ⊗ power R b (n - k))
+      open-term = unfold binomialTerm in rw (choose-pascal, suc-sub-suc) (multiple-add R (choose n k) (choose n (suc k)) _)
+
+  pub term-first : (n : ℕ) → binomialTerm n 0 ≡ power R b n
+  unfolding binomialTerm
+  term-first n = rw (choose-zero, power-zero R a, one-mul R, sub-zero) (multiple-one R (power R b n))
+
+  pub term-last : (n : ℕ) → binomialTerm n n ≡ power R a n
+  unfolding binomialTerm
+  term-last n = rw (choose-self, sub-self, power-zero R b, mul-one) (multiple-one R (power R a n))
