@@ -4,7 +4,7 @@
 --   numeral R n      == the number n as an element of the ring: 1# ⊕ … ⊕ 1# with n summands
 --
 -- Assumes nothing.
-use mathlib.Core.Path.{_≡_, refl, sym, ap, ap₂, _∙_}
+use mathlib.Core.Path.{_≡_, refl, sym, ap, _∙_}
 use Prim.Native.Nat.{ℕ, zero, suc, _+_, _*_}
 use native.Mathlib.Nat as ℕ
 use Rattle.algebra.proofs.Ring.{Ring, Hom}

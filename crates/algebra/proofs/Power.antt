@@ -8,7 +8,8 @@ use mathlib.Core.HLevel.{dec→stable}
 use Prim.Native.Nat.{ℕ, zero, suc, _+_, _*_, _-_, _≤_, _<_}
 use native.Mathlib.Nat as ℕ
 use Rattle.algebra.proofs.Ring.{Ring, Field, Hom}
-use Rattle.algebra.proofs.Ring.{one-mul, mul-zero, mul-mul-comm, neg-mul-neg, mul-neg, neg-one-mul, mul-nonzero}
+use Rattle.algebra.proofs.Ring.{one-mul, mul-zero, mul-mul-comm, mul-neg, neg-mul-neg, neg-one-mul}
+use Rattle.algebra.proofs.Ring.{mul-nonzero}
 
 module _ {K : Type 0} (R : Ring K) where
   open Ring R using (0#, 1#, _⊕_, _⊗_, ⊖_, mul-assoc, mul-comm, mul-one)
