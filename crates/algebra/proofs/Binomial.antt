@@ -3,17 +3,27 @@
 --   choose n k      == the binomial coefficient n over k, by Pascal's rule; 0 for k > n
 --   choose-absorb   == k · (n over k) = n · (n − 1 over k − 1)
 --   choose-prime    == a prime p divides p over k for 0 < k < p
+--   binomialTerm R a b n k
+--                   == (n over k)-fold a^k b^(n - k); 0 for k > n
+--   binomial        == the binomial theorem: (a + b)^n is the sum of these terms for k from 0 to n
 --
 -- Assumes nothing.
 use Prim.Native.Nat.{ℕ, zero, suc, _+_, _-_, _*_, _<_, _∣_}
 use mathlib.Core.Path.{_≡_, refl, sym, ap, ap₂, _∙_}
 use mathlib.Core.Logic.{inl, inr}
-use native.Mathlib.Nat.{dvd-mul-right, suc-sub-suc, sub-zero, sub-self}
+use native.Mathlib.Nat.{dvd-mul-right, suc-sub-suc, sub-zero, sub-self, le-suc}
 use native.Mathlib.Omega.{arith}
 use native.Mathlib.Decide.{decLt}
-use Rattle.algebra.proofs.Ring.{Ring, mul-right-comm, zero-mul, one-mul}
-use Rattle.algebra.proofs.Multiple.{multiple, multiple-zero, multiple-one, multiple-add, multiple-mul-left}
+use Rattle.algebra.proofs.Ring.{Ring, mul-right-comm, zero-mul, one-mul, add-left-comm}
+use Rattle.algebra.proofs.Multiple.{
+  multiple,
+  multiple-zero,
+  multiple-one,
+  multiple-add,
+  multiple-mul-left,
+}
 use Rattle.algebra.proofs.Power.{power, power-zero, power-suc}
+use Rattle.algebra.proofs.Sum.{sum, sum-first, sum-one, sum-ext, sum-add, sum-scale-right, sum-shorten}
 use Rattle.algebra.proofs.Number.{Prime, euclid, not-divides-below}
 
 unfoldable pub choose : ℕ → ℕ → ℕ
@@ -61,7 +71,7 @@ choose-prime {p = suc n} P (suc k) s l = elim (euclid P (suc k) (choose (suc n) 
 
 -- The terms of the power of a sum
 module _ {K : Type 0} (R : Ring K) (a b : K) where
-  open Ring R using (0#, 1#, _⊕_, _⊗_, mul-comm, mul-assoc, mul-one)
+  open Ring R using (0#, 1#, _⊕_, _⊗_, mul-comm, mul-assoc, mul-one, mul-add)
 
   infixl 60 _⊕_
   infixl 70 _⊗_
@@ -72,27 +82,33 @@ module _ {K : Type 0} (R : Ring K) (a b : K) where
   unfolding binomialTerm
   term-above n k l = rw (choose-above n k l) (multiple-zero R _)
 
-  -- the powers of a and of b in the two parts of Pascal's rule
-  term-left : (n k : ℕ) → multiple R (choose n k) (power R a (suc k) ⊗ power R b (n - k)) ≡ binomialTerm n k ⊗ a
-  unfolding binomialTerm
-  term-left n k = rw (multiple-mul-left R, power-suc R a k, mul-right-comm R (power R a k) a (power R b (n - k)))
+  -- Pascal's rule for the terms: the factors of the next term, once for each part of its coefficient
+  abbrev factors : ℕ → ℕ → K
+  factors n k = power R a (suc k) ⊗ power R b (n - k)
 
-  term-right : (n k : ℕ) → multiple R (choose n (suc k)) (power R a (suc k) ⊗ power R b (n - k)) ≡ binomialTerm n (suc k) ⊗ b
+  term-left : (n k : ℕ) → multiple R (choose n k) (factors n k) ≡ binomialTerm n k ⊗ a
+  unfolding binomialTerm
+  term-left n k = rw (factors, multiple-mul-left R, power-suc R a k, mul-right-comm R (power R a k) a)
+
+  term-right : (n k : ℕ) → multiple R (choose n (suc k)) (factors n k) ≡ binomialTerm n (suc k) ⊗ b
   unfolding binomialTerm
   term-right n k = elim (decLt k n) [
-      yes l ↦ rw (multiple-mul-left R, less n k l, power-suc R b (n - suc k), ← mul-assoc)
-    | no h ↦ rw (choose-above n (suc k) (omega arith), multiple-zero R, multiple-zero R) (sym (zero-mul R b)) ]
+    | yes l ↦ rw (factors, multiple-mul-left R, less l, power-suc R b (n - suc k), ← mul-assoc)
+    | no h ↦ simp (choose-above n (suc k) (omega arith), multiple-zero R, zero-mul R)
+  ]
     where
-      less : (n k : ℕ) → k < n → n - k ≡ suc (n - suc k)
-      less n k l = omega arith
+      less : k < n → n - k ≡ suc (n - suc k)
+      less l = omega arith
 
-  pub term-pascal : (n k : ℕ) → binomialTerm (suc n) (suc k) ≡ binomialTerm n k ⊗ a ⊕ binomialTerm n (suc k) ⊗ b
-  term-pascal n k = open-term ∙ ap₂ _⊕_ (term-left n k) (term-right n k)
-    where
-      open-term : binomialTerm (suc n) (suc k)
-          ≡ multiple R (choose n k) (power R a (suc k) ⊗ power R b (n - k))
-          ⊕ multiple R (choose n (suc k)) (power R a (suc k) ⊗ power R b (n - k))
-      open-term = unfold binomialTerm in rw (choose-pascal, suc-sub-suc) (multiple-add R (choose n k) (choose n (suc k)) _)
+  term-open :
+      (n k : ℕ)
+      → binomialTerm (suc n) (suc k)
+      ≡ multiple R (choose n k) (factors n k) ⊕ multiple R (choose n (suc k)) (factors n k)
+  unfolding binomialTerm
+  term-open n k = rw (choose-pascal, suc-sub-suc) (multiple-add R (choose n k) (choose n (suc k)) _)
+
+  term-pascal : (n k : ℕ) → binomialTerm (suc n) (suc k) ≡ binomialTerm n k ⊗ a ⊕ binomialTerm n (suc k) ⊗ b
+  term-pascal n k = term-open n k ∙ ap₂ _⊕_ (term-left n k) (term-right n k)
 
   pub term-first : (n : ℕ) → binomialTerm n 0 ≡ power R b n
   unfolding binomialTerm
@@ -101,3 +117,34 @@ module _ {K : Type 0} (R : Ring K) (a b : K) where
   pub term-last : (n : ℕ) → binomialTerm n n ≡ power R a n
   unfolding binomialTerm
   term-last n = rw (choose-self, sub-self, power-zero R b, mul-one) (multiple-one R (power R a n))
+
+  module _ (n : ℕ) where
+    abbrev whole : K
+    whole = sum R (suc n) (binomialTerm n)
+
+    abbrev shifted : K
+    shifted = sum R (suc n) (λ k. binomialTerm n (suc k) ⊗ b)
+
+    sum-pascal : sum R (suc n) (λ k. binomialTerm (suc n) (suc k)) ≡ whole ⊗ a ⊕ shifted
+    sum-pascal =
+        sum-ext R (suc n) (λ k _. term-pascal n k)
+        ∙ sum-add R (suc n) (λ k. binomialTerm n k ⊗ a) (λ k. binomialTerm n (suc k) ⊗ b)
+        ∙ ap (λ x. x ⊕ shifted) (sum-scale-right R (suc n) (binomialTerm n) a)
+
+    sum-unshifted : binomialTerm n 0 ⊗ b ⊕ shifted ≡ whole ⊗ b
+    sum-unshifted =
+        sym (sum-first R (suc n) (λ k. binomialTerm n k ⊗ b))
+        ∙ sum-scale-right R (suc (suc n)) (binomialTerm n) b
+        ∙ ap (λ x. x ⊗ b) (sum-shorten R (le-suc (suc n)) (term-above n))
+
+    sum-step : sum R (suc (suc n)) (binomialTerm (suc n)) ≡ whole ⊗ (a ⊕ b)
+    sum-step =
+        sum-first R (suc n) (binomialTerm (suc n))
+        ∙ ap₂ _⊕_ (rw (term-first, term-first) (power-suc R b n)) sum-pascal
+        ∙ add-left-comm R (binomialTerm n 0 ⊗ b) (whole ⊗ a) shifted
+        ∙ ap (λ x. whole ⊗ a ⊕ x) sum-unshifted
+        ∙ sym (mul-add whole a b)
+
+  pub binomial : (n : ℕ) → power R (a ⊕ b) n ≡ sum R (suc n) (binomialTerm n)
+  binomial zero = power-zero R (a ⊕ b) ∙ sym (sum-one R (binomialTerm 0) ∙ term-first 0 ∙ power-zero R b)
+  binomial (suc n) = power-suc R (a ⊕ b) n ∙ ap (λ x. x ⊗ (a ⊕ b)) (binomial n) ∙ sym (sum-step n)
