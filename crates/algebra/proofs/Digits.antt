@@ -142,7 +142,8 @@ module _ {S : Type 0} {Zero : S → Type 0} {act : ℕ → S → S} (acts : Acts
       digits-last (suc l) {s} h z =
           let d = digit-largest (pred p) (p ^ l) h in
           let y = digit-rest p l d z in
-          last-after _ (last-cut l y (digits-last l (cut-nonzero l y (d .nonzero)) (keeps l (p ^ l) _ y .1 y)))
+          let rest = digits-last l (cut-nonzero l y (d .nonzero)) (keeps l (p ^ l) _ y .1 y) in
+          last-after _ (last-cut l y rest)
 
       pub exponent-least : (w : ℕ) (s : S) → Zero (act (p ^ w) s)
           → Least (λ r. Zero (act r s)) (exponent decided act cut p w s)

@@ -1,7 +1,7 @@
 -- Ideals of a commutative ring, divisibility and coprime elements.
 --
 --   Ideal R I       == the property I of ring elements holds of 0, of sums and of multiples of what has it
---   Divides R a h   == a divides h, with its quotient: h = quotient·a; every a divides 0, and 0 divides 0 alone
+--   Divides R a h   == a divides h, with its quotient: h = quotient·a; all divide 0, and 0 divides 0 alone
 --   Coprime R a b   == left·a + right·b = 1 for the two elements given; 0 and 1 are coprime
 --   Atom R f        == for every h, f divides h or is coprime to h, with which of the two; every unit is one
 --   Generator R I g == g is in I and divides all of I
@@ -147,7 +147,7 @@ module _ {K : Type 0} (R : Ring K) where
         ∙ q .bezout;
   }
 
-  coprime-power-right : {a b : K} → Coprime a b → (n : ℕ) → Coprime a (power R b n)
+  pub coprime-power-right : {a b : K} → Coprime a b → (n : ℕ) → Coprime a (power R b n)
   coprime-power-right {a} p zero = rw power-zero (coprime-one a)
   coprime-power-right p (suc n) = rw power-suc (coprime-mul (coprime-power-right p n) p)
 

@@ -8,6 +8,7 @@ pub mod Power
 pub mod Characteristic
 pub mod PrimeField
 pub mod Ideal
+pub mod PowerProduct
 pub mod Series
 pub mod Polynomial
 pub mod Monic
