@@ -16,8 +16,9 @@
 --                      most p − 1 tries on what the digits before it left, cut at their levels; 0 at level 0
 --   exponent cut p w s
 --                   == 0 for a state that is Zero, else one more than the digits from level w
---   exponent-least  == if p^w actions make s Zero, `exponent cut p w s` is the least number that do
---   upward-acts     == adding to a number is such an action for every upwards closed property of numbers
+--   exponent-least  == if at most p^w actions make s Zero, `exponent cut p w s` is the least number that do
+--   Upward P        == a property of numbers that passes on to all larger ones: adding acts (upward-acts)
+--   least-by-digits == the least number with a decided upward property, by its digits
 --
 -- Assumes nothing.
 use Prim.Native.Nat.{ℕ, zero, suc, pred, _+_, _-_, _*_, _^_, _≤_, _<_}
@@ -27,6 +28,7 @@ use native.Mathlib.Nat.{
   add-comm,
   add-assoc,
   add-zero,
+  zero-add,
   zero-mul,
   one-mul,
   suc-mul,
@@ -56,8 +58,8 @@ module _ {S : Type 0} (Zero : S → Type 0) (act : ℕ → S → S) where
     pub nonzero : ¬ Zero (act (i * t) s)
     pub zeroed : i < c → Zero (act (suc i * t) s)
 
-  abbrev pub Keeps : ℕ → (ℕ → S → S) → Type 0
-  Keeps p cut = (l i : ℕ) (s : S) → Zero (act (p ^ l) s) → Zero (act i (cut l s)) ↔ Zero (act i s)
+  pub record Keeps (p : ℕ) (cut : ℕ → S → S) : Type 0 where
+    pub kept : (l i : ℕ) (s : S) → Zero (act (p ^ l) s) → Zero (act i (cut l s)) ↔ Zero (act i s)
 
 module _ {S : Type 0} {Zero : S → Type 0} (decided : (s : S) → Dec (Zero s)) (act : ℕ → S → S) where
   unfoldable pub digit : (c t : ℕ) → S → ℕ
@@ -125,15 +127,17 @@ module _ {S : Type 0} {Zero : S → Type 0} {act : ℕ → S → S} (acts : Acts
         ]
 
     module _ (cut : ℕ → S → S) (p : ℕ) (keeps : Keeps Zero act p cut) where
+      open Keeps keeps using (kept)
+
       last-cut : (l : ℕ) {s : S} {n : ℕ} → Zero (act (p ^ l) s)
           → Last Zero act (cut l s) n → Last Zero act s n
       last-cut l {s} {n} z e = record {
-        nonzero = λ y. e .nonzero (keeps l n s z .1 y);
-        zeroed = keeps l (suc n) s z .0 (e .zeroed);
+        nonzero = λ y. e .nonzero (kept l n s z .1 y);
+        zeroed = kept l (suc n) s z .0 (e .zeroed);
       }
 
       cut-nonzero : (l : ℕ) {s : S} → Zero (act (p ^ l) s) → ¬ Zero s → ¬ Zero (cut l s)
-      cut-nonzero l {s} z h y = h (rw act-zero at (keeps l 0 s z .0 (zero-act 0 (cut l s) y)))
+      cut-nonzero l {s} z h y = h (rw act-zero at (kept l 0 s z .0 (zero-act 0 (cut l s) y)))
 
       pub digits-last : (l : ℕ) {s : S} → ¬ Zero s → Zero (act (p ^ l) s)
           → Last Zero act s (digits decided act cut p l s)
@@ -142,22 +146,34 @@ module _ {S : Type 0} {Zero : S → Type 0} {act : ℕ → S → S} (acts : Acts
       digits-last (suc l) {s} h z =
           let d = digit-largest (pred p) (p ^ l) h in
           let y = digit-rest p l d z in
-          let rest = digits-last l (cut-nonzero l y (d .nonzero)) (keeps l (p ^ l) _ y .1 y) in
+          let rest = digits-last l (cut-nonzero l y (d .nonzero)) (kept l (p ^ l) _ y .1 y) in
           last-after _ (last-cut l y rest)
 
-      pub exponent-least : (w : ℕ) (s : S) → Zero (act (p ^ w) s)
+      pub exponent-least : (w v : ℕ) (s : S) → v ≤ p ^ w → Zero (act v s)
           → Least (λ r. Zero (act r s)) (exponent decided act cut p w s)
       unfolding exponent
-      exponent-least w s z = elim (decided s)
+      exponent-least w v s l z = elim (decided s)
           as (λ (x : Dec (Zero s)).
           Least (λ r. Zero (act r s)) (elim x [ yes _ ↦ 0 | no _ ↦ suc (digits decided act cut p w s) ])) [
             | yes y ↦ record { holds = zero-act 0 s y; least = λ m l _. omega arith }
-            | no n ↦ last-least (digits-last w n z)
+            | no n ↦ last-least (digits-last w n (zero-from l z))
           ]
 
-pub upward-acts : {P : ℕ → Type 0} → ((i j : ℕ) → i ≤ j → P i → P j) → Acts P (λ i n. n + i)
+pub keeps-whole : {S : Type 0} {Zero : S → Type 0} {act : ℕ → S → S} (p : ℕ) → Keeps Zero act p (λ l s. s)
+keeps-whole p = record { kept = λ l i s z. (λ y. y, λ y. y) }
+
+abbrev pub Upward : (ℕ → Type 0) → Type 0
+Upward P = (i j : ℕ) → i ≤ j → P i → P j
+
+pub upward-acts : {P : ℕ → Type 0} → Upward P → Acts P (λ i n. n + i)
 upward-acts up = record {
   act-zero = add-zero;
   act-add = λ i j n. rw (add-comm i j) (sym (add-assoc n j i));
   zero-act = λ i n. up n (n + i) (le-add-right n i);
 }
+
+pub least-by-digits : {P : ℕ → Type 0} (decided : (n : ℕ) → Dec (P n)) → Upward P
+    → (p w v : ℕ) → v ≤ p ^ w → P v → Least P (exponent decided (λ i n. n + i) (λ l n. n) p w 0)
+least-by-digits decided up p w v l h =
+    simp zero-add at
+    (exponent-least (upward-acts up) decided (λ l n. n) p (keeps-whole p) w v 0 l (simp zero-add h))
