@@ -4,9 +4,9 @@
 --   product R f g           == the product of two series, by recursion on the place:
 --                              f · g = f 0 · g + x · (tail f · g)
 --   series R                == the ring of power series: functions ℕ → K with plain equality
---   constant R a            == the series a + 0·x + 0·x² + …
---   scale R a f             == the series f with each coefficient multiplied by a
---   shift R f               == x · f: 0# at place 0, and f one place up
+--   constant-series R a     == the series a + 0·x + 0·x² + …
+--   scale-series R a f      == the series f with each coefficient multiplied by a
+--   shift-series R f        == x · f: 0# at place 0, and f one place up
 --   x-series R              == the series x
 --   coefficient-list R xs   == the series of a list: its elements, constant first, then 0# for ever; [] is 0
 --   list-plus, list-scale, list-neg, list-times
@@ -107,12 +107,12 @@ module _ {K : Type 0} (R : Ring K) where
   zero-product g zero = zero-mul R (g 0)
   zero-product g (suc n) = ap₂ _⊕_ (zero-mul R (g (suc n))) (zero-product g n) ∙ add-zero 0#
 
-  unfoldable pub constant : K → ℕ → K
-  constant a zero = a
-  constant a (suc n) = 0#
+  unfoldable pub constant-series : K → ℕ → K
+  constant-series a zero = a
+  constant-series a (suc n) = 0#
 
-  constant-product : (a : K) (g : ℕ → K) (n : ℕ) → product (constant a) g n ≡ a ⊗ g n
-  unfolding product constant
+  constant-product : (a : K) (g : ℕ → K) (n : ℕ) → product (constant-series a) g n ≡ a ⊗ g n
+  unfolding product constant-series
   constant-product a g zero = refl
   constant-product a g (suc n) = ap (_⊕_ (a ⊗ g (suc n))) (zero-product g n) ∙ add-zero (a ⊗ g (suc n))
 
@@ -121,7 +121,7 @@ module _ {K : Type 0} (R : Ring K) where
       record {
         isSet = →-set isSet;
         0# = λ _. 0#;
-        1# = constant 1#;
+        1# = constant-series 1#;
         _⊕_ = λ f g n. f n ⊕ g n;
         _⊗_ = product;
         ⊖_ = λ f n. ⊖ f n;
@@ -132,7 +132,7 @@ module _ {K : Type 0} (R : Ring K) where
         mul-assoc = λ f g h. fun-ext (product-assoc f g h);
         mul-comm = λ f g. fun-ext (product-comm f g);
         mul-one =
-            λ f. fun-ext (λ n. product-comm f (constant 1#) n ∙ constant-product 1# f n ∙ one-mul R (f n));
+            λ f. fun-ext (λ n. product-comm f (constant-series 1#) n ∙ constant-product 1# f n ∙ one-mul R (f n));
         mul-add = λ f g h. fun-ext (product-add f g h);
       }
 
@@ -149,7 +149,7 @@ module _ {K : Type 0} (R : Ring K) where
   unfolding series
   series-zero n = refl
 
-  pub series-one : 1ˢ ≡ constant R 1#
+  pub series-one : 1ˢ ≡ constant-series R 1#
   unfolding series
   series-one = refl
 
@@ -191,91 +191,91 @@ module _ {K : Type 0} (R : Ring K) where
       ∙ sym (sum-first R (suc n) (λ i. f i ⊗ g (suc n - i)))
 
   -- Constants and scaling.
-  pub constant-zero : (a : K) → constant R a 0 ≡ a
-  unfolding constant
+  pub constant-zero : (a : K) → constant-series R a 0 ≡ a
+  unfolding constant-series
   constant-zero a = refl
 
-  pub constant-suc : (a : K) (n : ℕ) → constant R a (suc n) ≡ 0#
-  unfolding constant
+  pub constant-suc : (a : K) (n : ℕ) → constant-series R a (suc n) ≡ 0#
+  unfolding constant-series
   constant-suc a n = refl
 
-  unfoldable pub scale : K → (ℕ → K) → ℕ → K
-  scale a f n = a ⊗ f n
+  unfoldable pub scale-series : K → (ℕ → K) → ℕ → K
+  scale-series a f n = a ⊗ f n
 
-  pub constant-mul : (a : K) (f : ℕ → K) → constant R a ⊠ f ≡ scale a f
-  unfolding series scale
+  pub constant-mul : (a : K) (f : ℕ → K) → constant-series R a ⊠ f ≡ scale-series a f
+  unfolding series scale-series
   constant-mul a f = fun-ext (constant-product R a f)
 
-  pub constant-hom : Hom R (series R) (constant R)
+  pub constant-hom : Hom R (series R) (constant-series R)
   constant-hom = hom (sym series-one) add mul
     where
-      add : (a b : K) → constant R (a ⊕ b) ≡ constant R a ⊞ constant R b
+      add : (a b : K) → constant-series R (a ⊕ b) ≡ constant-series R a ⊞ constant-series R b
       add a b = fun-ext (elim [ zero ↦ at-zero | suc n ↦ at-suc n ])
         where
-          at-zero : constant R (a ⊕ b) 0 ≡ (constant R a ⊞ constant R b) 0
-          at-zero = unfold constant series in refl
+          at-zero : constant-series R (a ⊕ b) 0 ≡ (constant-series R a ⊞ constant-series R b) 0
+          at-zero = unfold constant-series series in refl
 
-          at-suc : (n : ℕ) → constant R (a ⊕ b) (suc n) ≡ (constant R a ⊞ constant R b) (suc n)
-          at-suc n = unfold constant series in sym (add-zero 0#)
+          at-suc : (n : ℕ) → constant-series R (a ⊕ b) (suc n) ≡ (constant-series R a ⊞ constant-series R b) (suc n)
+          at-suc n = unfold constant-series series in sym (add-zero 0#)
 
-      mul : (a b : K) → constant R (a ⊗ b) ≡ constant R a ⊠ constant R b
-      mul a b = fun-ext (elim [ zero ↦ at-zero | suc n ↦ at-suc n ]) ∙ sym (constant-mul a (constant R b))
+      mul : (a b : K) → constant-series R (a ⊗ b) ≡ constant-series R a ⊠ constant-series R b
+      mul a b = fun-ext (elim [ zero ↦ at-zero | suc n ↦ at-suc n ]) ∙ sym (constant-mul a (constant-series R b))
         where
-          at-zero : constant R (a ⊗ b) 0 ≡ scale a (constant R b) 0
-          at-zero = unfold constant scale in refl
+          at-zero : constant-series R (a ⊗ b) 0 ≡ scale-series a (constant-series R b) 0
+          at-zero = unfold constant-series scale-series in refl
 
-          at-suc : (n : ℕ) → constant R (a ⊗ b) (suc n) ≡ scale a (constant R b) (suc n)
-          at-suc n = unfold constant scale in sym (mul-zero R a)
+          at-suc : (n : ℕ) → constant-series R (a ⊗ b) (suc n) ≡ scale-series a (constant-series R b) (suc n)
+          at-suc n = unfold constant-series scale-series in sym (mul-zero R a)
 
   -- The shift by x.
-  unfoldable pub shift : (ℕ → K) → ℕ → K
-  shift f zero = 0#
-  shift f (suc n) = f n
+  unfoldable pub shift-series : (ℕ → K) → ℕ → K
+  shift-series f zero = 0#
+  shift-series f (suc n) = f n
 
   unfoldable pub x-series : ℕ → K
-  x-series = shift (constant R 1#)
+  x-series = shift-series (constant-series R 1#)
 
-  pub shift-zero : (f : ℕ → K) → shift f 0 ≡ 0#
-  unfolding shift
+  pub shift-zero : (f : ℕ → K) → shift-series f 0 ≡ 0#
+  unfolding shift-series
   shift-zero f = refl
 
-  pub shift-suc : (f : ℕ → K) (n : ℕ) → shift f (suc n) ≡ f n
-  unfolding shift
+  pub shift-suc : (f : ℕ → K) (n : ℕ) → shift-series f (suc n) ≡ f n
+  unfolding shift-series
   shift-suc f n = refl
 
-  shift-product : (f g : ℕ → K) (n : ℕ) → product R (shift f) g n ≡ shift (product R f g) n
-  unfolding shift product
+  shift-product : (f g : ℕ → K) (n : ℕ) → product R (shift-series f) g n ≡ shift-series (product R f g) n
+  unfolding shift-series product
   shift-product f g zero = zero-mul R (g 0)
   shift-product f g (suc n) =
       ap (λ z. z ⊕ product R f g n) (zero-mul R (g (suc n))) ∙ zero-add R (product R f g n)
 
-  pub shift-mul : (f g : ℕ → K) → shift f ⊠ g ≡ shift (f ⊠ g)
+  pub shift-mul : (f g : ℕ → K) → shift-series f ⊠ g ≡ shift-series (f ⊠ g)
   unfolding series
   shift-mul f g = fun-ext (shift-product f g)
 
-  pub x-mul : (f : ℕ → K) → x-series ⊠ f ≡ shift f
+  pub x-mul : (f : ℕ → K) → x-series ⊠ f ≡ shift-series f
   unfolding x-series
   x-mul f =
-      shift-mul (constant R 1#) f
-      ∙ ap (λ u. shift (u ⊠ f)) (sym series-one)
-      ∙ ap shift (one-mul (series R) f)
+      shift-mul (constant-series R 1#) f
+      ∙ ap (λ u. shift-series (u ⊠ f)) (sym series-one)
+      ∙ ap shift-series (one-mul (series R) f)
 
   -- Each series is its constant term and x times its tail.
-  pub series-split : (f : ℕ → K) → f ≡ constant R (f 0) ⊞ shift (tail f)
+  pub series-split : (f : ℕ → K) → f ≡ constant-series R (f 0) ⊞ shift-series (tail f)
   series-split f = fun-ext (elim [ zero ↦ at-zero | suc n ↦ at-suc n ])
     where
-      at-zero : f 0 ≡ (constant R (f 0) ⊞ shift (tail f)) 0
-      at-zero = unfold constant shift series in sym (add-zero (f 0))
+      at-zero : f 0 ≡ (constant-series R (f 0) ⊞ shift-series (tail f)) 0
+      at-zero = unfold constant-series shift-series series in sym (add-zero (f 0))
 
-      at-suc : (n : ℕ) → f (suc n) ≡ (constant R (f 0) ⊞ shift (tail f)) (suc n)
-      at-suc n = unfold constant shift series in sym (zero-add R (f (suc n)))
+      at-suc : (n : ℕ) → f (suc n) ≡ (constant-series R (f 0) ⊞ shift-series (tail f)) (suc n)
+      at-suc n = unfold constant-series shift-series series in sym (zero-add R (f (suc n)))
 
   -- Coefficients of x^k · f.
   pub x-power-mul-zero : (f : ℕ → K) → power (series R) x-series 0 ⊠ f ≡ f
   x-power-mul-zero f = ap (λ u. u ⊠ f) (power-zero (series R) x-series) ∙ one-mul (series R) f
 
   pub x-power-mul-suc :
-      (k : ℕ) (f : ℕ → K) → power (series R) x-series (suc k) ⊠ f ≡ shift (power (series R) x-series k ⊠ f)
+      (k : ℕ) (f : ℕ → K) → power (series R) x-series (suc k) ⊠ f ≡ shift-series (power (series R) x-series k ⊠ f)
   x-power-mul-suc k f =
       ap (λ u. u ⊠ f) (power-suc-left (series R) x-series k)
       ∙ series R .mul-assoc x-series (power (series R) x-series k) f
@@ -360,8 +360,8 @@ module _ {K : Type 0} (R : Ring K) where
   list-plus-series xs ys = fun-ext (list-plus-at xs ys)
 
   pub list-scale-series :
-      (a : K) (xs : List K) → coefficient-list (list-scale a xs) ≡ scale a (coefficient-list xs)
-  unfolding scale
+      (a : K) (xs : List K) → coefficient-list (list-scale a xs) ≡ scale-series a (coefficient-list xs)
+  unfolding scale-series
   list-scale-series a xs = fun-ext (list-scale-at a xs)
 
   pub list-neg-series : (xs : List K) → coefficient-list (list-neg xs) ≡ ⊟ coefficient-list xs
@@ -375,8 +375,8 @@ module _ {K : Type 0} (R : Ring K) where
 
   -- A list by its head: an element and x times the rest.
   pub list-cons-series :
-      (a : K) (xs : List K) → coefficient-list (a ∷ xs) ≡ constant R a ⊞ shift (coefficient-list xs)
+      (a : K) (xs : List K) → coefficient-list (a ∷ xs) ≡ constant-series R a ⊞ shift-series (coefficient-list xs)
   list-cons-series a xs = series-split (coefficient-list (a ∷ xs))
 
-  pub list-constant-series : (a : K) → coefficient-list (a ∷ []) ≡ constant R a
+  pub list-constant-series : (a : K) → coefficient-list (a ∷ []) ≡ constant-series R a
   list-constant-series a = fun-ext (elim [ zero ↦ sym (constant-zero a) | suc n ↦ sym (constant-suc a n) ])
