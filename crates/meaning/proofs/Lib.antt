@@ -1,0 +1,4 @@
+pub mod Computed
+pub mod Tables
+pub mod ZeroPeriod
+pub mod MarkedRows

@@ -1,0 +1,89 @@
+-- The conditions 6 to 16 of the numbered list of refusals. (1 to 5 are in Route, 17 is in each way that meets it.)
+-- Each is a test on numbers and lists of any size. A pair is a factor with its upper power.
+--
+--   named factors uppers == each factor with its upper power, in order; 0 for a factor without one; further upper
+--                           powers belong to no factor
+--   totalDegree l        == the sum of upper power × degree (D in paper 01)
+use Prim.Native.Nat.{ℕ, zero, suc, _+_, _*_, _-_, _^_, _/_}
+use mathlib.Core.Bool.{Bool, true, false, not, _||_}
+use mathlib.Core.List.{List, [], _∷_, map}
+use lib.ListN.{length}
+use lib.Dec.{leb, ltb, eqb}
+use Rattle.meaning.specs.Search.{holdsForSome}
+use Rattle.meaning.specs.Field.{Field, primeInRange, areElements}
+use Rattle.meaning.specs.Polynomial.{Polynomial, degree, isMonic, same, irreducible}
+
+unfoldable pub named : List Polynomial → List ℕ → List (Polynomial × ℕ)
+named [] us = []
+named (f ∷ fs) [] = (f, 0) ∷ named fs []
+named (f ∷ fs) (u ∷ us) = (f, u) ∷ named fs us
+
+unfoldable pub totalDegree : List (Polynomial × ℕ) → ℕ
+totalDegree [] = 0
+totalDegree (f ∷ l) = f .1 * degree (f .0) + totalDegree l
+
+-- 6
+unfoldable pub notPrime : ℕ → Bool
+notPrime p = not (primeInRange p)
+
+-- 7, of the number of terms or of places to fill
+unfoldable pub countOutOfRange : ℕ → Bool
+countOutOfRange n = eqb n 0 || ltb 4096 n
+
+-- 7, for a continuation: of the buffer's length and the place named
+unfoldable pub placeOutOfRange : ℕ → ℕ → Bool
+placeOutOfRange size place = ltb size place || countOutOfRange (size - place)
+
+-- 8
+unfoldable pub termOutOfField : Field → List ℕ → Bool
+termOutOfField F ts = not (areElements F ts)
+
+-- 9
+unfoldable pub factorCountOutOfRange : ℕ → Bool
+factorCountOutOfRange n = eqb n 0 || ltb 8 n
+
+-- 10, of a degree
+unfoldable pub degreeOutOfRange : Field → ℕ → Bool
+degreeOutOfRange F d = elim (eqb d 0 || ltb 32 d) [ true ↦ true | false ↦ ltb 65536 (F .size ^ (d / 2)) ]
+
+-- 10, of a list, whose degree is one less than its length; an empty list passes
+unfoldable pub factorDegreeOutOfRange : Field → Polynomial → Bool
+factorDegreeOutOfRange F [] = false
+factorDegreeOutOfRange F (c ∷ f) = degreeOutOfRange F (degree (c ∷ f))
+
+-- 10, for a continuation
+unfoldable pub continuationDegreeOutOfRange : Polynomial → Bool
+continuationDegreeOutOfRange g = ltb 4096 (degree g)
+
+-- 11, of a list; the empty list has no leading coefficient
+unfoldable pub notMonic : Field → Polynomial → Bool
+notMonic F f = not (areElements F f) || not (isMonic f)
+
+-- 12
+unfoldable pub isReducible : Field → Polynomial → Bool
+isReducible F f = not (irreducible F f)
+
+-- 13
+unfoldable pub twoEqual : List Polynomial → Bool
+twoEqual [] = false
+twoEqual (f ∷ l) = elim (holdsForSome (same f) l) [ true ↦ true | false ↦ twoEqual l ]
+
+-- 14
+unfoldable pub upperPowersOutOfRange : List (Polynomial × ℕ) → Bool
+upperPowersOutOfRange l = holdsForSome (λ f. eqb (f .1) 0) l || ltb 4096 (totalDegree l)
+
+-- 15
+unfoldable pub fewerTermsThan : ℕ → List ℕ → Bool
+fewerTermsThan d ts = ltb (length ts) d
+
+-- 15, for a continuation
+unfoldable pub startUnlikeDegree : Polynomial → List ℕ → Bool
+startUnlikeDegree g start = not (eqb (length start) (degree g))
+
+-- 16, of the lengths of the lent answer and the lent work bytes
+unfoldable pub lentTooShort : ℕ → ℕ → Bool
+lentTooShort answer work = ltb answer 4097 || ltb work 8192
+
+-- lent bytes are accepted when 16 does not turn them down
+unfoldable pub acceptedLent : ℕ → ℕ → Bool
+acceptedLent answer work = not (lentTooShort answer work)

@@ -1,0 +1,110 @@
+-- The rating of a route file: what the file holds, handed to the way that its mode names.
+--
+--   FileFactor          == a factor as a file writes it: degree, upper power and 32 coefficients
+--   fileFactor body     == the factor of a body of 35 bytes
+--   polynomialOf f      == its polynomial: the coefficients below its degree, and then the leading 1, which is implied
+--   fileNotMonic F f    == refusal 11 of a file's factor: a coefficient below the degree is no element of the field, or
+--                          one from the degree on is not 0
+--   termsOf rs          == the terms of the records of kinds 5 and 6, in order
+--   Label               == what is printed after the density: the powers in factor order, or whether one polynomial fits
+--   FileFigures         == the degree (complexity), the number of terms given, and the label
+--   rateRecords pick rs answer work == the answer of the mode's way on what the records hold
+--   rateFile pick file answer work  == the answer for a file: the refusals 1 to 5, then those of its mode
+use Prim.Native.Nat.{ℕ}
+use mathlib.Core.Bool.{Bool, true, false, not, _||_}
+use mathlib.Core.List.{List, [], _∷_, _++_, map}
+use mathlib.Core.Option.{none, some}
+use lib.ListN.{length, getD, take, drop}
+use lib.Dec.{eqb}
+use Rattle.meaning.specs.Search.{holdsForAll, holdsForSome}
+use Rattle.meaning.specs.Field.{Field, prime, areElements}
+use Rattle.meaning.specs.Polynomial.{Polynomial}
+use Rattle.meaning.specs.Result.{Result, refused, answered, Rated}
+use Rattle.meaning.specs.Conditions.{degreeOutOfRange}
+use Rattle.meaning.specs.Power.{PowerFigures}
+use Rattle.meaning.specs.Period.{periodAnswer}
+use Rattle.meaning.specs.Portion.{SetFigures, setAnswer}
+use Rattle.meaning.specs.Free.{Choice, FreeFigures, rateFree}
+use Rattle.meaning.specs.Route.{RouteRecord, Mode, periodMode, setMode, freeMode, modeOf, bodies, byteOf, factorUpper, records}
+
+pub record FileFactor : Type 0 where
+  pub degree : ℕ
+  pub upper : ℕ
+  pub coefficients : List ℕ
+
+unfoldable pub fileFactor : List ℕ → FileFactor
+fileFactor body = record { degree = getD body 0 0; upper = factorUpper body; coefficients = drop 3 body }
+
+unfoldable pub polynomialOf : FileFactor → Polynomial
+polynomialOf f = take (f .degree) (f .coefficients) ++ (1 ∷ [])
+
+unfoldable pub fileDegreeOutOfRange : Field → FileFactor → Bool
+fileDegreeOutOfRange F f = degreeOutOfRange F (f .degree)
+
+unfoldable pub fileNotMonic : Field → FileFactor → Bool
+fileNotMonic F f =
+    not (areElements F (take (f .degree) (f .coefficients)))
+    || not (holdsForAll (λ c. eqb c 0) (drop (f .degree) (f .coefficients)))
+
+unfoldable pub termsOf : List RouteRecord → List ℕ
+termsOf [] = []
+termsOf (r ∷ rs) = elim (eqb (r .kind) 5 || eqb (r .kind) 6) [ true ↦ r .body ++ termsOf rs | false ↦ termsOf rs ]
+
+pub data Label : Type 0 where
+  powers : List ℕ → Label
+  unique : Label
+  several : Label
+
+pub record FileFigures : Type 0 where
+  pub degree : ℕ
+  pub terms : ℕ
+  pub label : Label
+
+unfoldable pub rated : ℕ → ℕ → Label → Polynomial → Rated FileFigures
+rated d m l g = record { figures = record { degree = d; terms = m; label = l }; polynomial = g }
+
+unfoldable pub ofPeriod : ℕ → Result (Rated PowerFigures) → Result (Rated FileFigures)
+ofPeriod m (refused n) = refused n
+ofPeriod m (answered a) =
+    answered (rated (a .figures .degree) m (powers (a .figures .power ∷ [])) (a .polynomial))
+
+unfoldable pub ofSet : ℕ → Result (Rated SetFigures) → Result (Rated FileFigures)
+ofSet m (refused n) = refused n
+ofSet m (answered a) = answered (rated (a .figures .degree) m (powers (a .figures .powers)) (a .polynomial))
+
+unfoldable pub ofFree : ℕ → Result (Rated FreeFigures) → Result (Rated FileFigures)
+ofFree m (refused n) = refused n
+ofFree m (answered a) =
+    answered (rated (a .figures .degree) m (elim (a .figures .unique) [ true ↦ unique | false ↦ several ]) (a .polynomial))
+
+unfoldable pub rateMode : Choice → Mode → ℕ → List FileFactor → List ℕ → ℕ → ℕ → Result (Rated FileFigures)
+rateMode pick periodMode p fs ts answer work =
+    ofPeriod (length ts)
+    (periodAnswer p
+    (holdsForSome (fileDegreeOutOfRange (prime p)) fs)
+    (holdsForSome (fileNotMonic (prime p)) fs)
+    (getD (map polynomialOf fs) 0 [])
+    ts
+    answer
+    work)
+rateMode pick setMode p fs ts answer work =
+    ofSet (length ts)
+    (setAnswer p
+    (holdsForSome (fileDegreeOutOfRange (prime p)) fs)
+    (holdsForSome (fileNotMonic (prime p)) fs)
+    (map (λ f. (polynomialOf f, f .upper)) fs)
+    ts
+    answer
+    work)
+rateMode pick freeMode p fs ts answer work = ofFree (length ts) (rateFree pick p ts answer work)
+
+unfoldable pub rateRecords : Choice → List RouteRecord → ℕ → ℕ → Result (Rated FileFigures)
+rateRecords pick rs answer work =
+    elim (modeOf (byteOf 3 rs)) [
+      | none ↦ refused 5
+      | some m ↦ rateMode pick m (byteOf 2 rs) (map fileFactor (bodies 4 rs)) (termsOf rs) answer work
+    ]
+
+unfoldable pub rateFile : Choice → List ℕ → ℕ → ℕ → Result (Rated FileFigures)
+rateFile pick file answer work =
+    elim (records file) [ refused n ↦ refused n | answered rs ↦ rateRecords pick rs answer work ]

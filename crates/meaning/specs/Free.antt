@@ -1,0 +1,70 @@
+-- The free way: the shortest recurrence of a portion alone, with no factor named.
+--
+--   fitsDegree F ts e  == some monic polynomial of degree e annihilates the known terms, by trying all of them
+--   leastDegree F ts   == the least such degree, at most the number of terms (a polynomial of that degree has no places
+--                         and fits). In words: LeastDegree F ts e
+--   Fits F ts e g      == g is monic over F, of degree e, and annihilates the known terms
+--   LeastDegree F ts e == some polynomial fits with degree e, and none with a smaller one
+--   FreeFigures        == the degree, and whether only one polynomial fits: `one` where twice the degree is at most the
+--                         number of terms, else `some`
+--   Choice             == how the program picks the polynomial: from p and the terms alone
+--   rateFree pick p ts answer work == the answer of the free way; the polynomial is the program's choice
+--   ChosenFits pick p ts == what holds of that choice wherever the call accepts p and the terms
+use Prim.Native.Nat.{ℕ, _*_, _≤_}
+use mathlib.Core.Path.{_≡_}
+use mathlib.Core.Bool.{Bool}
+use mathlib.Core.List.{List, [], _∷_}
+use mathlib.Core.Option.{Option}
+use lib.ListN.{length}
+use lib.Dec.{leb, T}
+use Rattle.meaning.specs.Search.{least, mapOption, holdsForSome}
+use Rattle.meaning.specs.Field.{Field, prime}
+use Rattle.meaning.specs.Polynomial.{Polynomial, degree, isMonicOver, monics}
+use Rattle.meaning.specs.Sequence.{annihilatesKnown}
+use Rattle.meaning.specs.Result.{Result, answered, Check, settle, Rated, figuresOf}
+use Rattle.meaning.specs.Conditions.{notPrime, countOutOfRange, termOutOfField, lentTooShort}
+
+unfoldable pub fitsDegree : Field → List ℕ → ℕ → Bool
+fitsDegree F ts e = holdsForSome (λ g. annihilatesKnown F g ts) (monics F e)
+
+unfoldable pub leastDegree : Field → List ℕ → Option ℕ
+leastDegree F ts = least (length ts) (fitsDegree F ts)
+
+pub record Fits (F : Field) (ts : List ℕ) (e : ℕ) (g : Polynomial) : Type 0 where
+  pub monic : T (isMonicOver F g)
+  pub ofDegree : degree g ≡ e
+  pub annihilates : T (annihilatesKnown F g ts)
+
+pub record LeastDegree (F : Field) (ts : List ℕ) (e : ℕ) : Type 0 where
+  pub fitting : Polynomial
+  pub fits : Fits F ts e fitting
+  pub smallest : (d : ℕ) (g : Polynomial) → d ≤ length ts → Fits F ts d g → e ≤ d
+
+pub record FreeFigures : Type 0 where
+  pub degree : ℕ
+  pub unique : Bool
+
+abbrev pub Choice : Type 0
+Choice = ℕ → List ℕ → Polynomial
+
+unfoldable pub freeRating : Choice → ℕ → List ℕ → ℕ → Rated FreeFigures
+freeRating pick p ts e =
+    record { figures = record { degree = e; unique = leb (2 * e) (length ts) }; polynomial = pick p ts }
+
+unfoldable pub freeTable : ℕ → List ℕ → ℕ → ℕ → List Check
+freeTable p ts answer work =
+    (6, λ _. notPrime p)
+    ∷ (7, λ _. countOutOfRange (length ts))
+    ∷ (8, λ _. termOutOfField (prime p) ts)
+    ∷ (16, λ _. lentTooShort answer work)
+    ∷ []
+
+unfoldable pub rateFree : Choice → ℕ → List ℕ → ℕ → ℕ → Result (Rated FreeFigures)
+rateFree pick p ts answer work =
+    settle (freeTable p ts answer work) (λ _. mapOption (freeRating pick p ts) (leastDegree (prime p) ts))
+
+abbrev pub ChosenFits : Choice → ℕ → List ℕ → Type 0
+ChosenFits pick p ts =
+    (answer work : ℕ) (a : FreeFigures)
+    → figuresOf (rateFree pick p ts answer work) ≡ answered a
+    → Fits (prime p) ts (a .degree) (pick p ts)

@@ -1,0 +1,16 @@
+pub mod Search
+pub mod Field
+pub mod Polynomial
+pub mod Sequence
+pub mod Result
+pub mod Conditions
+pub mod Power
+pub mod Period
+pub mod Portion
+pub mod Free
+pub mod Continuation
+pub mod Route
+pub mod File
+pub mod Print
+pub mod Answers
+pub mod Calls

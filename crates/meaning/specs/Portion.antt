@@ -1,0 +1,125 @@
+-- The set way and the portion way: the powers of named factors in the minimal polynomial of a continued portion.
+-- A pair is a factor with a power; D is the total degree of the pairs with their upper powers.
+--
+--   withPower i r l    == the pairs l with the power r in place i
+--   leastAt F l ts i   == for factor i the least r, at most its upper power, for which its r-th power times the others'
+--                         upper powers annihilates the first D terms
+--   setPowers F l ts   == these powers in the order of the factors. In words: SetMeaning F l ts powers
+--   onward F l ts      == the endless continuation of the first D terms by the product of the upper powers
+--   SetMeaning F l ts rs == the product of the factors to the powers rs is the minimal polynomial of that continuation
+--   PortionMeaning F f v ts r == r is the least power of f that annihilates that continuation, with one factor
+--   Agrees F l ts      == all the terms agree with the continuation of the first D of them
+--   setTable, portionTable == the refusals that the two ways meet, in order; `ten` and `eleven` as in Period
+--   factorTable, acceptedFactors p factors uppers == factors are accepted when 6 and 9 to 14 do not turn them down
+--   rateSet p factors uppers ts answer work, ratePortion p f v ts answer work == the answers of the two ways
+use Prim.Native.Nat.{ℕ, zero, suc}
+use mathlib.Core.Path.{_≡_}
+use mathlib.Core.Bool.{Bool, not}
+use mathlib.Core.List.{List, [], _∷_, map}
+use mathlib.Core.Option.{Option}
+use lib.ListN.{length, getD, take, set}
+use Rattle.meaning.specs.Search.{range, least, mapOption, bind, isNone, together, holdsForSome}
+use Rattle.meaning.specs.Field.{Field, prime}
+use Rattle.meaning.specs.Polynomial.{Polynomial, degree, product}
+use Rattle.meaning.specs.Sequence.{Sequence, annihilatesKnown, continuation, cut, MinimalPolynomial, LeastPower}
+use Rattle.meaning.specs.Result.{Result, Check, firstOf, settle, Rated}
+use Rattle.meaning.specs.Conditions.{named, totalDegree, notPrime, countOutOfRange, termOutOfField, factorCountOutOfRange, factorDegreeOutOfRange, notMonic, isReducible, twoEqual, upperPowersOutOfRange, fewerTermsThan, lentTooShort}
+use Rattle.meaning.specs.Power.{PowerFigures, powerRating}
+
+unfoldable pub factorsOf : List (Polynomial × ℕ) → List Polynomial
+factorsOf l = map (λ f. f .0) l
+
+unfoldable pub withPower : ℕ → ℕ → List (Polynomial × ℕ) → List (Polynomial × ℕ)
+withPower i r l = set l i ((getD l i ([], 0)) .0, r)
+
+unfoldable pub leastAt : Field → List (Polynomial × ℕ) → List ℕ → ℕ → Option ℕ
+leastAt F l ts i =
+    least ((getD l i ([], 0)) .1)
+    (λ r. annihilatesKnown F (product F (withPower i r l)) (take (totalDegree l) ts))
+
+unfoldable pub setPowers : Field → List (Polynomial × ℕ) → List ℕ → Option (List ℕ)
+setPowers F l ts = together (map (leastAt F l ts) (range 0 (length l)))
+
+unfoldable pub onward : Field → List (Polynomial × ℕ) → List ℕ → Sequence
+onward F l ts = continuation F (product F l) (take (totalDegree l) ts)
+
+abbrev pub SetMeaning : Field → List (Polynomial × ℕ) → List ℕ → List ℕ → Type 0
+SetMeaning F l ts rs = MinimalPolynomial F (product F (named (factorsOf l) rs)) (onward F l ts)
+
+abbrev pub PortionMeaning : Field → Polynomial → ℕ → List ℕ → ℕ → Type 0
+PortionMeaning F f v ts r = LeastPower F f (onward F ((f, v) ∷ []) ts) r
+
+abbrev pub Agrees : Field → List (Polynomial × ℕ) → List ℕ → Type 0
+Agrees F l ts = cut (onward F l ts) 0 (length ts) ≡ ts
+
+pub record SetFigures : Type 0 where
+  pub powers : List ℕ
+  pub degree : ℕ
+
+unfoldable pub setRating : Field → List (Polynomial × ℕ) → List ℕ → Rated SetFigures
+setRating F l rs =
+    record {
+      figures = record { powers = rs; degree = degree (product F (named (factorsOf l) rs)) };
+      polynomial = product F (named (factorsOf l) rs);
+    }
+
+unfoldable pub setTable : ℕ → Bool → Bool → List (Polynomial × ℕ) → List ℕ → ℕ → ℕ → List Check
+setTable p ten eleven l ts answer work =
+    (6, λ _. notPrime p)
+    ∷ (7, λ _. countOutOfRange (length ts))
+    ∷ (8, λ _. termOutOfField (prime p) ts)
+    ∷ (9, λ _. factorCountOutOfRange (length l))
+    ∷ (10, λ _. ten)
+    ∷ (11, λ _. eleven)
+    ∷ (12, λ _. holdsForSome (isReducible (prime p)) (factorsOf l))
+    ∷ (13, λ _. twoEqual (factorsOf l))
+    ∷ (14, λ _. upperPowersOutOfRange l)
+    ∷ (15, λ _. fewerTermsThan (totalDegree l) ts)
+    ∷ (16, λ _. lentTooShort answer work)
+    ∷ (17, λ _. not (annihilatesKnown (prime p) (product (prime p) l) ts))
+    ∷ []
+
+unfoldable pub setAnswer : ℕ → Bool → Bool → List (Polynomial × ℕ) → List ℕ → ℕ → ℕ → Result (Rated SetFigures)
+setAnswer p ten eleven l ts answer work =
+    settle (setTable p ten eleven l ts answer work) (λ _. mapOption (setRating (prime p) l) (setPowers (prime p) l ts))
+
+unfoldable pub rateSet : ℕ → List Polynomial → List ℕ → List ℕ → ℕ → ℕ → Result (Rated SetFigures)
+rateSet p factors uppers ts =
+    setAnswer p
+    (holdsForSome (factorDegreeOutOfRange (prime p)) factors)
+    (holdsForSome (notMonic (prime p)) factors)
+    (named factors uppers)
+    ts
+
+unfoldable pub factorTable : ℕ → List Polynomial → List ℕ → List Check
+factorTable p factors uppers =
+    (6, λ _. notPrime p)
+    ∷ (9, λ _. factorCountOutOfRange (length factors))
+    ∷ (10, λ _. holdsForSome (factorDegreeOutOfRange (prime p)) factors)
+    ∷ (11, λ _. holdsForSome (notMonic (prime p)) factors)
+    ∷ (12, λ _. holdsForSome (isReducible (prime p)) factors)
+    ∷ (13, λ _. twoEqual factors)
+    ∷ (14, λ _. upperPowersOutOfRange (named factors uppers))
+    ∷ []
+
+unfoldable pub acceptedFactors : ℕ → List Polynomial → List ℕ → Bool
+acceptedFactors p factors uppers = isNone (firstOf (factorTable p factors uppers))
+
+unfoldable pub portionTable : ℕ → Polynomial → ℕ → List ℕ → ℕ → ℕ → List Check
+portionTable p f v ts answer work =
+    (6, λ _. notPrime p)
+    ∷ (7, λ _. countOutOfRange (length ts))
+    ∷ (8, λ _. termOutOfField (prime p) ts)
+    ∷ (10, λ _. factorDegreeOutOfRange (prime p) f)
+    ∷ (11, λ _. notMonic (prime p) f)
+    ∷ (12, λ _. isReducible (prime p) f)
+    ∷ (14, λ _. upperPowersOutOfRange ((f, v) ∷ []))
+    ∷ (15, λ _. fewerTermsThan (totalDegree ((f, v) ∷ [])) ts)
+    ∷ (16, λ _. lentTooShort answer work)
+    ∷ (17, λ _. not (annihilatesKnown (prime p) (product (prime p) ((f, v) ∷ [])) ts))
+    ∷ []
+
+unfoldable pub ratePortion : ℕ → Polynomial → ℕ → List ℕ → ℕ → ℕ → Result (Rated PowerFigures)
+ratePortion p f v ts answer work =
+    settle (portionTable p f v ts answer work)
+    (λ _. bind (leastAt (prime p) ((f, v) ∷ []) ts 0) (powerRating (prime p) f))

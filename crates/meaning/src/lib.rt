@@ -1,0 +1,106 @@
+// The answers of the public calls. There is no code here: the contracts and the theorems speak of these types through
+// the definitions of specs/Answers.antt, which give each case the number and the values of paper 01.
+
+// Why a call is turned down, in the order of the numbered list (1 to 17).
+pub enum Refusal {
+    // 1: the file has more than 16,384 bytes
+    FileTooLong,
+    // 2: the kind byte of a record is not 1 to 8
+    UnknownKind,
+    // 3: the file ends inside a body or before the end record
+    FileCutShort,
+    // 4: a record is out of place
+    RecordOutOfPlace,
+    // 5: the mode is unknown, or the factors do not suit it
+    ModeUnsuited,
+    // 6: p is not a prime from 2 to 251
+    NotPrime,
+    // 7: no terms or too many; for a continuation, no places to fill or too many, or the place is past the buffer
+    CountOutOfRange,
+    // 8: a term is not an element of the field
+    TermOutOfField,
+    // 9: no factor, or more than eight
+    FactorCount,
+    // 10: a degree out of range
+    DegreeOutOfRange,
+    // 11: a polynomial that is not monic over the field
+    NotMonic,
+    // 12: a reducible factor
+    Reducible,
+    // 13: two equal factors
+    EqualFactors,
+    // 14: an upper power of 0, or a total degree above 4,096
+    UpperPowers,
+    // 15: fewer terms than the total degree; for a continuation, not as many starting terms as the degree
+    TooFewTerms,
+    // 16: the lent answer or the lent work bytes are too short
+    LentTooShort,
+    // 17: nothing allowed annihilates the terms
+    NotAnnihilated,
+}
+
+// Whether a polynomial is irreducible.
+pub enum Irreducibility {
+    Irreducible,
+    HasFactors,
+    Refused(Refusal),
+}
+
+// The rating of a period, or of a portion with one factor f: f to the least power annihilates.
+pub enum PowerRating {
+    Rated { power: u64, degree: u64, bound: u64 },
+    Refused(Refusal),
+}
+
+// The rating of a portion with several factors, the powers apart.
+pub enum SetOutcome {
+    Rated { degree: u64, count: u64 },
+    Refused(Refusal),
+}
+
+// The rating of a portion with several factors: `count` powers in the order of the factors, then zeros; refused: zeros.
+pub struct SetRating {
+    pub outcome: SetOutcome,
+    pub powers: [u64; 8],
+}
+
+// The rating of a portion alone: the least degree, and whether one polynomial fits or several may.
+pub enum FreeRating {
+    Unique { degree: u64 },
+    Several { degree: u64 },
+    Refused(Refusal),
+}
+
+// Whether a buffer was filled with a continued sequence.
+pub enum Filling {
+    Filled,
+    Refused(Refusal),
+}
+
+// The rating of a route file, the box and the powers apart.
+pub enum FileOutcome {
+    Powers { degree: u64, terms: u64, count: u64 },
+    Unique { degree: u64, terms: u64 },
+    Several { degree: u64, terms: u64 },
+    Refused(Refusal),
+}
+
+// The rating of a route file, with the number of the box that sent it: `count` powers, then zeros; in the free mode and
+// refused: zeros.
+pub struct FileRating {
+    pub sender: u64,
+    pub outcome: FileOutcome,
+    pub powers: [u64; 8],
+}
+
+// What the route reader finds under a number, the body apart.
+pub enum RecordOutcome {
+    Found { kind: u8 },
+    Refused(Refusal),
+}
+
+// What the route reader hands back: the body is a part of the lent file, the empty part where the file is refused.
+pub struct FoundRecord<'a> {
+    pub outcome: RecordOutcome,
+    pub body: &'a [u8],
+}
