@@ -8,9 +8,15 @@
 use Prim.Native.Nat.{ℕ, _*_, _/_, _%_, _∣_}
 use mathlib.Core.Path.{_≡_, sym, ap, _∙_}
 use native.Mathlib.Nat.{mod-add-div, mod-eq-zero-of-dvd}
-use Rattle.algebra.proofs.Ring.{Ring, zero-mul}
+use Rattle.algebra.proofs.Ring.{Ring, Hom, zero-mul}
 use Rattle.algebra.proofs.Multiple.{numeral, multiple}
-use Rattle.algebra.proofs.Multiple.{numeral-zero, numeral-add, numeral-mul, multiple-numeral}
+use Rattle.algebra.proofs.Multiple.{
+  numeral-zero,
+  numeral-add,
+  numeral-mul,
+  multiple-numeral,
+  hom-numeral,
+}
 use Rattle.algebra.proofs.Number.{Prime}
 
 pub record Characteristic {K : Type 0} (R : Ring K) (p : ℕ) : Type 0 where
@@ -37,3 +43,10 @@ module _ {K : Type 0} {R : Ring K} {p : ℕ} (C : Characteristic R p) where
 
   pub multiple-divides : {n : ℕ} → p ∣ n → (a : K) → multiple R n a ≡ 0#
   multiple-divides {n} d a = multiple-numeral R n a ∙ ap (λ x. x ⊗ a) (numeral-divides d) ∙ zero-mul R a
+
+-- A homomorphism carries the characteristic over.
+pub hom-characteristic :
+    {K L : Type 0} {R : Ring K} {S : Ring L} {f : K → L} {p : ℕ}
+    → Hom R S f → Characteristic R p → Characteristic S p
+hom-characteristic {f = f} {p = p} h C =
+    record { prime = C .prime; vanishes = sym (hom-numeral h p) ∙ ap f (C .vanishes) ∙ h .zero }

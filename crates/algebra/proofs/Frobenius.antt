@@ -1,25 +1,56 @@
 -- The Frobenius map in prime characteristic.
 --
 --   frobenius-add    == (a + b)^p = a^p + b^p in a ring of characteristic p
---   frobenius        == in a ring of characteristic p, taking the power p^w is a homomorphism; so the power of a
---                       sum of many is the sum of the powers (`hom-sum`)
+--   frobenius        == in a ring of characteristic p, taking the power p^w is a homomorphism; so the power
+--                       of a sum of many is the sum of the powers (`hom-sum`)
 --   numeral-fixed    == it leaves the n-fold sums of 1 as they are
 --   fermat           == c^(p^w) = c for every number c below the prime p
+--   power-series     == for a series f, f^(p^w) is f with its coefficients raised to p^w, spread p^w places
+--                       apart
+--   power-polynomial == the same for polynomials
+--   prime-power-polynomial
+--                    == over the field of p elements the coefficients stay: f^(p^w) = f(x^(p^w))
 --
 -- Assumes nothing.
 use Prim.Native.Nat.{ℕ, zero, suc, _-_, _^_, _<_}
-use mathlib.Core.Path.{_≡_, sym, ap, ap₂, _∙_}
+use mathlib.Core.Path.{_≡_, sym, ap, ap₂, fun-ext, _∙_}
 use native.Mathlib.Nat.{pow-zero, pow-suc}
 use native.Mathlib.Omega.{arith}
 use Rattle.algebra.proofs.Ring.{Ring, Hom, hom}
 use Rattle.algebra.proofs.Multiple.{numeral, hom-numeral}
-use Rattle.algebra.proofs.Power.{power, power-one, power-power, power-mul, power-of-one}
-use Rattle.algebra.proofs.Number.{Prime, prime-pos}
-use Rattle.algebra.proofs.Characteristic.{Characteristic, multiple-divides}
+use Rattle.algebra.proofs.Power.{power, power-one, power-power, power-mul, power-of-one, hom-power}
+use Rattle.algebra.proofs.Series.{
+  tail,
+  series,
+  constant-series,
+  x-series,
+  series-split,
+  x-mul,
+  constant-hom,
+}
+use Rattle.algebra.proofs.Spread.{
+  spread,
+  join,
+  spread-rule,
+  spread-polynomial,
+  map-polynomial,
+  coefficient-spread,
+  coefficient-map,
+}
+use Rattle.algebra.proofs.Polynomial.{
+  Polynomial,
+  constant-polynomial-hom,
+  polynomials,
+  coefficient,
+  coefficient-hom,
+  polynomial-ext,
+}
+use Rattle.algebra.proofs.Number.{Prime, prime-pos, prime-power-pos}
+use Rattle.algebra.proofs.Characteristic.{Characteristic, multiple-divides, hom-characteristic}
 use Rattle.algebra.proofs.Sum.{sum, sum-first, sum-last, sum-zeros}
 use Rattle.algebra.proofs.Binomial.{choose-prime, binomialTerm, term-first, term-last, binomial}
 use Rattle.algebra.proofs.PrimeField.{
-  Below,
+  Residue,
   primeRing,
   prime-characteristic,
   residue-value,
@@ -66,7 +97,54 @@ module _ {K : Type 0} {R : Ring K} {p : ℕ} (C : Characteristic R p) where
   pub numeral-fixed : (w n : ℕ) → power R (numeral R n) (p ^ w) ≡ numeral R n
   numeral-fixed w n = hom-numeral (frobenius w) n
 
-pub fermat : {p : ℕ} (P : Prime p) (w : ℕ) (c : Below p) → power (primeRing P) c (p ^ w) ≡ c
+  pub polynomial-characteristic : (D : Discrete K) → Characteristic (polynomials R D) p
+  polynomial-characteristic D = hom-characteristic (constant-polynomial-hom R D) C
+
+-- Series and polynomials: the power p^w spreads the coefficients' powers p^w places apart
+module _ {K : Type 0} {R : Ring K} {p : ℕ} (C : Characteristic R p) (w : ℕ) where
+  open Ring (series R) using (_⊕_, _⊗_)
+
+  infixl 60 _⊕_
+  infixl 70 _⊗_
+  abbrev q : ℕ
+  q = p ^ w
+
+  abbrev raise : K → K
+  raise c = power R c q
+
+  q-pos : 0 < q
+  q-pos = prime-power-pos (C .prime) w
+
+  by-head : (f : ℕ → K) → f ≡ constant-series R (f 0) ⊕ x-series R ⊗ tail f
+  by-head f = series-split R f ∙ ap (λ g. constant-series R (f 0) ⊕ g) (sym (x-mul R (tail f)))
+
+  power-rule : (f : ℕ → K) → power (series R) f q ≡ join R q (raise (f 0)) (power (series R) (tail f) q)
+  unfolding join
+  power-rule f =
+      ap (λ g. power (series R) g q) (by-head f)
+      ∙ power-of-sum (hom-characteristic (constant-hom R) C) w (constant-series R (f 0)) (x-series R ⊗ tail f)
+      ∙ ap₂ _⊕_ (sym (hom-power (constant-hom R) (f 0) q)) (power-mul (series R) (x-series R) (tail f) q)
+
+  pub power-series : (f : ℕ → K) → power (series R) f (p ^ w) ≡ spread R (p ^ w) (λ i. power R (f i) (p ^ w))
+  power-series = spread-rule R q q-pos raise (λ f. power (series R) f q) power-rule
+
+  pub power-polynomial :
+      {D : Discrete K} (f : Polynomial R D)
+      → power (polynomials R D) f (p ^ w)
+      ≡ spread-polynomial (p ^ w) (map-polynomial (λ c. power R c (p ^ w)) f)
+  power-polynomial {D} f = polynomial-ext (λ n. ap (λ u. u n) coefficients)
+    where
+      coefficients :
+          coefficient (power (polynomials R D) f q)
+          ≡ coefficient (spread-polynomial q (map-polynomial raise f))
+      coefficients =
+          hom-power (coefficient-hom R D) f q
+          ∙ power-series (coefficient f)
+          ∙ ap (spread R q) (fun-ext (λ i. sym (coefficient-map raise (frobenius C w .zero) f i)))
+          ∙ sym (coefficient-spread q q-pos (map-polynomial raise f))
+
+-- The field of p elements
+pub fermat : {p : ℕ} (P : Prime p) (w : ℕ) (c : Residue p) → power (primeRing P) c (p ^ w) ≡ c
 fermat {p} P w c =
     ap (λ x. power (primeRing P) x (p ^ w)) is-numeral
     ∙ numeral-fixed (prime-characteristic P) w (c .0)
@@ -74,3 +152,19 @@ fermat {p} P w c =
   where
     is-numeral : c ≡ numeral (primeRing P) (c .0)
     is-numeral = sym (residue-value p (prime-pos P) c) ∙ residue-numeral p (prime-pos P) (c .0)
+
+module _ {p : ℕ} (P : Prime p) (w : ℕ) {D : Discrete (Residue p)} where
+  map-fixed : (f : Polynomial (primeRing P) D) → map-polynomial (λ c. power (primeRing P) c (p ^ w)) f ≡ f
+  map-fixed f = polynomial-ext (λ n. raised n ∙ fermat P w (coefficient f n))
+    where
+      raised :
+          (n : ℕ)
+          → coefficient (map-polynomial (λ c. power (primeRing P) c (p ^ w)) f) n
+          ≡ power (primeRing P) (coefficient f n) (p ^ w)
+      raised = coefficient-map (λ c. power (primeRing P) c (p ^ w)) (fermat P w (primeRing P .0#)) f
+
+  pub prime-power-polynomial :
+      (f : Polynomial (primeRing P) D)
+      → power (polynomials (primeRing P) D) f (p ^ w) ≡ spread-polynomial (p ^ w) f
+  prime-power-polynomial f =
+      power-polynomial (prime-characteristic P) w f ∙ ap (spread-polynomial (p ^ w)) (map-fixed f)

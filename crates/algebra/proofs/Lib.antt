@@ -19,6 +19,7 @@ pub mod Irreducible
 pub mod Annihilator
 pub mod Cut
 pub mod Massey
+pub mod Spread
 pub mod Frobenius
 pub mod Derivative
 pub mod Period

@@ -43,6 +43,7 @@ use native.Mathlib.Nat.{
   div-lt-self,
   le-refl,
   le-of-dvd,
+  one-le-pow,
 }
 use native.Mathlib.Decide.{decLt, decDvd}
 use native.Mathlib.Omega.{arith}
@@ -103,6 +104,9 @@ pub record Prime (p : ℕ) : Type 0 where
 
 pub prime-pos : {p : ℕ} → Prime p → 0 < p
 prime-pos P = omega (arith, P .large)
+
+pub prime-power-pos : {p : ℕ} → Prime p → (w : ℕ) → 0 < p ^ w
+prime-power-pos {p} P w = one-le-pow w p (prime-pos P)
 
 pub not-divides-below : {m n : ℕ} → 0 < n → n < m → ¬ (m ∣ n)
 not-divides-below s l h = omega (arith, le-of-dvd s h)

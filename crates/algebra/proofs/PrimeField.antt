@@ -1,6 +1,6 @@
 -- The numbers below p: a ring for every p > 0, a field for every prime p.
 --
---   Below p            == the numbers below p, each with the proof that it is; `x .0` is the number
+--   Residue p          == the numbers below p, each with the proof that it is; `x .0` is the number
 --   residue p pos n    == the remainder of n modulo p > 0, as a number below p
 --   residueRing p pos  == the ring of the numbers below p > 0, with sums and products modulo p
 --   primeRing P        == the same for a prime p, P the proof that it is prime
@@ -70,17 +70,17 @@ use Rattle.algebra.proofs.Number.{
   not-divides-below,
 }
 
-abbrev pub Below : ℕ → Type 0
-Below p = Fin p
+abbrev pub Residue : ℕ → Type 0
+Residue p = Fin p
 
-pub below-path : {p : ℕ} {a b : Below p} → a .0 ≡ b .0 → a ≡ b
-below-path e = Fin·val-path e
+pub residue-path : {p : ℕ} {a b : Residue p} → a .0 ≡ b .0 → a ≡ b
+residue-path e = Fin·val-path e
 
 module _ (p : ℕ) (pos : 0 < p) where
-  unfoldable pub residue : ℕ → Below p
+  unfoldable pub residue : ℕ → Residue p
   residue n = (n % p, mod-lt n pos)
 
-  unfoldable pub residueRing : Ring (Below p)
+  unfoldable pub residueRing : Ring (Residue p)
   unfolding residue
   residueRing =
       record {
@@ -90,14 +90,14 @@ module _ (p : ℕ) (pos : 0 < p) where
         _⊕_ = λ a b. residue (a .0 + b .0);
         _⊗_ = λ a b. residue (a .0 * b .0);
         ⊖_ = λ a. residue (p - a .0);
-        add-assoc = λ a b c. below-path (simp (mod-add-mod, add-mod-mod, add-assoc));
+        add-assoc = λ a b c. residue-path (simp (mod-add-mod, add-mod-mod, add-assoc));
         add-comm = λ a b. ap residue (add-comm (a .0) (b .0));
-        add-zero = λ a. below-path (simp (add-mod-mod, add-zero) (mod-eq-of-lt (a .1)));
-        add-neg = λ a. below-path (simp (add-mod-mod, add-sub-of-le (le-of-lt (a .1)), mod-self, zero-mod));
-        mul-assoc = λ a b c. below-path (simp (mod-mul-mod, mul-mod-mod, mul-assoc));
+        add-zero = λ a. residue-path (simp (add-mod-mod, add-zero) (mod-eq-of-lt (a .1)));
+        add-neg = λ a. residue-path (simp (add-mod-mod, add-sub-of-le (le-of-lt (a .1)), mod-self, zero-mod));
+        mul-assoc = λ a b c. residue-path (simp (mod-mul-mod, mul-mod-mod, mul-assoc));
         mul-comm = λ a b. ap residue (mul-comm (a .0) (b .0));
-        mul-one = λ a. below-path (simp (mul-mod-mod, mul-one) (mod-eq-of-lt (a .1)));
-        mul-add = λ a b c. below-path (simp (mul-mod-mod, mul-add, mod-add-mod, add-mod-mod));
+        mul-one = λ a. residue-path (simp (mul-mod-mod, mul-one) (mod-eq-of-lt (a .1)));
+        mul-add = λ a b c. residue-path (simp (mul-mod-mod, mul-add, mod-add-mod, add-mod-mod));
       }
 
   open Ring residueRing using (0#, 1#, _⊕_, _⊗_, ⊖_)
@@ -114,22 +114,22 @@ module _ (p : ℕ) (pos : 0 < p) where
   unfolding residueRing residue
   value-zero = zero-mod p
 
-  pub value-add : (a b : Below p) → (a ⊕ b) .0 ≡ (a .0 + b .0) % p
+  pub value-add : (a b : Residue p) → (a ⊕ b) .0 ≡ (a .0 + b .0) % p
   unfolding residueRing residue
   value-add a b = refl
 
-  pub value-mul : (a b : Below p) → (a ⊗ b) .0 ≡ a .0 * b .0 % p
+  pub value-mul : (a b : Residue p) → (a ⊗ b) .0 ≡ a .0 * b .0 % p
   unfolding residueRing residue
   value-mul a b = refl
 
-  pub value-neg : (a : Below p) → (⊖ a) .0 ≡ (p - a .0) % p
+  pub value-neg : (a : Residue p) → (⊖ a) .0 ≡ (p - a .0) % p
   unfolding residueRing residue
   value-neg a = refl
 
   -- The map from the numbers onto the numbers below p carries 0, 1, sums and products
-  pub residue-value : (a : Below p) → residue (a .0) ≡ a
+  pub residue-value : (a : Residue p) → residue (a .0) ≡ a
   unfolding residue
-  residue-value a = below-path (mod-eq-of-lt (a .1))
+  residue-value a = residue-path (mod-eq-of-lt (a .1))
 
   pub residue-zero : residue 0 ≡ 0#
   unfolding residueRing
@@ -141,15 +141,15 @@ module _ (p : ℕ) (pos : 0 < p) where
 
   pub residue-add : (m n : ℕ) → residue (m + n) ≡ residue m ⊕ residue n
   unfolding residueRing residue
-  residue-add m n = below-path (add-mod m n p)
+  residue-add m n = residue-path (add-mod m n p)
 
   pub residue-mul : (m n : ℕ) → residue (m * n) ≡ residue m ⊗ residue n
   unfolding residueRing residue
-  residue-mul m n = below-path (mul-mod m n p)
+  residue-mul m n = residue-path (mul-mod m n p)
 
   pub residue-same : (m n : ℕ) → m % p ≡ n % p → residue m ≡ residue n
   unfolding residue
-  residue-same m n e = below-path e
+  residue-same m n e = residue-path e
 
   pub residue-numeral : (n : ℕ) → residue n ≡ numeral residueRing n
   residue-numeral zero = residue-zero ∙ sym (numeral-zero residueRing)
@@ -159,30 +159,31 @@ module _ (p : ℕ) (pos : 0 < p) where
   pub value-numeral : (n : ℕ) → (numeral residueRing n) .0 ≡ n % p
   value-numeral n = fst-path (sym (residue-numeral n)) ∙ value-residue n
 
-abbrev pub primeRing : {p : ℕ} → Prime p → Ring (Below p)
+abbrev pub primeRing : {p : ℕ} → Prime p → Ring (Residue p)
 primeRing {p} P = residueRing p (prime-pos P)
 
 module _ {p : ℕ} (P : Prime p) where
   open Ring (primeRing P) using (0#, 1#, _⊕_, _⊗_)
 
   infixl 70 _⊗_
-  nonzero-value : (a : Below p) → ¬ (a ≡ 0#) → ¬ (p ∣ a .0)
+  nonzero-value : (a : Residue p) → ¬ (a ≡ 0#) → ¬ (p ∣ a .0)
   nonzero-value a h =
-      not-divides-below (pos-of-ne-zero (λ e. h (below-path (e ∙ sym (value-zero p (prime-pos P)))))) (a .1)
+      not-divides-below (pos-of-ne-zero (λ e. h (residue-path (e ∙ sym (value-zero p (prime-pos P)))))) (a .1)
 
   pub value-one : 1# .0 ≡ 1
   unfolding residueRing residue
   value-one = one-mod-prime P
 
-  inverse-decided : (a : Below p) → Dec (a ≡ 0#) → Below p
+  inverse-decided : (a : Residue p) → Dec (a ≡ 0#) → Residue p
   inverse-decided a (yes e) = a
   inverse-decided a (no h) = residue p (prime-pos P) ((prime-inverse P (a .0) (nonzero-value a h)) .0)
 
-  mul-inverse-decided : (a : Below p) (d : Dec (a ≡ 0#)) → ¬ (a ≡ 0#) → a ⊗ inverse-decided a d ≡ 1#
+  mul-inverse-decided : (a : Residue p) (d : Dec (a ≡ 0#)) → ¬ (a ≡ 0#) → a ⊗ inverse-decided a d ≡ 1#
   unfolding residueRing residue inverse-decided
   mul-inverse-decided a (yes e) h = absurd (h e)
   mul-inverse-decided a (no k) h =
-      below-path (simp mul-mod-mod ((prime-inverse P (a .0) (nonzero-value a k)) .1 ∙ sym (one-mod-prime P)))
+      let f = prime-inverse P (a .0) (nonzero-value a k) in
+      residue-path (simp mul-mod-mod (f .1 ∙ sym (one-mod-prime P)))
 
   one-is-not-zero : ¬ (1# ≡ 0#)
   unfolding residueRing residue
@@ -207,7 +208,7 @@ module _ {p : ℕ} (P : Prime p) where
       }
 
 -- All numbers below p: those below k, for k at most p
-first : {p : ℕ} (k : ℕ) → k ≤ p → List (Below p)
+first : {p : ℕ} (k : ℕ) → k ≤ p → List (Residue p)
 first zero l = []
 first (suc k) l = (k, l) ∷ first k (le-of-suc-le l)
 
@@ -217,15 +218,15 @@ module _ {p : ℕ} where
   first-length zero l = refl
   first-length (suc k) l = ap suc (first-length k (le-of-suc-le l))
 
-  first-complete : (k : ℕ) (l : k ≤ p) (a : Below p) → a .0 < k → List·Memᴰ a (first k l)
+  first-complete : (k : ℕ) (l : k ≤ p) (a : Residue p) → a .0 < k → List·Memᴰ a (first k l)
   unfolding first
   first-complete zero l a c = absurd (omega arith)
   first-complete (suc k) l a c = elim (eq-or-lt-of-le (le-of-suc-le-suc c)) [
-    | inl e ↦ List·Memᴰ·head (below-path e)
+    | inl e ↦ List·Memᴰ·head (residue-path e)
     | inr d ↦ List·Memᴰ·tail (first-complete k (le-of-suc-le l) a d)
   ]
 
-  first-sound : (k : ℕ) (l : k ≤ p) (a : Below p) → List·Memᴰ a (first k l) → a .0 < k
+  first-sound : (k : ℕ) (l : k ≤ p) (a : Residue p) → List·Memᴰ a (first k l) → a .0 < k
   unfolding first
   first-sound zero l a m = absurd (List·Memᴰ·not-nil m)
   first-sound (suc k) l a m = elim (List·Memᴰ·cases-cons m) [
@@ -241,14 +242,14 @@ module _ {p : ℕ} where
       (λ a m e. ∥∥₁-elim m ⊥-prop (λ n. ne-of-gt (first-sound k (le-of-suc-le l) a n) (fst-path e)))
       (first-once k (le-of-suc-le l))
 
-pub elements : (p : ℕ) → List (Below p)
+pub elements : (p : ℕ) → List (Residue p)
 elements p = first p (le-refl p)
 
 pub elements-length : (p : ℕ) → length (elements p) ≡ p
 unfolding elements
 elements-length p = first-length p (le-refl p)
 
-pub elements-complete : {p : ℕ} (a : Below p) → List·Memᴰ a (elements p)
+pub elements-complete : {p : ℕ} (a : Residue p) → List·Memᴰ a (elements p)
 unfolding elements
 elements-complete {p} a = first-complete p (le-refl p) a (a .1)
 
