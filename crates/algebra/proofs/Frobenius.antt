@@ -4,7 +4,8 @@
 --   frobenius        == in a ring of characteristic p, taking the power p^w is a homomorphism; so the power
 --                       of a sum of many is the sum of the powers (`hom-sum`)
 --   numeral-fixed    == it leaves the n-fold sums of 1 as they are
---   fermat           == c^(p^w) = c for every number c below the prime p
+--   fermat           == Fermat's little theorem: c^p = c for every number c below the prime p
+--   fermat-power     == hence c^(p^w) = c
 --   power-series     == for a series f, f^(p^w) is f with its coefficients raised to p^w, spread p^w places
 --                       apart
 --   power-polynomial == the same for polynomials
@@ -12,9 +13,9 @@
 --                    == over the field of p elements the coefficients stay: f^(p^w) = f(x^(p^w))
 --
 -- Assumes nothing.
-use Prim.Native.Nat.{ℕ, zero, suc, _-_, _^_, _<_}
+use Prim.Native.Nat.{ℕ, zero, suc, _-_, _*_, _^_, _<_}
 use mathlib.Core.Path.{_≡_, sym, ap, ap₂, fun-ext, _∙_}
-use native.Mathlib.Nat.{pow-zero, pow-suc}
+use native.Mathlib.Nat.{pow-zero, pow-suc, one-mul}
 use native.Mathlib.Omega.{arith}
 use Rattle.algebra.proofs.Ring.{Ring, Hom, hom}
 use Rattle.algebra.proofs.Multiple.{numeral, hom-numeral}
@@ -144,8 +145,8 @@ module _ {K : Type 0} {R : Ring K} {p : ℕ} (C : Characteristic R p) (w : ℕ) 
           ∙ sym (coefficient-spread q q-pos (map-polynomial raise f))
 
 -- The field of p elements
-pub fermat : {p : ℕ} (P : Prime p) (w : ℕ) (c : Residue p) → power (primeRing P) c (p ^ w) ≡ c
-fermat {p} P w c =
+pub fermat-power : {p : ℕ} (P : Prime p) (w : ℕ) (c : Residue p) → power (primeRing P) c (p ^ w) ≡ c
+fermat-power {p} P w c =
     ap (λ x. power (primeRing P) x (p ^ w)) is-numeral
     ∙ numeral-fixed (prime-characteristic P) w (c .0)
     ∙ sym is-numeral
@@ -153,15 +154,21 @@ fermat {p} P w c =
     is-numeral : c ≡ numeral (primeRing P) (c .0)
     is-numeral = sym (residue-value p (prime-pos P) c) ∙ residue-numeral p (prime-pos P) (c .0)
 
+pub fermat : {p : ℕ} (P : Prime p) (c : Residue p) → power (primeRing P) c p ≡ c
+fermat {p} P c = ap (power (primeRing P) c) (sym one-fold) ∙ fermat-power P 1 c
+  where
+    one-fold : p ^ 1 ≡ p
+    one-fold = pow-suc p 0 ∙ ap (λ (x : ℕ). x * p) (pow-zero p) ∙ one-mul p
+
 module _ {p : ℕ} (P : Prime p) (w : ℕ) {D : Discrete (Residue p)} where
   map-fixed : (f : Polynomial (primeRing P) D) → map-polynomial (λ c. power (primeRing P) c (p ^ w)) f ≡ f
-  map-fixed f = polynomial-ext (λ n. raised n ∙ fermat P w (coefficient f n))
+  map-fixed f = polynomial-ext (λ n. raised n ∙ fermat-power P w (coefficient f n))
     where
       raised :
           (n : ℕ)
           → coefficient (map-polynomial (λ c. power (primeRing P) c (p ^ w)) f) n
           ≡ power (primeRing P) (coefficient f n) (p ^ w)
-      raised = coefficient-map (λ c. power (primeRing P) c (p ^ w)) (fermat P w (primeRing P .0#)) f
+      raised = coefficient-map (λ c. power (primeRing P) c (p ^ w)) (fermat-power P w (primeRing P .0#)) f
 
   pub prime-power-polynomial :
       (f : Polynomial (primeRing P) D)

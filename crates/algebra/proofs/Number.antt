@@ -5,6 +5,9 @@
 --   none-below       == a decided property: the least number below b that has it, or that none below b has it
 --   Prime p          == p > 1 has no divisor d with 1 < d < p; 0 and 1 are not prime
 --   prime-by-trial   == p > 1 is prime if no d with 1 < d < b divides it and p < b * b
+--   prime-by-remainders
+--                    == p > 1 is prime if no remainder p % d with 1 < d < p is 0
+--   prime-factors    == where d * e is prime, d is 1 or that prime
 --   prime-decided    == whether p is prime is decided by trial division
 --   prime-inverse    == a prime p that does not divide a: some x with a * x = 1 modulo p
 --   euclid           == Euclid's lemma: a prime that divides a product divides a factor
@@ -15,7 +18,7 @@
 -- Assumes nothing.
 use Prim.Native.Nat.{ℕ, zero, suc, _+_, _-_, _*_, _^_, _/_, _%_, _≤_, _<_, _∣_}
 use mathlib.Core.Path.{_≡_, refl, sym, ap, _∙_, _≡⟨_⟩_, _∎}
-use mathlib.Core.Logic.{_⊎_, inl, inr, Dec·and}
+use mathlib.Core.Logic.{_≢_, _⊎_, inl, inr, Dec·and}
 use native.Mathlib.Nat.{
   mul-comm,
   one-mul,
@@ -43,6 +46,7 @@ use native.Mathlib.Nat.{
   div-lt-self,
   le-refl,
   le-of-dvd,
+  dvd-mul-right,
   one-le-pow,
 }
 use native.Mathlib.Decide.{decLt, decDvd}
@@ -128,6 +132,22 @@ prime-by-trial p b l s h = record {
         h (f .0) (f .2) (lt-of-mul-lt-mul-left d (omega arith)) (f .3)
   ];
 }
+
+-- The test by remainders, and what a product that is prime says of its factors
+pub prime-by-remainders : (p : ℕ) → 1 < p → ((d : ℕ) → 1 < d → d < p → p % d ≢ 0) → Prime p
+prime-by-remainders p l h =
+    record { large = l; indivisible = λ d m k v. h d m k (mod-eq-zero-of-dvd d v) }
+
+pub prime-factors : {p : ℕ} → Prime p → (d e : ℕ) → d * e ≡ p → (d ≡ 1) ⊎ (d ≡ p)
+prime-factors {p} P zero e h = absurd (omega (arith, prime-pos P))
+prime-factors {p} P (suc zero) e h = inl refl
+prime-factors {p} P (suc (suc d)) e h = elim (decLt (suc (suc d)) p) [
+  | yes l ↦ absurd (P .indivisible (suc (suc d)) (omega arith) l v)
+  | no g ↦ inr (le-antisymm (le-of-dvd (prime-pos P) v) (omega arith))
+]
+  where
+    v : suc (suc d) ∣ p
+    v = rw h at (dvd-mul-right (suc (suc d)) e)
 
 pub prime-decided : (p : ℕ) → Dec (Prime p)
 prime-decided p = elim (decLt 1 p) [
