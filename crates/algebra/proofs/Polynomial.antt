@@ -22,7 +22,7 @@ use mathlib.Core.HLevel.{isProp→PathP}
 use mathlib.Core.Logic.{_≢_}
 use mathlib.Core.List.{List, [], _∷_, List·isSet, List-discrete}
 use lib.ListN.{length, List·getD-eq-default}
-use Prim.Native.Nat.{ℕ, zero, suc, _+_, _-_, _≤_, _<_, zero-le}
+use Prim.Native.Nat.{ℕ, zero, suc, _+_, _-_, _≤_, _<_, zero-le, suc-le-suc}
 use native.Mathlib.Nat as ℕ
 use native.Mathlib.Decide.{decLt}
 use native.Mathlib.Omega.{arith}
@@ -126,9 +126,40 @@ module _ {K : Type 0} (R : Ring K) (D : Discrete K) where
   pub trim-trim : (xs : List K) → trim (trim xs) ≡ trim xs
   trim-trim xs = trim-unique (trim xs) xs (trim-series xs)
 
-  trim-nil : trim [] ≡ []
+  -- A list with a last element other than 0 is trimmed; trimming comes below each bound of the coefficients.
+  push-nonzero : (a : K) → ¬ (a ≡ 0#) → push a [] ≡ a ∷ []
+  unfolding push keep-or-drop
+  push-nonzero a h = go (D a 0#)
+    where
+      go : (d : Dec (a ≡ 0#)) → keep-or-drop a d ≡ a ∷ []
+      go (yes z) = absurd (h z)
+      go (no _) = refl
+
+  pub trim-last :
+      (xs : List K) (n : ℕ) → length xs ≡ suc n → ¬ (coefficient-list R xs n ≡ 0#) → trim xs ≡ xs
+  unfolding trim push
+  trim-last [] n e h = refl
+  trim-last (a ∷ []) zero e h = push-nonzero a h
+  trim-last (a ∷ []) (suc n) e h = absurd (h refl)
+  trim-last (a ∷ b ∷ xs) zero e h = absurd (ℕ.suc-ne-zero (length xs) (ℕ.suc-inj e))
+  trim-last (a ∷ b ∷ xs) (suc n) e h = ap (push a) (trim-last (b ∷ xs) n (ℕ.suc-inj e) h)
+
+  push-length : (a : K) (ys : List K) (n : ℕ) → length ys ≤ n → length (push a ys) ≤ suc n
+  unfolding push keep-or-drop
+  push-length a (b ∷ ys) n l = suc-le-suc l
+  push-length a [] n l = go (D a 0#)
+    where
+      go : (d : Dec (a ≡ 0#)) → length (keep-or-drop a d) ≤ suc n
+      go (yes z) = zero-le
+      go (no h) = suc-le-suc zero-le
+
+  pub trim-length :
+      (xs : List K) (n : ℕ) → ((i : ℕ) → n ≤ i → coefficient-list R xs i ≡ 0#) → length (trim xs) ≤ n
   unfolding trim
-  trim-nil = refl
+  trim-length xs zero h = ℕ.le-of-eq (ap (λ ys. length ys) (trim-zeros xs (λ i. h i zero-le)))
+  trim-length [] (suc n) h = zero-le
+  trim-length (a ∷ xs) (suc n) h =
+      push-length a (trim xs) n (trim-length xs n (λ i l. h (suc i) (suc-le-suc l)))
 
 pub record Polynomial {K : Type 0} (R : Ring K) (D : Discrete K) : Type 0 where
   pub toList : List K
@@ -558,6 +589,10 @@ module _ {K : Type 0} {R : Ring K} {D : Discrete K} where
   pub below-length : (f : Polynomial R D) → Below f (length (f .toList))
   below-length f =
       record { above = λ i l. at i (coefficient-toList f) ∙ List·getD-eq-default (f .toList) 0# l }
+
+  pub length-below : {f : Polynomial R D} {n : ℕ} → Below f n → length (f .toList) ≤ n
+  unfolding coefficient
+  length-below {f} {n} b = subst (λ ys. length ys ≤ n) (f .trimmed) (trim-length R D (f .toList) n (b .above))
 
   pub below-weaken : {f : Polynomial R D} {m n : ℕ} → Below f m → m ≤ n → Below f n
   below-weaken b l = record { above = λ i h. b .above i (ℕ.le-trans l h) }

@@ -19,9 +19,10 @@
 use mathlib.Core.Path.{_≡_, refl, sym, ap, ap₂, fun-ext, _∙_}
 use mathlib.Core.HLevel.{→-set}
 use mathlib.Core.List.{List, [], _∷_, map}
-use lib.ListN.{getD}
-use Prim.Native.Nat.{ℕ, zero, suc, _+_, _-_, _<_}
+use lib.ListN.{length, getD, length-map}
+use Prim.Native.Nat.{ℕ, zero, suc, _+_, _-_, _<_, max}
 use native.Mathlib.Nat as ℕ
+use native.Mathlib.Omega.{arith}
 use Rattle.algebra.proofs.Ring.{Ring, Hom, hom}
 use Rattle.algebra.proofs.Ring.{zero-add, one-mul, zero-mul, mul-zero, neg-zero, add-add-comm}
 use Rattle.algebra.proofs.Power.{power, power-zero, power-suc-left}
@@ -132,7 +133,8 @@ module _ {K : Type 0} (R : Ring K) where
         mul-assoc = λ f g h. fun-ext (product-assoc f g h);
         mul-comm = λ f g. fun-ext (product-comm f g);
         mul-one =
-            λ f. fun-ext (λ n. product-comm f (constant-series 1#) n ∙ constant-product 1# f n ∙ one-mul R (f n));
+            λ f.
+            fun-ext (λ n. product-comm f (constant-series 1#) n ∙ constant-product 1# f n ∙ one-mul R (f n));
         mul-add = λ f g h. fun-ext (product-add f g h);
       }
 
@@ -215,11 +217,14 @@ module _ {K : Type 0} (R : Ring K) where
           at-zero : constant-series R (a ⊕ b) 0 ≡ (constant-series R a ⊞ constant-series R b) 0
           at-zero = unfold constant-series series in refl
 
-          at-suc : (n : ℕ) → constant-series R (a ⊕ b) (suc n) ≡ (constant-series R a ⊞ constant-series R b) (suc n)
+          at-suc :
+              (n : ℕ)
+              → constant-series R (a ⊕ b) (suc n) ≡ (constant-series R a ⊞ constant-series R b) (suc n)
           at-suc n = unfold constant-series series in sym (add-zero 0#)
 
       mul : (a b : K) → constant-series R (a ⊗ b) ≡ constant-series R a ⊠ constant-series R b
-      mul a b = fun-ext (elim [ zero ↦ at-zero | suc n ↦ at-suc n ]) ∙ sym (constant-mul a (constant-series R b))
+      mul a b =
+          fun-ext (elim [ zero ↦ at-zero | suc n ↦ at-suc n ]) ∙ sym (constant-mul a (constant-series R b))
         where
           at-zero : constant-series R (a ⊗ b) 0 ≡ scale-series a (constant-series R b) 0
           at-zero = unfold constant-series scale-series in refl
@@ -275,7 +280,8 @@ module _ {K : Type 0} (R : Ring K) where
   x-power-mul-zero f = ap (λ u. u ⊠ f) (power-zero (series R) x-series) ∙ one-mul (series R) f
 
   pub x-power-mul-suc :
-      (k : ℕ) (f : ℕ → K) → power (series R) x-series (suc k) ⊠ f ≡ shift-series (power (series R) x-series k ⊠ f)
+      (k : ℕ) (f : ℕ → K)
+      → power (series R) x-series (suc k) ⊠ f ≡ shift-series (power (series R) x-series k ⊠ f)
   x-power-mul-suc k f =
       ap (λ u. u ⊠ f) (power-suc-left (series R) x-series k)
       ∙ series R .mul-assoc x-series (power (series R) x-series k) f
@@ -316,6 +322,44 @@ module _ {K : Type 0} (R : Ring K) where
   unfoldable pub list-times : List K → List K → List K
   list-times [] ys = []
   list-times (a ∷ xs) ys = list-plus (list-scale a ys) (0# ∷ list-times xs ys)
+
+  pub list-plus-length : (xs ys : List K) → length (list-plus xs ys) ≡ max (length xs) (length ys)
+  unfolding list-plus
+  list-plus-length [] ys = sym (ℕ.zero-max (length ys))
+  list-plus-length (a ∷ xs) [] = sym (ℕ.max-zero (suc (length xs)))
+  list-plus-length (a ∷ xs) (b ∷ ys) =
+      ap suc (list-plus-length xs ys) ∙ sym (ℕ.suc-max-suc (length xs) (length ys))
+
+  pub list-scale-length : (a : K) (xs : List K) → length (list-scale a xs) ≡ length xs
+  unfolding list-scale
+  list-scale-length a xs = length-map xs (_⊗_ a)
+
+  -- The product of lists that are not empty is as long as the two together, less one.
+  pub list-times-length :
+      (xs ys : List K) (n m : ℕ)
+      → length xs ≡ suc n
+      → length ys ≡ suc m
+      → length (list-times xs ys) ≡ suc (n + m)
+  unfolding list-times
+  list-times-length [] ys n m e f = absurd (ℕ.suc-ne-zero n (sym e))
+  list-times-length (a ∷ []) ys n m e f =
+      list-plus-length (list-scale a ys) (0# ∷ [])
+      ∙ ap (λ k. max k 1) (list-scale-length a ys ∙ f)
+      ∙ last (ℕ.suc-inj e)
+    where
+      last : 0 ≡ n → max (suc m) 1 ≡ suc (n + m)
+      last z = omega arith
+  list-times-length (a ∷ b ∷ xs) ys zero m e f = absurd (ℕ.suc-ne-zero (length xs) (ℕ.suc-inj e))
+  list-times-length (a ∷ b ∷ xs) ys (suc n) m e f =
+      list-plus-length (list-scale a ys) (0# ∷ list-times (b ∷ xs) ys)
+      ∙ ap₂
+      (λ k l. max k (suc l))
+      (list-scale-length a ys ∙ f)
+      (list-times-length (b ∷ xs) ys n m (ℕ.suc-inj e) f)
+      ∙ longer
+    where
+      longer : max (suc m) (suc (suc (n + m))) ≡ suc (suc n + m)
+      longer = omega arith
 
   pub list-plus-at :
       (xs ys : List K) (n : ℕ)
@@ -375,7 +419,8 @@ module _ {K : Type 0} (R : Ring K) where
 
   -- A list by its head: an element and x times the rest.
   pub list-cons-series :
-      (a : K) (xs : List K) → coefficient-list (a ∷ xs) ≡ constant-series R a ⊞ shift-series (coefficient-list xs)
+      (a : K) (xs : List K)
+      → coefficient-list (a ∷ xs) ≡ constant-series R a ⊞ shift-series (coefficient-list xs)
   list-cons-series a xs = series-split (coefficient-list (a ∷ xs))
 
   pub list-constant-series : (a : K) → coefficient-list (a ∷ []) ≡ constant-series R a
