@@ -49,6 +49,7 @@ use Rattle.algebra.proofs.Polynomial.{
   coefficient-fromList,
   Below,
 }
+use Rattle.algebra.proofs.Monic.{Monic}
 use Rattle.algebra.proofs.Number.{not-divides-below}
 
 -- Induction by steps of q
@@ -291,3 +292,7 @@ module _ {K : Type 0} {R : Ring K} {D : Discrete K} where
         | no h ↦ coefficient-spread-between f i h
       ];
     }
+
+    pub spread-monic : {f : Polynomial R D} {n : ℕ} → Monic f n → Monic (spread-polynomial q f) (q * n)
+    spread-monic {f} {n} m =
+        record { leading = coefficient-spread-at f n ∙ m .leading; below = spread-degree (m .below) }
