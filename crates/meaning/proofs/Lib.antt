@@ -2,3 +2,9 @@ pub mod Computed
 pub mod Tables
 pub mod ZeroPeriod
 pub mod MarkedRows
+pub mod Rows
+pub mod Refusals
+pub mod Boundaries
+pub mod Orders
+pub mod Lent
+pub mod Determined
