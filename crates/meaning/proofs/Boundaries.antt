@@ -16,7 +16,8 @@ use Rattle.meaning.specs.Continuation.{continueSequence, askIrreducible}
 use Rattle.meaning.specs.Route.{boxOf}
 use Rattle.meaning.specs.File.{rateFile}
 use Rattle.meaning.proofs.Computed.{computed}
-use Rattle.meaning.proofs.Rows.{numberIn, box, field, mode, factor, term, terms, stop, end, x+1, x²+1, anyChoice}
+use Rattle.meaning.proofs.Rows.{numberIn, box, field, mode, factor, term, terms, stop, end, x+1, x²+1}
+use Rattle.meaning.proofs.Rows.{anyChoice}
 
 -- a list of degree d whose leading coefficient is 0: it meets 11 where 10 lets its degree pass
 abbrev ofDegree : ℕ → Polynomial
@@ -101,7 +102,8 @@ pub record Boundaries : Type 0 where
   pub workShort : numberIn (ratePeriod 2 x+1 (1 ∷ []) 4097 8191) ≡ 16
   pub lentMore : numberIn (ratePeriod 2 x+1 (1 ∷ []) 5000 9000) ≡ 0
   pub lentNothing : numberIn (ratePeriod 2 x+1 (1 ∷ []) 0 0) ≡ 16
-  -- 17: with the factor x every nonzero period is refused, and no zero period; with as many terms as the total degree nothing is
+  -- 17: with the factor x every nonzero period is refused, and no zero period; with as many terms as the
+  -- total degree nothing is
   pub xOnNonzero : numberIn (ratePeriod 2 (0 ∷ 1 ∷ []) (0 ∷ 1 ∷ []) 4097 8192) ≡ 17
   pub xOnZero : numberIn (ratePeriod 2 (0 ∷ 1 ∷ []) (0 ∷ 0 ∷ []) 4097 8192) ≡ 0
   pub xInPortion : numberIn (ratePortion 2 (0 ∷ 1 ∷ []) 2 (1 ∷ 1 ∷ []) 4097 8192) ≡ 0

@@ -1,21 +1,147 @@
--- One name that opens every executable definition of specs/, so that a row computes under `unfolding computed`.
--- Assumes nothing.
-use Rattle.meaning.specs.Search.{range, holdsForAll, holdsForSome, mapOption, bind, isNone, least, together}
-use Rattle.meaning.specs.Field.{prime, isPrime, largestPrime, primeInRange, isElement, areElements, multiple, negative}
-use Rattle.meaning.specs.Polynomial.{degree, leading, isMonic, isMonicOver, plus, scale, times, power, product, eachHead, monics, same, hasFactorOf, irreducible}
-use Rattle.meaning.specs.Sequence.{actAt, known, periodic, annihilatesKnown, annihilatesPeriod, cut, next, continuation}
-use Rattle.meaning.specs.Result.{mapResult, firstOf, valueOf, settle, figuresOf, written, cleared, answerAfter, workAfter}
-use Rattle.meaning.specs.Conditions.{named, totalDegree, notPrime, countOutOfRange, placeOutOfRange, termOutOfField, factorCountOutOfRange, degreeOutOfRange, factorDegreeOutOfRange, continuationDegreeOutOfRange, notMonic, isReducible, twoEqual, upperPowersOutOfRange, fewerTermsThan, startUnlikeDegree, lentTooShort, acceptedLent}
+-- One name that opens every executable definition of specs/, so that a row computes under `unfolding
+-- computed`. Each other name opens one file, or a part of it. Assumes nothing.
+use Rattle.meaning.specs.Search.{range, holdsForAll, holdsForSome, mapOption, bind, isNone, least}
+use Rattle.meaning.specs.Search.{together}
+use Rattle.meaning.specs.Field.{prime, isPrime, largestPrime, primeInRange, isElement, areElements}
+use Rattle.meaning.specs.Field.{multiple, negative}
+use Rattle.meaning.specs.Polynomial.{degree, leading, isMonic, isMonicOver, plus, scale, times, power}
+use Rattle.meaning.specs.Polynomial.{product, eachHead, monics, same, hasFactorOf, irreducible}
+use Rattle.meaning.specs.Sequence.{actAt, known, periodic, annihilatesKnown, annihilatesPeriod, cut}
+use Rattle.meaning.specs.Sequence.{next, continuation}
+use Rattle.meaning.specs.Result.{mapResult, firstOf, valueOf, settle, figuresOf, written, cleared}
+use Rattle.meaning.specs.Result.{answerAfter, workAfter}
+use Rattle.meaning.specs.Conditions.{named, totalDegree, notPrime, countOutOfRange, placeOutOfRange}
+use Rattle.meaning.specs.Conditions.{termOutOfField, factorCountOutOfRange, degreeOutOfRange}
+use Rattle.meaning.specs.Conditions.{factorDegreeOutOfRange, continuationDegreeOutOfRange, notMonic}
+use Rattle.meaning.specs.Conditions.{isReducible, twoEqual, upperPowersOutOfRange, fewerTermsThan}
+use Rattle.meaning.specs.Conditions.{startUnlikeDegree, lentTooShort, acceptedLent}
 use Rattle.meaning.specs.Power.{isX, repeatBound, powerRating}
 use Rattle.meaning.specs.Period.{periodPower, periodTable, periodAnswer, ratePeriod}
-use Rattle.meaning.specs.Portion.{factorsOf, withPower, leastAt, setPowers, onward, setRating, setTable, setAnswer, rateSet, factorTable, acceptedFactors, portionTable, ratePortion}
+use Rattle.meaning.specs.Portion.{factorsOf, withPower, leastAt, setPowers, onward, setRating, setTable}
+use Rattle.meaning.specs.Portion.{setAnswer, rateSet, factorTable, acceptedFactors, portionTable}
+use Rattle.meaning.specs.Portion.{ratePortion}
 use Rattle.meaning.specs.Free.{fitsDegree, leastDegree, freeRating, freeTable, rateFree}
-use Rattle.meaning.specs.Continuation.{continueTable, filled, continueSequence, irreducibleTable, askIrreducible}
-use Rattle.meaning.specs.Route.{lookUp, bodyLengths, admitted, stopped, before, walk, bodies, appended, number, byteOf, factorUpper, modeOf, suits, modeUnsuited, suited, records, endRecord, readRecord, boxOf}
-use Rattle.meaning.specs.File.{fileFactor, polynomialOf, fileDegreeOutOfRange, fileNotMonic, termsOf, rated, ofPeriod, ofSet, ofFree, rateMode, rateRecords, rateFile}
-use Rattle.meaning.specs.Print.{text, digits, decimal, joined, line, header, labelWord, density, resultLine, polyLine, report, printed}
-use Rattle.meaning.specs.Answers.{numberOf, toldIrreducible, toldFilling, toldPower, toldFree, toldSet, setTold, toldFile, labelTold, fileTold, toldRecord, padded, setPadded, labelPowers, filePadded}
+use Rattle.meaning.specs.Continuation.{continueTable, filled, continueSequence, irreducibleTable}
+use Rattle.meaning.specs.Continuation.{askIrreducible}
+use Rattle.meaning.specs.Route.{lookUp, bodyLengths, admitted, stopped, before, walk, bodies, appended}
+use Rattle.meaning.specs.Route.{number, byteOf, factorUpper, modeOf, suits, modeUnsuited, suited}
+use Rattle.meaning.specs.Route.{records, endRecord, readRecord, boxOf}
+use Rattle.meaning.specs.File.{fileFactor, polynomialOf, fileDegreeOutOfRange, fileNotMonic, freeLabel, termsOf}
+use Rattle.meaning.specs.File.{rated, ofPeriod, ofSet, ofFree, rateMode, rateRecords, rateFile}
+use Rattle.meaning.specs.Print.{text, digits, decimal, joined, line, header, labelWord, density}
+use Rattle.meaning.specs.Print.{resultLine, polyLine, report, printed}
+use Rattle.meaning.specs.Answers.{numberOf, toldIrreducible, toldFilling, toldPower, toldFree, toldSet}
+use Rattle.meaning.specs.Answers.{setTold, toldFile, labelTold, fileTold, toldRecord, padded, setPadded}
+use Rattle.meaning.specs.Answers.{labelPowers, filePadded}
+
+unfoldable pub openSearch : Unit {0}
+unfolding range holdsForAll holdsForSome mapOption bind isNone least together
+openSearch = tt
+
+unfoldable pub openField : Unit {0}
+unfolding prime isPrime largestPrime primeInRange isElement areElements multiple negative
+openField = tt
+
+unfoldable pub openPolynomial-1 : Unit {0}
+unfolding degree leading isMonic isMonicOver plus scale times power product eachHead monics same hasFactorOf
+openPolynomial-1 = tt
+
+unfoldable pub openPolynomial-2 : Unit {0}
+unfolding irreducible
+openPolynomial-2 = tt
+
+unfoldable pub openSequence : Unit {0}
+unfolding actAt known periodic annihilatesKnown annihilatesPeriod cut next continuation
+openSequence = tt
+
+unfoldable pub openResult : Unit {0}
+unfolding mapResult firstOf valueOf settle figuresOf written cleared answerAfter workAfter
+openResult = tt
+
+unfoldable pub openConditions-1 : Unit {0}
+unfolding named totalDegree notPrime countOutOfRange placeOutOfRange termOutOfField factorCountOutOfRange
+openConditions-1 = tt
+
+unfoldable pub openConditions-2 : Unit {0}
+unfolding degreeOutOfRange factorDegreeOutOfRange continuationDegreeOutOfRange notMonic isReducible twoEqual
+openConditions-2 = tt
+
+unfoldable pub openConditions-3 : Unit {0}
+unfolding upperPowersOutOfRange fewerTermsThan startUnlikeDegree lentTooShort acceptedLent
+openConditions-3 = tt
+
+unfoldable pub openPower : Unit {0}
+unfolding isX repeatBound powerRating
+openPower = tt
+
+unfoldable pub openPeriod : Unit {0}
+unfolding periodPower periodTable periodAnswer ratePeriod
+openPeriod = tt
+
+unfoldable pub openPortion-1 : Unit {0}
+unfolding factorsOf withPower leastAt setPowers onward setRating setTable setAnswer rateSet factorTable
+openPortion-1 = tt
+
+unfoldable pub openPortion-2 : Unit {0}
+unfolding acceptedFactors portionTable ratePortion
+openPortion-2 = tt
+
+unfoldable pub openFree : Unit {0}
+unfolding fitsDegree leastDegree freeRating freeTable rateFree
+openFree = tt
+
+unfoldable pub openContinuation : Unit {0}
+unfolding continueTable filled continueSequence irreducibleTable askIrreducible
+openContinuation = tt
+
+unfoldable pub openRoute-1 : Unit {0}
+unfolding lookUp bodyLengths admitted stopped before walk bodies appended number byteOf factorUpper modeOf
+openRoute-1 = tt
+
+unfoldable pub openRoute-2 : Unit {0}
+unfolding suits modeUnsuited suited records endRecord readRecord boxOf
+openRoute-2 = tt
+
+unfoldable pub openFile-1 : Unit {0}
+unfolding fileFactor polynomialOf fileDegreeOutOfRange fileNotMonic termsOf rated ofPeriod ofSet ofFree freeLabel
+openFile-1 = tt
+
+unfoldable pub openFile-2 : Unit {0}
+unfolding rateMode rateRecords rateFile
+openFile-2 = tt
+
+unfoldable pub openPrint : Unit {0}
+unfolding text digits decimal joined line header labelWord density resultLine polyLine report printed
+openPrint = tt
+
+unfoldable pub openAnswers-1 : Unit {0}
+unfolding numberOf toldIrreducible toldFilling toldPower toldFree toldSet setTold toldFile labelTold
+openAnswers-1 = tt
+
+unfoldable pub openAnswers-2 : Unit {0}
+unfolding fileTold toldRecord padded setPadded labelPowers filePadded
+openAnswers-2 = tt
+
+unfoldable pub opened-1 : Unit {0}
+unfolding openSearch openField openPolynomial-1 openPolynomial-2 openSequence
+opened-1 = tt
+
+unfoldable pub opened-2 : Unit {0}
+unfolding openResult openConditions-1 openConditions-2 openConditions-3 openPower
+opened-2 = tt
+
+unfoldable pub opened-3 : Unit {0}
+unfolding openPeriod openPortion-1 openPortion-2 openFree openContinuation
+opened-3 = tt
+
+unfoldable pub opened-4 : Unit {0}
+unfolding openRoute-1 openRoute-2 openFile-1 openFile-2 openPrint
+opened-4 = tt
+
+unfoldable pub opened-5 : Unit {0}
+unfolding openAnswers-1 openAnswers-2
+opened-5 = tt
 
 unfoldable pub computed : Unit {0}
-unfolding range holdsForAll holdsForSome mapOption bind isNone least together prime isPrime largestPrime primeInRange isElement areElements multiple negative degree leading isMonic isMonicOver plus scale times power product eachHead monics same hasFactorOf irreducible actAt known periodic annihilatesKnown annihilatesPeriod cut next continuation mapResult firstOf valueOf settle figuresOf written cleared answerAfter workAfter named totalDegree notPrime countOutOfRange placeOutOfRange termOutOfField factorCountOutOfRange degreeOutOfRange factorDegreeOutOfRange continuationDegreeOutOfRange notMonic isReducible twoEqual upperPowersOutOfRange fewerTermsThan startUnlikeDegree lentTooShort acceptedLent isX repeatBound powerRating periodPower periodTable periodAnswer ratePeriod factorsOf withPower leastAt setPowers onward setRating setTable setAnswer rateSet factorTable acceptedFactors portionTable ratePortion fitsDegree leastDegree freeRating freeTable rateFree continueTable filled continueSequence irreducibleTable askIrreducible lookUp bodyLengths admitted stopped before walk bodies appended number byteOf factorUpper modeOf suits modeUnsuited suited records endRecord readRecord boxOf fileFactor polynomialOf fileDegreeOutOfRange fileNotMonic termsOf rated ofPeriod ofSet ofFree rateMode rateRecords rateFile text digits decimal joined line header labelWord density resultLine polyLine report printed numberOf toldIrreducible toldFilling toldPower toldFree toldSet setTold toldFile labelTold fileTold toldRecord padded setPadded labelPowers filePadded
+unfolding opened-1 opened-2 opened-3 opened-4 opened-5
 computed = tt

@@ -1,4 +1,5 @@
--- The contracts determine the answers: what an answer tells gives the answer back, so that no two answers tell the same.
+-- The contracts determine the answers: what an answer tells gives the answer back, so that no two answers
+-- tell the same.
 --
 --   refusalOf n   == the refusal with the number n
 --   …-determined  == two answers that tell the same are the same
@@ -16,13 +17,17 @@ use Rattle.meaning.specs.declared.FreeRating.{FreeRating}
 use Rattle.meaning.specs.declared.Filling.{Filling}
 use Rattle.meaning.specs.declared.FileOutcome.{FileOutcome}
 use Rattle.meaning.specs.declared.RecordOutcome.{RecordOutcome}
-use Rattle.meaning.specs.declared.Refusal.the-variants.{FileTooLong, UnknownKind, FileCutShort, RecordOutOfPlace, ModeUnsuited, NotPrime}
-use Rattle.meaning.specs.declared.Refusal.the-variants.{CountOutOfRange, TermOutOfField, FactorCount, DegreeOutOfRange, NotMonic, Reducible}
-use Rattle.meaning.specs.declared.Refusal.the-variants.{EqualFactors, UpperPowers, TooFewTerms, LentTooShort, NotAnnihilated}
+use Rattle.meaning.specs.declared.Refusal.the-variants.{FileTooLong, UnknownKind, FileCutShort}
+use Rattle.meaning.specs.declared.Refusal.the-variants.{RecordOutOfPlace, ModeUnsuited, NotPrime}
+use Rattle.meaning.specs.declared.Refusal.the-variants.{CountOutOfRange, TermOutOfField, FactorCount}
+use Rattle.meaning.specs.declared.Refusal.the-variants.{DegreeOutOfRange, NotMonic, Reducible}
+use Rattle.meaning.specs.declared.Refusal.the-variants.{EqualFactors, UpperPowers, TooFewTerms}
+use Rattle.meaning.specs.declared.Refusal.the-variants.{LentTooShort, NotAnnihilated}
 use Rattle.meaning.specs.Result.{Result, refused, answered}
 use Rattle.meaning.specs.Power.{PowerFigures}
 use Rattle.meaning.specs.Free.{FreeFigures}
-use Rattle.meaning.specs.Answers.{numberOf, toldIrreducible, toldFilling, toldPower, toldFree, SetTold, toldSet}
+use Rattle.meaning.specs.Answers.{numberOf, toldIrreducible, toldFilling, toldPower, toldFree, SetTold}
+use Rattle.meaning.specs.Answers.{toldSet}
 use Rattle.meaning.specs.Answers.{FileTold, withPowers, withOne, withSome, toldFile, toldRecord}
 
 pub refusalOf : ℕ → Refusal
@@ -125,7 +130,8 @@ set-determined = determined toldSet set set-told
 
 free : Result FreeFigures → FreeRating
 free (refused n) = FreeRating.Refused (refusalOf n)
-free (answered a) = elim (a .unique) [ true ↦ FreeRating.Unique (a .degree) | false ↦ FreeRating.Several (a .degree) ]
+free (answered a) =
+    elim (a .unique) [ true ↦ FreeRating.Unique (a .degree) | false ↦ FreeRating.Several (a .degree) ]
 
 free-told : (r : FreeRating) → free (toldFree r) ≡ r
 unfolding free toldFree

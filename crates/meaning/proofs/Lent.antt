@@ -24,7 +24,8 @@ pub record Lent : Type 0 where
   pub answerAfterSeventeen : answerAfter (ratePortion 2 x+1 1 (1 ∷ 0 ∷ []) 4099 8194) answer ≡ answer
   pub answerAfterSixteen : answerAfter (ratePeriod 2 x+1 (1 ∷ []) 4099 8) answer ≡ answer
   pub workRated : workAfter (ratePeriod 2 x+1 (1 ∷ []) 4099 8194) work ≡ replicate 8192 0 ++ (9 ∷ 9 ∷ [])
-  pub workAfterSeventeen : workAfter (ratePortion 2 x+1 1 (1 ∷ 0 ∷ []) 4099 8194) work ≡ replicate 8192 0 ++ (9 ∷ 9 ∷ [])
+  pub workAfterSeventeen : workAfter (ratePortion 2 x+1 1 (1 ∷ 0 ∷ []) 4099 8194) work
+      ≡ replicate 8192 0 ++ (9 ∷ 9 ∷ [])
   pub workAfterSixteen : workAfter (ratePeriod 2 x+1 (1 ∷ []) 4096 8194) work ≡ work
   pub workAfterSix : workAfter (ratePeriod 4 x+1 (1 ∷ []) 4099 8194) work ≡ work
 

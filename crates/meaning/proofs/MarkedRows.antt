@@ -1,11 +1,12 @@
 -- The marked rows of paper 01, A to L, as one table and one theorem, from the definitions alone.
 --
---   MarkedRows   == the table: a field for each row, which says what the definitions answer on the row's input
+--   MarkedRows   == the table: a field for each row, which says what the definitions answer on the row's
+--                   input
 --   marked-rows  == the theorem: every row holds
 --
--- Lists are written with the constant, or the first term, in front. The lent bytes are just long enough, but for row D,
--- which holds for every accepted factor, every number of zeros and all accepted lent bytes. Rows H and I hold however the
--- program chooses its polynomial; in H no choice is left. Assumes nothing.
+-- Lists are written with the constant, or the first term, in front. The lent bytes are just long enough, but
+-- for row D, which holds for every accepted factor, every number of zeros and all accepted lent bytes. Rows H
+-- and I hold however the program chooses its polynomial; in H no choice is left. Assumes nothing.
 use Prim.Native.Nat.{ℕ, zero, suc, _≤_, _<_}
 use native.Mathlib.Omega.{arith}
 use mathlib.Core.Path.{_≡_, refl, ap, subst, _∙_}
@@ -21,7 +22,7 @@ use Rattle.meaning.specs.Conditions.{acceptedLent}
 use Rattle.meaning.specs.Power.{PowerFigures}
 use Rattle.meaning.specs.Period.{ratePeriod}
 use Rattle.meaning.specs.Portion.{ratePortion, rateSet, acceptedFactors}
-use Rattle.meaning.specs.Free.{Choice, Fits, rateFree, ChosenFits}
+use Rattle.meaning.specs.Free.{Choice, Fits, FreeFigures, rateFree, ChosenFits}
 use Rattle.meaning.proofs.Computed.{computed}
 use Rattle.meaning.proofs.ZeroPeriod.{zeros, zero-period}
 
@@ -76,7 +77,10 @@ first-element a l h = ltb→lt a 2 (go (ltb a 2) h)
     go true t = tt
     go false t = t
 
-below-two : (a : ℕ) → a < 2 → T (annihilatesKnown (prime 2) (a ∷ 1 ∷ []) (1 ∷ 0 ∷ [])) → _≡_ {A = Polynomial} (a ∷ 1 ∷ []) (0 ∷ 1 ∷ [])
+below-two : (a : ℕ)
+    → a < 2
+    → T (annihilatesKnown (prime 2) (a ∷ 1 ∷ []) (1 ∷ 0 ∷ []))
+    → _≡_ {A = Polynomial} (a ∷ 1 ∷ []) (0 ∷ 1 ∷ [])
 unfolding computed
 below-two zero l h = refl
 below-two (suc zero) l h = absurd h
@@ -93,8 +97,11 @@ only-x (a ∷ b ∷ []) h =
     (subst (λ (c : ℕ). T (annihilatesKnown (prime 2) (a ∷ c ∷ []) (1 ∷ 0 ∷ []))) (q .0) (h .annihilates))
 only-x (a ∷ b ∷ c ∷ g) h = absurd (omega arith)
 
+free-one : Polynomial → Result (Rated FreeFigures)
+free-one g = answered (record { figures = record { degree = 1; unique = true }; polynomial = g })
+
 pub marked-rows : MarkedRows
-unfolding computed
+unfolding computed free-one
 marked-rows =
     record {
       A = refl;
@@ -104,7 +111,7 @@ marked-rows =
       E = refl;
       F = refl;
       G = refl;
-      H = λ pick chosen. ap (λ g. answered (record { figures = record { degree = 1; unique = true }; polynomial = g })) (only-x _ (chosen 4097 8192 _ refl));
+      H = λ pick chosen. ap free-one (only-x _ (chosen 4097 8192 _ refl));
       I = λ pick. refl;
       J = refl;
       K = refl;

@@ -1,8 +1,9 @@
--- Computed rows: the order of the checks, on inputs that meet two refusals. `0` stands where nothing is refused.
+-- Computed rows: the order of the checks, on inputs that meet two refusals. `0` stands where nothing is
+-- refused.
 --
 --   Orders == the table: a field for each row      orders == every row holds
 -- Assumes nothing.
-use Prim.Native.Nat.{ℕ, _^_, _-_}
+use Prim.Native.Nat.{ℕ, zero, suc}
 use mathlib.Core.Path.{_≡_, refl}
 use mathlib.Core.Bool.{true, false}
 use mathlib.Core.List.{List, [], _∷_, _++_}
@@ -16,7 +17,8 @@ use Rattle.meaning.specs.Continuation.{continueSequence, askIrreducible}
 use Rattle.meaning.specs.Route.{boxOf}
 use Rattle.meaning.specs.File.{rateFile}
 use Rattle.meaning.proofs.Computed.{computed}
-use Rattle.meaning.proofs.Rows.{numberIn, box, field, mode, factor, term, terms, stop, end, x+1, x²+1, anyChoice}
+use Rattle.meaning.proofs.Rows.{numberIn, box, field, mode, factor, term, terms, stop, end, x+1, x²+1}
+use Rattle.meaning.proofs.Rows.{anyChoice}
 
 -- over GF(2): a coefficient that is no element, a leading coefficient that is not 1, a degree of 0
 abbrev badCoefficient : Polynomial
@@ -33,6 +35,11 @@ set fs vs ts = numberIn (rateSet 2 fs vs ts 4097 8192)
 
 abbrev ofFile : List ℕ → ℕ
 ofFile file = numberIn (rateFile anyChoice file 4097 8192)
+
+-- n copies of a record
+abbrev many : ℕ → List ℕ → List ℕ
+many zero r = []
+many (suc n) r = r ++ many n r
 
 -- a file whose header names the field p and the mode m
 abbrev headed : ℕ → ℕ → List ℕ → List ℕ
@@ -74,11 +81,12 @@ pub record Orders : Type 0 where
   pub cutAfterEnd : ofFile (headed 2 3 (term 0 ++ (end ++ (7 ∷ [])))) ≡ 3
   pub placeAfterEnd : ofFile (headed 2 3 (term 0 ++ (end ++ end))) ≡ 4
   pub stopAfterEnd : ofFile (headed 2 3 (term 0 ++ (end ++ stop))) ≡ 4
-  pub stopsBetween : ofFile (box 7 ++ (stop ++ (field 2 ++ (stop ++ (mode 3 ++ (stop ++ (term 0 ++ (stop ++ end)))))))) ≡ 0
+  pub stopsBetween : ofFile (box 7 ++ (stop ++ (field 2 ++ (stop ++ (mode 3 ++ (stop ++ (term 0 ++ (stop ++ end))))))))
+      ≡ 0
   -- files: 4 before 5, 5 before 6, and then the checks of the mode
   pub placeBeforeMode : ofFile (headed 2 9 (end ++ end)) ≡ 4
   pub modeBeforePrime : ofFile (headed 4 9 end) ≡ 5
-  pub nineInFile : ofFile (headed 4 2 (factor 0 0 [] ++ (factor 0 0 [] ++ (factor 0 0 [] ++ (factor 0 0 [] ++ (factor 0 0 [] ++ (factor 0 0 [] ++ (factor 0 0 [] ++ (factor 0 0 [] ++ (factor 0 0 [] ++ end)))))))))) ≡ 5
+  pub nineInFile : ofFile (headed 4 2 (many 9 (factor 0 0 []) ++ end)) ≡ 5
   pub noFactorInFile : ofFile (headed 2 2 end) ≡ 5
   pub freeWithFactor : ofFile (headed 2 3 (factor 1 1 (1 ∷ []) ++ end)) ≡ 5
   pub periodWithUpper : ofFile (headed 2 1 (factor 1 1 (1 ∷ []) ++ (term 1 ++ end))) ≡ 5
@@ -88,7 +96,8 @@ pub record Orders : Type 0 where
   pub fileDegree : ofFile (headed 2 2 (factor 33 1 (replicate 32 9) ++ (term 0 ++ end))) ≡ 10
   pub fileDegree32 : ofFile (headed 2 2 (factor 32 1 (replicate 32 9) ++ (term 0 ++ end))) ≡ 11
   pub fileCoefficientBeyond : ofFile (headed 2 2 (factor 1 1 (1 ∷ 1 ∷ []) ++ (term 0 ++ end))) ≡ 11
-  pub fileCoefficientLast : ofFile (headed 2 2 (factor 1 1 (1 ∷ (replicate 30 0 ++ (1 ∷ []))) ++ (term 0 ++ end))) ≡ 11
+  pub fileCoefficientLast : ofFile (headed 2 2 (factor 1 1 (1 ∷ (replicate 30 0 ++ (1 ∷ []))) ++ (term 0 ++ end)))
+      ≡ 11
   pub fileUpper : ofFile (headed 2 2 (factor 1 0 (1 ∷ []) ++ (term 0 ++ end))) ≡ 14
 
 pub orders : Orders

@@ -1,4 +1,5 @@
--- Computed rows: each refusal from 1 to 17 is reached, and the rows M and N of paper 01 with the printed lines of case A.
+-- Computed rows: each refusal from 1 to 17 is reached, and the rows M and N of paper 01 with the printed
+-- lines of case A.
 --
 --   Refusals  == the table: a field for each row      refusals == every row holds
 -- Assumes nothing.
@@ -17,7 +18,8 @@ use Rattle.meaning.specs.Route.{readRecord}
 use Rattle.meaning.specs.File.{rateFile}
 use Rattle.meaning.specs.Print.{text, printed}
 use Rattle.meaning.proofs.Computed.{computed}
-use Rattle.meaning.proofs.Rows.{numberIn, box, field, mode, factor, terms, stop, end, x+1, x²+1, anyChoice}
+use Rattle.meaning.proofs.Rows.{numberIn, box, field, mode, factor, terms, stop, end, x+1, x²+1}
+use Rattle.meaning.proofs.Rows.{anyChoice}
 
 -- case A of paper 01 as the file that box 7 sends in mode 2, with a factor of degree d
 abbrev caseA : ℕ → List ℕ → List ℕ
@@ -49,7 +51,8 @@ pub record Refusals : Type 0 where
   pub seventeen : numberIn (ratePortion 2 x+1 1 (1 ∷ 0 ∷ []) 4097 8192) ≡ 17
   pub freeSix : numberIn (rateFree anyChoice 1 (0 ∷ []) 4097 8192) ≡ 6
   pub freeSixteen : numberIn (rateFree anyChoice 2 (0 ∷ []) 4097 8191) ≡ 16
-  pub freeZeros : figuresOf (rateFree anyChoice 5 (0 ∷ 0 ∷ 0 ∷ []) 4097 8192) ≡ answered (record { degree = 0; unique = true })
+  pub freeZeros : figuresOf (rateFree anyChoice 5 (0 ∷ 0 ∷ 0 ∷ []) 4097 8192)
+      ≡ answered (record { degree = 0; unique = true })
   pub continueFifteen : numberIn (continueSequence 2 (1 ∷ 1 ∷ 1 ∷ []) (0 ∷ []) 0 (9 ∷ 9 ∷ [])) ≡ 15
   pub irreducibleSix : numberIn (askIrreducible 6 x+1) ≡ 6
   pub M : ratePeriod 2 x²+1 (0 ∷ []) 4097 8192 ≡ refused 12
@@ -58,9 +61,11 @@ pub record Refusals : Type 0 where
   pub N : continueSequence 2 (1 ∷ 1 ∷ 1 ∷ []) (0 ∷ 1 ∷ []) 0 (9 ∷ 9 ∷ 9 ∷ 9 ∷ 9 ∷ 9 ∷ [])
       ≡ answered (0 ∷ 1 ∷ 1 ∷ 0 ∷ 1 ∷ 1 ∷ [])
   pub N-from-two : continueSequence 2 (1 ∷ 1 ∷ 1 ∷ []) (0 ∷ 1 ∷ []) 2 (9 ∷ 8 ∷ 7 ∷ []) ≡ answered (9 ∷ 8 ∷ 0 ∷ [])
-  pub printedA : printed anyChoice (caseA 3 (1 ∷ 1 ∷ [])) ≡ text "box result density powers\n7 ok 12/18 4\npoly 1 0 0 0 1 0 0 0 0 0 0 0 1\n"
+  pub printedA : printed anyChoice (caseA 3 (1 ∷ 1 ∷ []))
+      ≡ text "box result density powers\n7 ok 12/18 4\npoly 1 0 0 0 1 0 0 0 0 0 0 0 1\n"
   pub printedRefusal : printed anyChoice (caseA 2 (1 ∷ 0 ∷ [])) ≡ text "box result density powers\n7 refused 12\n"
-  pub readStop : readRecord (caseA 3 (1 ∷ 1 ∷ [])) 4 ≡ answered (record { kind = 7; body = 1 ∷ 2 ∷ 3 ∷ 4 ∷ 5 ∷ 6 ∷ 7 ∷ 8 ∷ [] })
+  pub readStop : readRecord (caseA 3 (1 ∷ 1 ∷ [])) 4
+      ≡ answered (record { kind = 7; body = 1 ∷ 2 ∷ 3 ∷ 4 ∷ 5 ∷ 6 ∷ 7 ∷ 8 ∷ [] })
   pub readBeyond : readRecord (caseA 3 (1 ∷ 1 ∷ [])) 99 ≡ answered (record { kind = 8; body = [] })
 
 pub refusals : Refusals

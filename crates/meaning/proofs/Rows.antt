@@ -1,4 +1,5 @@
--- What the computed rows share: the number of a refusal, route files made of records, and inputs that nothing refuses.
+-- What the computed rows share: the number of a refusal, route files made of records, and inputs that nothing
+-- refuses.
 --
 --   numberIn r        == the number of a refusal; 0 of an answer
 --   box, field, mode, factor, terms, term, stop, end == the bytes of one record of the route file

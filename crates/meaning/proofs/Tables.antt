@@ -37,7 +37,9 @@ none-holds (c ∷ table) h = go (none-holds table) ((c .1) tt) refl
     go rest true e = absurd (rw (firstOf-stop c table e) at h)
     go rest false e = (e, rest (rw (firstOf-skip c table e) at h))
 
-pub settle-none : {A : Type 0} (table : List Check) (v : Unit {0} → Option A) → firstOf table ≡ none → settle table v ≡ valueOf (v tt)
+pub settle-none : {A : Type 0} (table : List Check) (v : Unit {0} → Option A)
+    → firstOf table ≡ none
+    → settle table v ≡ valueOf (v tt)
 unfolding settle
 settle-none table v e = rw (e, settle)
 

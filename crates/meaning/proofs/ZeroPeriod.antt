@@ -16,7 +16,8 @@ use Rattle.meaning.specs.Polynomial.{Polynomial, power, degree}
 use Rattle.meaning.specs.Sequence.{actAt, periodic, annihilatesPeriod}
 use Rattle.meaning.specs.Result.{firstOf, valueOf, answered}
 use Rattle.meaning.specs.Power.{powerRating, repeatBound}
-use Rattle.meaning.specs.Conditions.{notPrime, countOutOfRange, termOutOfField, isReducible, notMonic, factorDegreeOutOfRange, lentTooShort, acceptedLent}
+use Rattle.meaning.specs.Conditions.{notPrime, countOutOfRange, termOutOfField, isReducible, notMonic}
+use Rattle.meaning.specs.Conditions.{factorDegreeOutOfRange, lentTooShort, acceptedLent}
 use Rattle.meaning.specs.Portion.{acceptedFactors, factorTable}
 use Rattle.meaning.specs.Period.{periodPower, periodTable, periodAnswer, ratePeriod}
 use Rattle.meaning.proofs.Tables.{firstOf-none, none-holds, settle-none, holdsForAll-every, least-zero}

@@ -1,19 +1,26 @@
--- What each answer of the public calls says in the terms of paper 01: the number of a refusal, the values of an answer.
--- The contracts and the theorems speak of the answers through these definitions alone.
+-- What each answer of the public calls says in the terms of paper 01: the number of a refusal, the values of
+-- an answer. The contracts and the theorems speak of the answers through these definitions alone.
 --
 --   numberOf r        == the number of the refusal in the list of paper 01
---   toldIrreducible, toldFilling, toldPower, toldFree, toldSet, toldFile, toldRecord == the result that an answer tells
---   SetTold, FileTold == what the answers of a set and of a file tell beside their eight powers; `count` is the number
---                        of powers
+--   toldIrreducible, toldFilling, toldPower, toldFree, toldSet, toldFile, toldRecord == the result that an
+--                          answer tells
+--   SetTold, FileTold == what the answers of a set and of a file tell beside their eight powers; `count` is
+--                        the number of powers
 --   setTold, fileTold == what they should tell of the figures
 --   padded rs         == the powers as they stand in eight places: in order, then zeros
---   setPadded, filePadded == the eight places after a result; all zeros where refused or where there are no powers
+--   setPadded, filePadded == the eight places after a result; all zeros where refused or where there are no
+--                          powers
 use Prim.Native.Nat.{ℕ, _-_}
 use mathlib.Core.Bool.{Bool, true, false}
 use mathlib.Core.List.{List, [], _∷_, _++_}
 use lib.ListN.{length, replicate}
 use Rattle.meaning.specs.declared.Refusal.{Refusal}
-use Rattle.meaning.specs.declared.Refusal.the-variants.{FileTooLong, UnknownKind, FileCutShort, RecordOutOfPlace, ModeUnsuited, NotPrime, CountOutOfRange, TermOutOfField, FactorCount, DegreeOutOfRange, NotMonic, Reducible, EqualFactors, UpperPowers, TooFewTerms, LentTooShort, NotAnnihilated}
+use Rattle.meaning.specs.declared.Refusal.the-variants.{FileTooLong, UnknownKind, FileCutShort}
+use Rattle.meaning.specs.declared.Refusal.the-variants.{RecordOutOfPlace, ModeUnsuited, NotPrime}
+use Rattle.meaning.specs.declared.Refusal.the-variants.{CountOutOfRange, TermOutOfField, FactorCount}
+use Rattle.meaning.specs.declared.Refusal.the-variants.{DegreeOutOfRange, NotMonic, Reducible}
+use Rattle.meaning.specs.declared.Refusal.the-variants.{EqualFactors, UpperPowers, TooFewTerms}
+use Rattle.meaning.specs.declared.Refusal.the-variants.{LentTooShort, NotAnnihilated}
 use Rattle.meaning.specs.declared.Irreducibility.{Irreducibility}
 use Rattle.meaning.specs.declared.PowerRating.{PowerRating}
 use Rattle.meaning.specs.declared.SetOutcome.{SetOutcome}

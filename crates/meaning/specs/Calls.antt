@@ -1,6 +1,6 @@
--- The contracts of the public calls, one record for each. A contract fixes the whole answer and every lent byte
--- afterwards, for all inputs: the lists are the contents of the slices as the call begins (answer, work, buffer) and as
--- it returns (answer′, work′, buffer′), and r is what it returns.
+-- The contracts of the public calls, one record for each. A contract fixes the whole answer and every lent
+-- byte afterwards, for all inputs: the lists are the contents of the slices as the call begins (answer, work,
+-- buffer) and as it returns (answer′, work′, buffer′), and r is what it returns.
 --
 --   LentAfter result …  == the lent answer and work bytes are left as the result says
 --   PrimeCall           == prime_in_range      IrreducibleCall == is_irreducible
@@ -9,8 +9,8 @@
 --   ContinueCall        == continue_sequence   FileCall        == rate_file
 --   RecordCall          == record (the route reader)
 --
--- `pick` names how the free way chooses among several polynomials: it depends on p and the terms alone, and `chosen`
--- says what holds of it. Everything else is an equation.
+-- `pick` names how the free way chooses among several polynomials: it depends on p and the terms alone, and
+-- `chosen` says what holds of it. Everything else is an equation.
 use Prim.Native.Nat.{ℕ}
 use mathlib.Core.Path.{_≡_}
 use mathlib.Core.Bool.{Bool}
@@ -25,14 +25,16 @@ use Rattle.meaning.specs.declared.FileRating.{FileRating}
 use Rattle.meaning.specs.declared.RecordOutcome.{RecordOutcome}
 use Rattle.meaning.specs.Field.{primeInRange}
 use Rattle.meaning.specs.Polynomial.{Polynomial}
-use Rattle.meaning.specs.Result.{Result, refused, answered, mapResult, Rated, figuresOf, answerAfter, workAfter}
+use Rattle.meaning.specs.Result.{Result, refused, answered, mapResult, Rated, figuresOf, answerAfter}
+use Rattle.meaning.specs.Result.{workAfter}
 use Rattle.meaning.specs.Period.{ratePeriod}
 use Rattle.meaning.specs.Portion.{ratePortion, rateSet}
 use Rattle.meaning.specs.Free.{Choice, rateFree, ChosenFits}
 use Rattle.meaning.specs.Continuation.{askIrreducible, continueSequence}
 use Rattle.meaning.specs.Route.{RouteRecord, boxOf, byteOf, records, readRecord}
 use Rattle.meaning.specs.File.{rateFile, termsOf}
-use Rattle.meaning.specs.Answers.{toldIrreducible, toldFilling, toldPower, toldFree, toldSet, setTold, toldFile, fileTold, toldRecord, setPadded, filePadded}
+use Rattle.meaning.specs.Answers.{toldIrreducible, toldFilling, toldPower, toldFree, toldSet, setTold}
+use Rattle.meaning.specs.Answers.{toldFile, fileTold, toldRecord, setPadded, filePadded}
 
 pub record LentAfter {A : Type 0} (result : Result (Rated A)) (answer work answer′ work′ : List ℕ) : Type 0 where
   pub answerBytes : answer′ ≡ answerAfter result answer
@@ -44,20 +46,24 @@ pub record PrimeCall (n : ℕ) (r : Bool) : Type 0 where
 pub record IrreducibleCall (p : ℕ) (f : Polynomial) (r : Irreducibility) : Type 0 where
   pub answer : toldIrreducible r ≡ askIrreducible p f
 
-pub record PeriodCall (p : ℕ) (f : Polynomial) (ts answer work : List ℕ) (r : PowerRating) (answer′ work′ : List ℕ) : Type 0 where
+pub record PeriodCall (p : ℕ) (f ts answer work : List ℕ) (r : PowerRating) (answer′ work′ : List ℕ) : Type 0 where
   pub rating : toldPower r ≡ figuresOf (ratePeriod p f ts (length answer) (length work))
   pub lent : LentAfter (ratePeriod p f ts (length answer) (length work)) answer work answer′ work′
 
-pub record PortionCall (p : ℕ) (f : Polynomial) (v : ℕ) (ts answer work : List ℕ) (r : PowerRating) (answer′ work′ : List ℕ) : Type 0 where
+pub record PortionCall (p : ℕ) (f : Polynomial) (v : ℕ) (ts answer work : List ℕ) (r : PowerRating)
+    (answer′ work′ : List ℕ) : Type 0 where
   pub rating : toldPower r ≡ figuresOf (ratePortion p f v ts (length answer) (length work))
   pub lent : LentAfter (ratePortion p f v ts (length answer) (length work)) answer work answer′ work′
 
-pub record SetCall (p : ℕ) (fs : List Polynomial) (vs ts answer work : List ℕ) (r : SetRating) (answer′ work′ : List ℕ) : Type 0 where
-  pub rating : toldSet (r .outcome) ≡ mapResult setTold (figuresOf (rateSet p fs vs ts (length answer) (length work)))
+pub record SetCall (p : ℕ) (fs : List Polynomial) (vs ts answer work : List ℕ) (r : SetRating)
+    (answer′ work′ : List ℕ) : Type 0 where
+  pub rating : toldSet (r .outcome)
+      ≡ mapResult setTold (figuresOf (rateSet p fs vs ts (length answer) (length work)))
   pub powers : r .powers ≡ setPadded (figuresOf (rateSet p fs vs ts (length answer) (length work)))
   pub lent : LentAfter (rateSet p fs vs ts (length answer) (length work)) answer work answer′ work′
 
-pub record FreeCall (pick : Choice) (p : ℕ) (ts answer work : List ℕ) (r : FreeRating) (answer′ work′ : List ℕ) : Type 0 where
+pub record FreeCall (pick : Choice) (p : ℕ) (ts answer work : List ℕ) (r : FreeRating)
+    (answer′ work′ : List ℕ) : Type 0 where
   pub rating : toldFree r ≡ figuresOf (rateFree pick p ts (length answer) (length work))
   pub chosen : ChosenFits pick p ts
   pub lent : LentAfter (rateFree pick p ts (length answer) (length work)) answer work answer′ work′
@@ -67,13 +73,16 @@ unfoldable pub bufferAfter : Result (List ℕ) → List ℕ → List ℕ
 bufferAfter (refused n) buffer = buffer
 bufferAfter (answered after) buffer = after
 
-pub record ContinueCall (p : ℕ) (g : Polynomial) (start buffer : List ℕ) (place : ℕ) (r : Filling) (buffer′ : List ℕ) : Type 0 where
+pub record ContinueCall (p : ℕ) (g : Polynomial) (start buffer : List ℕ) (place : ℕ) (r : Filling)
+    (buffer′ : List ℕ) : Type 0 where
   pub filling : toldFilling r ≡ mapResult (λ _. tt) (continueSequence p g start place buffer)
   pub bufferBytes : buffer′ ≡ bufferAfter (continueSequence p g start place buffer) buffer
 
-pub record FileCall (pick : Choice) (file answer work : List ℕ) (r : FileRating) (answer′ work′ : List ℕ) : Type 0 where
+pub record FileCall (pick : Choice) (file answer work : List ℕ) (r : FileRating)
+    (answer′ work′ : List ℕ) : Type 0 where
   pub sender : r .sender ≡ boxOf file
-  pub rating : toldFile (r .outcome) ≡ mapResult fileTold (figuresOf (rateFile pick file (length answer) (length work)))
+  pub rating : toldFile (r .outcome)
+      ≡ mapResult fileTold (figuresOf (rateFile pick file (length answer) (length work)))
   pub powers : r .powers ≡ filePadded (figuresOf (rateFile pick file (length answer) (length work)))
   pub chosen : (rs : List RouteRecord) → records file ≡ answered rs → ChosenFits pick (byteOf 2 rs) (termsOf rs)
   pub lent : LentAfter (rateFile pick file (length answer) (length work)) answer work answer′ work′

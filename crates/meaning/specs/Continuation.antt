@@ -14,7 +14,8 @@ use Rattle.meaning.specs.Field.{Field, prime}
 use Rattle.meaning.specs.Polynomial.{Polynomial, irreducible}
 use Rattle.meaning.specs.Sequence.{continuation, cut}
 use Rattle.meaning.specs.Result.{Result, Check, settle}
-use Rattle.meaning.specs.Conditions.{notPrime, placeOutOfRange, termOutOfField, factorDegreeOutOfRange, continuationDegreeOutOfRange, notMonic, startUnlikeDegree}
+use Rattle.meaning.specs.Conditions.{notPrime, placeOutOfRange, termOutOfField, factorDegreeOutOfRange}
+use Rattle.meaning.specs.Conditions.{continuationDegreeOutOfRange, notMonic, startUnlikeDegree}
 
 unfoldable pub continueTable : ℕ → Polynomial → List ℕ → ℕ → ℕ → List Check
 continueTable p g start place size =

@@ -1,7 +1,7 @@
 -- The field of the ratings: GF(p), the numbers 0 to p − 1 with sums and products modulo the prime p.
 --
---   Field             == a finite field by its size, its characteristic, and the sum and product of its elements,
---                        which are the numbers below its size; nothing here says that the laws hold
+--   Field             == a finite field by its size, its characteristic, and the sum and product of its
+--                        elements, which are the numbers below its size; nothing here says that the laws hold
 --   prime p           == GF(p), the only field today; for p = 0 the remainder is the number itself
 --   Prime n           == n is at least 2 and only 1 and n divide it, as a type
 --   isPrime n         == the same by trying every possible divisor

@@ -2,11 +2,13 @@
 --
 --   FileFactor          == a factor as a file writes it: degree, upper power and 32 coefficients
 --   fileFactor body     == the factor of a body of 35 bytes
---   polynomialOf f      == its polynomial: the coefficients below its degree, and then the leading 1, which is implied
---   fileNotMonic F f    == refusal 11 of a file's factor: a coefficient below the degree is no element of the field, or
---                          one from the degree on is not 0
+--   polynomialOf f      == its polynomial: the coefficients below its degree, and then the leading 1, which
+--                          is implied
+--   fileNotMonic F f    == refusal 11 of a file's factor: a coefficient below the degree is no element of the
+--                          field, or one from the degree on is not 0
 --   termsOf rs          == the terms of the records of kinds 5 and 6, in order
---   Label               == what is printed after the density: the powers in factor order, or whether one polynomial fits
+--   Label               == what is printed after the density: the powers in factor order, or whether one
+--                          polynomial fits
 --   FileFigures         == the degree (complexity), the number of terms given, and the label
 --   rateRecords pick rs answer work == the answer of the mode's way on what the records hold
 --   rateFile pick file answer work  == the answer for a file: the refusals 1 to 5, then those of its mode
@@ -25,7 +27,8 @@ use Rattle.meaning.specs.Power.{PowerFigures}
 use Rattle.meaning.specs.Period.{periodAnswer}
 use Rattle.meaning.specs.Portion.{SetFigures, setAnswer}
 use Rattle.meaning.specs.Free.{Choice, FreeFigures, rateFree}
-use Rattle.meaning.specs.Route.{RouteRecord, Mode, periodMode, setMode, freeMode, modeOf, bodies, byteOf, factorUpper, records}
+use Rattle.meaning.specs.Route.{RouteRecord, Mode, periodMode, setMode, freeMode, modeOf, bodies}
+use Rattle.meaning.specs.Route.{byteOf, factorUpper, records}
 
 pub record FileFactor : Type 0 where
   pub degree : ℕ
@@ -72,10 +75,14 @@ unfoldable pub ofSet : ℕ → Result (Rated SetFigures) → Result (Rated FileF
 ofSet m (refused n) = refused n
 ofSet m (answered a) = answered (rated (a .figures .degree) m (powers (a .figures .powers)) (a .polynomial))
 
+unfoldable pub freeLabel : Bool → Label
+freeLabel true = unique
+freeLabel false = several
+
 unfoldable pub ofFree : ℕ → Result (Rated FreeFigures) → Result (Rated FileFigures)
 ofFree m (refused n) = refused n
 ofFree m (answered a) =
-    answered (rated (a .figures .degree) m (elim (a .figures .unique) [ true ↦ unique | false ↦ several ]) (a .polynomial))
+    answered (rated (a .figures .degree) m (freeLabel (a .figures .unique)) (a .polynomial))
 
 unfoldable pub rateMode : Choice → Mode → ℕ → List FileFactor → List ℕ → ℕ → ℕ → Result (Rated FileFigures)
 rateMode pick periodMode p fs ts answer work =

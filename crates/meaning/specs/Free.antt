@@ -1,12 +1,13 @@
 -- The free way: the shortest recurrence of a portion alone, with no factor named.
 --
---   fitsDegree F ts e  == some monic polynomial of degree e annihilates the known terms, by trying all of them
---   leastDegree F ts   == the least such degree, at most the number of terms (a polynomial of that degree has no places
---                         and fits). In words: LeastDegree F ts e
+--   fitsDegree F ts e  == some monic polynomial of degree e annihilates the known terms, by trying all of
+--                         them
+--   leastDegree F ts   == the least such degree, at most the number of terms (a polynomial of that degree has
+--                         no places and fits). In words: LeastDegree F ts e
 --   Fits F ts e g      == g is monic over F, of degree e, and annihilates the known terms
 --   LeastDegree F ts e == some polynomial fits with degree e, and none with a smaller one
---   FreeFigures        == the degree, and whether only one polynomial fits: `one` where twice the degree is at most the
---                         number of terms, else `some`
+--   FreeFigures        == the degree, and whether only one polynomial fits: `one` where twice the degree is
+--                         at most the number of terms, else `some`
 --   Choice             == how the program picks the polynomial: from p and the terms alone
 --   rateFree pick p ts answer work == the answer of the free way; the polynomial is the program's choice
 --   ChosenFits pick p ts == what holds of that choice wherever the call accepts p and the terms

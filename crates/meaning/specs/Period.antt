@@ -1,10 +1,10 @@
 -- The period way: the least power of one factor that annihilates the endless repetition of a period.
 --
---   periodPower F f ts == the least r with f^r annihilating the period ts, tried up to its length; none where no power
---                         does. In words: LeastPower F f (periodic ts) r, and NoPower F f ts
+--   periodPower F f ts == the least r with f^r annihilating the period ts, tried up to its length; none where
+--                         no power does. In words: LeastPower F f (periodic ts) r, and NoPower F f ts
 --   NoPower F f ts     == no power of f, however large, annihilates the endless repetition
---   periodTable        == the refusals that the period way meets, in order; `ten` and `eleven` say whether these two
---                         hold of the factor, which a list and a file write differently
+--   periodTable        == the refusals that the period way meets, in order; `ten` and `eleven` say whether
+--                         these two hold of the factor, which a list and a file write differently
 --   ratePeriod p f ts answer work == the answer of the period way for lent bytes of these lengths
 use Prim.Native.Nat.{ℕ}
 use mathlib.Core.Bool.{Bool}
@@ -16,7 +16,8 @@ use Rattle.meaning.specs.Field.{Field, prime}
 use Rattle.meaning.specs.Polynomial.{Polynomial, power}
 use Rattle.meaning.specs.Sequence.{annihilatesPeriod, AnnihilatesEndless, periodic}
 use Rattle.meaning.specs.Result.{Result, Check, settle, Rated}
-use Rattle.meaning.specs.Conditions.{notPrime, countOutOfRange, termOutOfField, factorDegreeOutOfRange, notMonic, isReducible, lentTooShort}
+use Rattle.meaning.specs.Conditions.{notPrime, countOutOfRange, termOutOfField, factorDegreeOutOfRange}
+use Rattle.meaning.specs.Conditions.{notMonic, isReducible, lentTooShort}
 use Rattle.meaning.specs.Power.{PowerFigures, powerRating}
 
 unfoldable pub periodPower : Field → Polynomial → List ℕ → Option ℕ

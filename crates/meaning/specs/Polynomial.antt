@@ -4,15 +4,16 @@
 --   leading f         == the last coefficient; 0 for the empty list
 --   isMonic f         == the last coefficient is 1; never for the empty list
 --   isMonicOver F f   == f is monic, and its coefficients are elements of F
---   plus, scale, times == sum, multiple by an element, product; the product goes by the head of the first factor,
---                        a·g + x·(rest·g), and the product of two monic lists has the degrees' sum for its degree
+--   plus, scale, times == sum, multiple by an element, product; the product goes by the head of the first
+--                         factor, a·g + x·(rest·g), and the product of two monic lists has the degrees' sum
+--                         for its degree
 --   power F f n       == the n-fold product; the list of 1 for n = 0
 --   product F l       == the product of the powers that l lists as pairs of a polynomial and an exponent
---   monics F d        == every monic polynomial of degree d over F; two are compared from the coefficient of degree
---                        d − 1 downwards, and the smaller number at the first difference comes first
+--   monics F d        == every monic polynomial of degree d over F; two are compared from the coefficient of
+--                        degree d − 1 downwards, and the smaller number at the first difference comes first
 --   same f g          == the two lists are equal
---   irreducible F f   == no two monic polynomials of positive degree have the product f, by trying all of them; it is
---                        asked of monic f of positive degree only
+--   irreducible F f   == no two monic polynomials of positive degree have the product f, by trying all of
+--                        them; it is asked of monic f of positive degree only
 --   NotAProduct F f   == paper 01's words for it: f is not a product of two polynomials of positive degree
 use Prim.Native.Nat.{ℕ, zero, suc, _-_, _<_}
 use mathlib.Core.Path.{_≡_}

@@ -1,16 +1,19 @@
--- The set way and the portion way: the powers of named factors in the minimal polynomial of a continued portion.
--- A pair is a factor with a power; D is the total degree of the pairs with their upper powers.
+-- The set way and the portion way: the powers of named factors in the minimal polynomial of a continued
+-- portion. A pair is a factor with a power; D is the total degree of the pairs with their upper powers.
 --
 --   withPower i r l    == the pairs l with the power r in place i
---   leastAt F l ts i   == for factor i the least r, at most its upper power, for which its r-th power times the others'
---                         upper powers annihilates the first D terms
+--   leastAt F l ts i   == for factor i the least r, at most its upper power, for which its r-th power times
+--                         the others' upper powers annihilates the first D terms
 --   setPowers F l ts   == these powers in the order of the factors. In words: SetMeaning F l ts powers
 --   onward F l ts      == the endless continuation of the first D terms by the product of the upper powers
---   SetMeaning F l ts rs == the product of the factors to the powers rs is the minimal polynomial of that continuation
---   PortionMeaning F f v ts r == r is the least power of f that annihilates that continuation, with one factor
+--   SetMeaning F l ts rs == the product of the factors to the powers rs is the minimal polynomial of that
+--                          continuation
+--   PortionMeaning F f v ts r == r is the least power of f that annihilates that continuation, with one
+--                          factor
 --   Agrees F l ts      == all the terms agree with the continuation of the first D of them
 --   setTable, portionTable == the refusals that the two ways meet, in order; `ten` and `eleven` as in Period
---   factorTable, acceptedFactors p factors uppers == factors are accepted when 6 and 9 to 14 do not turn them down
+--   factorTable, acceptedFactors p factors uppers == factors are accepted when 6 and 9 to 14 do not turn them
+--                          down
 --   rateSet p factors uppers ts answer work, ratePortion p f v ts answer work == the answers of the two ways
 use Prim.Native.Nat.{ℕ, zero, suc}
 use mathlib.Core.Path.{_≡_}
@@ -21,9 +24,13 @@ use lib.ListN.{length, getD, take, set}
 use Rattle.meaning.specs.Search.{range, least, mapOption, bind, isNone, together, holdsForSome}
 use Rattle.meaning.specs.Field.{Field, prime}
 use Rattle.meaning.specs.Polynomial.{Polynomial, degree, product}
-use Rattle.meaning.specs.Sequence.{Sequence, annihilatesKnown, continuation, cut, MinimalPolynomial, LeastPower}
+use Rattle.meaning.specs.Sequence.{Sequence, annihilatesKnown, continuation, cut, MinimalPolynomial}
+use Rattle.meaning.specs.Sequence.{LeastPower}
 use Rattle.meaning.specs.Result.{Result, Check, firstOf, settle, Rated}
-use Rattle.meaning.specs.Conditions.{named, totalDegree, notPrime, countOutOfRange, termOutOfField, factorCountOutOfRange, factorDegreeOutOfRange, notMonic, isReducible, twoEqual, upperPowersOutOfRange, fewerTermsThan, lentTooShort}
+use Rattle.meaning.specs.Conditions.{named, totalDegree, notPrime, countOutOfRange, termOutOfField}
+use Rattle.meaning.specs.Conditions.{factorCountOutOfRange, factorDegreeOutOfRange, notMonic}
+use Rattle.meaning.specs.Conditions.{isReducible, twoEqual, upperPowersOutOfRange, fewerTermsThan}
+use Rattle.meaning.specs.Conditions.{lentTooShort}
 use Rattle.meaning.specs.Power.{PowerFigures, powerRating}
 
 unfoldable pub factorsOf : List (Polynomial × ℕ) → List Polynomial
@@ -81,7 +88,8 @@ setTable p ten eleven l ts answer work =
 
 unfoldable pub setAnswer : ℕ → Bool → Bool → List (Polynomial × ℕ) → List ℕ → ℕ → ℕ → Result (Rated SetFigures)
 setAnswer p ten eleven l ts answer work =
-    settle (setTable p ten eleven l ts answer work) (λ _. mapOption (setRating (prime p) l) (setPowers (prime p) l ts))
+    settle (setTable p ten eleven l ts answer work)
+    (λ _. mapOption (setRating (prime p) l) (setPowers (prime p) l ts))
 
 unfoldable pub rateSet : ℕ → List Polynomial → List ℕ → List ℕ → ℕ → ℕ → Result (Rated SetFigures)
 rateSet p factors uppers ts =

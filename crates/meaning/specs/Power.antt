@@ -1,9 +1,9 @@
 -- The answer of a rating with one factor: its power, the degree, the repeat bound, and the polynomial.
 --
 --   isX f              == f is the polynomial x
---   repeatBound F f r  == a number that the least period of what f^r annihilates does not exceed: 1 for r = 0; 0 for
---                         f = x and r above 0; else p^t·(p^d − 1), d the degree of f and t least with p^t at least r.
---                         None only where there is no such t, in no field
+--   repeatBound F f r  == a number that the least period of what f^r annihilates does not exceed: 1 for r =
+--                         0; 0 for f = x and r above 0; else p^t·(p^d − 1), d the degree of f and t least
+--                         with p^t at least r. None only where there is no such t, in no field
 --   PowerFigures       == power, degree (the complexity) and repeat bound
 --   powerRating F f r  == the answer with the power r and the polynomial f^r
 use Prim.Native.Nat.{ℕ, zero, suc, _*_, _-_, _^_}
@@ -37,5 +37,8 @@ pub record PowerFigures : Type 0 where
 unfoldable pub powerRating : Field → Polynomial → ℕ → Option (Rated PowerFigures)
 powerRating F f r =
     mapOption
-    (λ b. record { figures = record { power = r; degree = degree (power F f r); bound = b }; polynomial = power F f r })
+    (λ b. record {
+      figures = record { power = r; degree = degree (power F f r); bound = b };
+      polynomial = power F f r;
+    })
     (repeatBound F f r)

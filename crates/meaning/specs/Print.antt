@@ -1,11 +1,12 @@
--- The lines that the rating program prints, as lists of bytes. Each line ends with one line feed; one blank stands
--- between two words and none at the end.
+-- The lines that the rating program prints, as lists of bytes. Each line ends with one line feed; one blank
+-- stands between two words and none at the end.
 --
 --   text s            == the bytes of a text of ASCII characters
 --   decimal n         == the decimal digits of n, the most significant first; `0` for 0
 --   joined sep ws     == the words with the separator between them
 --   header            == the header line
---   resultLine box r  == the result line: the box, `ok`, the density and the label, or the box and the refusal
+--   resultLine box r  == the result line: the box, `ok`, the density and the label, or the box and the
+--                        refusal
 --   polyLine r        == the line of coefficients, constant first; nothing where refused
 --   printed pick file == all that the program prints for a file
 use Prim.Native.Nat.{ℕ, zero, suc, _+_, _/_, _%_}

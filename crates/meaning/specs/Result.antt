@@ -4,12 +4,14 @@
 --   mapResult f r     == f of the answer; a refusal stays
 --   Check             == a number of the list and its condition, which is looked at only when its turn comes
 --   firstOf table     == the number of the first condition of the table that holds, or none
---   settle table v    == refused by the table's first condition that holds, else the value v. A missing value would be
---                        `refused 0`, a number that no answer of the program has: it never comes to that
---   Rated A           == what a rating answers: its figures, and its polynomial, which goes into the lent answer bytes
+--   settle table v    == refused by the table's first condition that holds, else the value v. A missing value
+--                        would be `refused 0`, a number that no answer of the program has: it never comes to
+--                        that
+--   Rated A           == what a rating answers: its figures, and its polynomial, which goes into the lent
+--                        answer bytes
 --   figuresOf r       == the same result without the polynomial
---   written, cleared  == the lent bytes afterwards: coefficients first and the rest as it was; 8,192 zeros and the
---                        rest as it was
+--   written, cleared  == the lent bytes afterwards: coefficients first and the rest as it was; 8,192 zeros
+--                        and the rest as it was
 --   answerAfter r b   == the answer bytes b after the result r: unchanged by a refusal
 --   workAfter r b     == the work bytes b after the result r: unchanged by every refusal but 17
 use Prim.Native.Nat.{ℕ, zero, suc}

@@ -3,22 +3,25 @@
 --   lookUp k l        == the value beside the first k of a list of pairs, or none
 --   bodyLengths       == the kinds of record with the lengths of their bodies
 --   Stage             == how far the order of records has come
---   admitted stage    == the kinds that may stand next, each with the stage after it: 1, 2, 3 once each, then factors,
---                        then terms, then the end; a stop (7) anywhere between 1 and 8; nothing after the end
+--   admitted stage    == the kinds that may stand next, each with the stage after it: 1, 2, 3 once each, then
+--                        factors, then terms, then the end; a stop (7) anywhere between 1 and 8; nothing
+--                        after the end
 --   RouteRecord       == a record by its kind and its body
---   walk bytes skip stage == the records from here on, where `skip` bytes are left of the body before: at each record
---                        the refusals 2, 3 and 4 are tried in turn, and the first bad record decides. Bytes after the
---                        end count as one more record
+--   walk bytes skip stage == the records from here on, where `skip` bytes are left of the body before: at
+--                          each record the refusals 2, 3 and 4 are tried in turn, and the first bad record
+--                          decides. Bytes after the end count as one more record
 --   bodies k rs       == the bodies of the records of kind k, in order
 --   byteOf k rs       == the one byte of the first record of kind k; 0 where there is none
 --   factorUpper body  == the upper power that a factor's body names
---   modeOf m          == the mode with the number m: 1 period, 2 set way, 3 free way; none for any other number
+--   modeOf m          == the mode with the number m: 1 period, 2 set way, 3 free way; none for any other
+--                        number
 --   suits m bodies    == the factors suit the mode: one with upper power 0, one to eight, none
 --   modeUnsuited rs   == refusal 5: the mode is not 1, 2 or 3, or the factors do not suit it
 --   records file      == the records of the file, or its refusal by 1 to 5
 --   readRecord file n == record n, counted from 0; beyond the last the end record
 --   number bytes      == the number of several bytes, the most significant first; 0 for none
---   boxOf file        == the box number; 0 where the file does not begin with a whole box record or refusal 1 holds
+--   boxOf file        == the box number; 0 where the file does not begin with a whole box record or refusal 1
+--                        holds
 use Prim.Native.Nat.{ℕ, zero, suc, _+_, _*_}
 use mathlib.Core.Bool.{Bool, true, false, not, _&&_}
 use mathlib.Core.List.{List, [], _∷_, _++_}

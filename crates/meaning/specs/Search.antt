@@ -5,7 +5,8 @@
 --   holdsForSome t l == the test t passes on some element of l; false on the empty list
 --   mapOption f o    == f of the value of o, or none where o has none
 --   isNone o         == o has no value
---   least b t        == the least number r from 0 to b that passes t, or none; never a bound in place of an answer
+--   least b t        == the least number r from 0 to b that passes t, or none; never a bound in place of an
+--                       answer
 --   bind o g         == g of the value of o, or none where o has none
 --   together l       == all the values of a list of answers, or none where one of them is missing
 use Prim.Native.Nat.{ℕ, zero, suc}

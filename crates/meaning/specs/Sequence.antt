@@ -3,18 +3,19 @@
 --   Sequence              == an endless sequence: a number at each place from 0
 --   InField F s           == each of its numbers is an element of F
 --   actAt F g s k         == the value at place k of the action of g on s: c0·s(k) + c1·s(k+1) + …
---   known ts, periodic ts == the terms ts read as endless sequences: with zeros after them, of which no definition
---                            here reads one; and as a period that repeats (ts not empty)
+--   known ts, periodic ts == the terms ts read as endless sequences: with zeros after them, of which no
+--                          definition here reads one; and as a period that repeats (ts not empty)
 --   AnnihilatesEndless F g s == the action of g on the endless sequence s is 0 at every place
---   annihilatesKnown F g ts  == the action of g on the m terms ts is 0 at its m − deg g places; no places count as
---                               annihilated
+--   annihilatesKnown F g ts  == the action of g on the m terms ts is 0 at its m − deg g places; no places
+--                          count as annihilated
 --   annihilatesPeriod F g ts == the action of g is 0 at each place of the period ts, and so at every place
 --   cut s k m             == the stretch of m terms of s from place k on
 --   Period s n            == s repeats every n terms, n at least 1
---   continuation F g start == the endless sequence that the monic polynomial g continues the starting terms to, as
---                            many as its degree; for degree 0 the zero sequence
+--   continuation F g start == the endless sequence that the monic polynomial g continues the starting terms
+--                          to, as many as its degree; for degree 0 the zero sequence
 --   Continues F g start s == the same in words: s is a sequence of F, begins with start, and g annihilates it
---   MinimalPolynomial F g s == g is monic over F and annihilates s, and every other such polynomial has a larger degree
+--   MinimalPolynomial F g s == g is monic over F and annihilates s, and every other such polynomial has a
+--                          larger degree
 --   LeastPower F f s r    == r is the least power for which f^r annihilates s
 use Prim.Native.Nat.{ℕ, zero, suc, _+_, _-_, _%_, _≤_, _<_}
 use mathlib.Core.Path.{_≡_}

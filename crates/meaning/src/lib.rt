@@ -1,5 +1,5 @@
-// The answers of the public calls. There is no code here: the contracts and the theorems speak of these types through
-// the definitions of specs/Answers.antt, which give each case the number and the values of paper 01.
+// The answers of the public calls. There is no code here: the contracts and the theorems speak of these types
+// through the definitions of specs/Answers.antt, which give each case the number and the values of paper 01.
 
 // Why a call is turned down, in the order of the numbered list (1 to 17).
 pub enum Refusal {
@@ -15,7 +15,8 @@ pub enum Refusal {
     ModeUnsuited,
     // 6: p is not a prime from 2 to 251
     NotPrime,
-    // 7: no terms or too many; for a continuation, no places to fill or too many, or the place is past the buffer
+    // 7: no terms or too many; for a continuation, no places to fill or too many, or the place is past the
+    // buffer
     CountOutOfRange,
     // 8: a term is not an element of the field
     TermOutOfField,
@@ -58,7 +59,8 @@ pub enum SetOutcome {
     Refused(Refusal),
 }
 
-// The rating of a portion with several factors: `count` powers in the order of the factors, then zeros; refused: zeros.
+// The rating of a portion with several factors: `count` powers in the order of the factors, then zeros;
+// refused: zeros.
 pub struct SetRating {
     pub outcome: SetOutcome,
     pub powers: [u64; 8],
@@ -85,8 +87,8 @@ pub enum FileOutcome {
     Refused(Refusal),
 }
 
-// The rating of a route file, with the number of the box that sent it: `count` powers, then zeros; in the free mode and
-// refused: zeros.
+// The rating of a route file, with the number of the box that sent it: `count` powers, then zeros; in the
+// free mode and refused: zeros.
 pub struct FileRating {
     pub sender: u64,
     pub outcome: FileOutcome,
@@ -99,7 +101,8 @@ pub enum RecordOutcome {
     Refused(Refusal),
 }
 
-// What the route reader hands back: the body is a part of the lent file, the empty part where the file is refused.
+// What the route reader hands back: the body is a part of the lent file, the empty part where the file is
+// refused.
 pub struct FoundRecord<'a> {
     pub outcome: RecordOutcome,
     pub body: &'a [u8],
