@@ -70,6 +70,10 @@ module _ {K : Type 0} (R : Ring K) where
   infixl 60 _⊕_
   infixl 70 _⊗_
   infix 80 ⊖_
+  -- 0 divides 0 alone.
+  pub zero-divides : {h : K} → Divides R 0# h → h ≡ 0#
+  zero-divides d = d .equation ∙ mul-zero R (d .quotient)
+
   -- One step of the division, and the difference of two divisions.
   divide-step :
       (a x q g r c : K) → a ⊕ x ⊗ (q ⊗ g ⊕ r) ≡ (x ⊗ q ⊕ c) ⊗ g ⊕ (a ⊕ x ⊗ r ⊕ ⊖ (c ⊗ g))
@@ -361,8 +365,7 @@ module _ {K : Type 0} {R : Ring K} {D : Discrete K} (F : Field R) where
     where
       by-zero : g ≡ 0ₚ → Dec (f ≡ 0ₚ) → Dec (Divides (polynomials R D) g f)
       by-zero z (yes e) = yes (rw e (multiples-ideal (polynomials R D) g .has-zero))
-      by-zero z (no h) =
-          no (λ d. h (d .equation ∙ ap (_⊠_ (d .quotient)) z ∙ mul-zero (polynomials R D) (d .quotient)))
+      by-zero z (no h) = no (λ d. h (zero-divides (polynomials R D) (rw z at d)))
 
       by-degree : {n : ℕ} → Degree g n → Dec (Divides (polynomials R D) g f)
       by-degree d = elim (divides-monic (monic-scale F d) f) [
