@@ -2,13 +2,16 @@
 --
 --   list-act R xs s k  == c0·s(k) + c1·s(k+1) + … for the list xs of c0, c1, …; 0# for the empty list
 --   act f s            == the sequence that the polynomial f makes of s: act f s k = c0·s(k) + c1·s(k+1) + …
+--   Kills s f          == the action of f on s is 0 at every place: f annihilates s; 0 annihilates all
+--   Agree n s t        == the sequences s and t have the same first n terms
 --   act-mul            == a product acts as its factors one after the other
 --   act-sum            == the action as a sum over the coefficients below a bound
 --   act-local          == the action of a polynomial below n depends on n terms alone
 --
 -- The action depends on the coefficients alone: `act-of-series`, `act-fromList`.
 -- Assumes nothing.
-use mathlib.Core.Path.{_≡_, refl, sym, ap, ap₂, fun-ext, _∙_}
+use mathlib.Core.Path.{_≡_, refl, sym, ap, ap₂, fun-ext, subst, _∙_}
+use mathlib.Core.Logic.{inl, inr}
 use mathlib.Core.List.{List, [], _∷_, _++_}
 use lib.ListN.{length, List·getD-eq-default}
 use Prim.Native.Nat.{ℕ, zero, suc, _+_, _≤_, _<_, zero-le, suc-le-suc}
@@ -99,6 +102,15 @@ module _ {K : Type 0} (R : Ring K) where
       beyond : (i : ℕ) → length xs ≤ i → coefficient-list R xs i ≡ 0#
       beyond i l = List·getD-eq-default xs 0# l
 
+  pub list-act-local :
+      (xs : List K) (s t : ℕ → K) (j k : ℕ)
+      → ((i : ℕ) → i < length xs → s (j + i) ≡ t (k + i))
+      → list-act xs s j ≡ list-act xs t k
+  list-act-local xs s t j k h =
+      list-act-sum xs (length xs) s j (λ i l. List·getD-eq-default xs 0# l)
+      ∙ sum-ext R (length xs) (λ i l. ap (_⊗_ (coefficient-list R xs i)) (h i l))
+      ∙ sym (list-act-sum xs (length xs) t k (λ i l. List·getD-eq-default xs 0# l))
+
   -- Additive in the list and in the sequence; scaling; one list after another.
   pub list-act-plus :
       (xs ys : List K) (s : ℕ → K) (k : ℕ)
@@ -135,6 +147,11 @@ module _ {K : Type 0} (R : Ring K) where
   list-act-sequence-add (c ∷ xs) s t k =
       ap₂ _⊕_ (mul-add c (s k) (t k)) (list-act-sequence-add xs s t (suc k))
       ∙ add-add-comm R (c ⊗ s k) (c ⊗ t k) (list-act xs s (suc k)) (list-act xs t (suc k))
+
+  pub list-act-sequence-zero : (xs : List K) (k : ℕ) → list-act xs (λ _. 0#) k ≡ 0#
+  unfolding list-act
+  list-act-sequence-zero [] k = refl
+  list-act-sequence-zero (c ∷ xs) k = ap₂ _⊕_ (mul-zero R c) (list-act-sequence-zero xs (suc k)) ∙ add-zero 0#
 
   pub list-act-sequence-scale :
       (xs : List K) (a : K) (s : ℕ → K) (k : ℕ) → list-act xs (λ i. a ⊗ s i) k ≡ a ⊗ list-act xs s k
@@ -289,10 +306,8 @@ module _ {K : Type 0} {R : Ring K} {D : Discrete K} where
   act-sequence-scale f a s k = list-act-sequence-scale R (f .toList) a s k
 
   pub act-sequence-zero : (f : Polynomial R D) (k : ℕ) → act f (λ _. 0#) k ≡ 0#
-  act-sequence-zero f k =
-      ap (λ s. act f s k) (fun-ext (λ _. sym (zero-mul R 0#)))
-      ∙ act-sequence-scale f 0# (λ _. 0#) k
-      ∙ zero-mul R (act f (λ _. 0#) k)
+  unfolding act
+  act-sequence-zero f k = list-act-sequence-zero R (f .toList) k
 
   pub act-sequence-neg : (f : Polynomial R D) (s : ℕ → K) (k : ℕ) → act f (λ i. ⊖ s i) k ≡ ⊖ act f s k
   act-sequence-neg f s k =
@@ -358,3 +373,15 @@ module _ {K : Type 0} (R : Ring K) (D : Discrete K) where
       ap (λ h. act h s k) (sym (polynomials R D .mul-one (power (polynomials R D) (X R D) n)))
       ∙ act-x-power-mul n 1ₚ s k
       ∙ act-one R D s (n + k)
+
+abbrev pub Agree : {K : Type 0} → ℕ → (ℕ → K) → (ℕ → K) → Type 0
+Agree n s t = (i : ℕ) → i < n → s i ≡ t i
+
+pub agree-suc : {K : Type 0} {s t : ℕ → K} {n : ℕ} → Agree n s t → s n ≡ t n → Agree (suc n) s t
+agree-suc {s = s} {t} {n} h e i l = elim (ℕ.eq-or-lt-of-le (ℕ.le-of-suc-le-suc l)) [
+  | inl z ↦ subst (λ k. s k ≡ t k) (sym z) e
+  | inr z ↦ h i z
+]
+
+pub record Kills {K : Type 0} {R : Ring K} {D : Discrete K} (s : ℕ → K) (f : Polynomial R D) : Type 0 where
+  pub vanishes : (k : ℕ) → act f s k ≡ R .0#

@@ -13,6 +13,7 @@ pub mod Series
 pub mod Polynomial
 pub mod Monic
 pub mod Action
+pub mod Continuation
 pub mod Division
 pub mod Divisor
 pub mod Irreducible
