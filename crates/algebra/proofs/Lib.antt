@@ -25,5 +25,6 @@ pub mod Frobenius
 pub mod Derivative
 pub mod Period
 pub mod Digits
+pub mod Residues
 pub mod FiniteField
 pub mod Order
