@@ -11,12 +11,14 @@
 -- The action depends on the coefficients alone: `act-of-series`, `act-fromList`.
 -- Assumes nothing.
 use mathlib.Core.Path.{_≡_, refl, sym, ap, ap₂, fun-ext, subst, _∙_}
-use mathlib.Core.Logic.{inl, inr}
+use mathlib.Core.Logic.{inl, inr, Dec·not}
+use mathlib.Core.HLevel.{dec→stable}
 use mathlib.Core.List.{List, [], _∷_, _++_}
 use lib.ListN.{length, List·getD-eq-default}
 use Prim.Native.Nat.{ℕ, zero, suc, _+_, _≤_, _<_, zero-le, suc-le-suc}
 use native.Mathlib.Nat as ℕ
 use native.Mathlib.Omega.{arith}
+use Rattle.algebra.proofs.Number.{none-below}
 use Rattle.algebra.proofs.Ring.{Ring}
 use Rattle.algebra.proofs.Ring.{zero-add, one-mul, zero-mul, mul-zero, add-add-comm}
 use Rattle.algebra.proofs.Ring.{mul-left-comm, neg-unique, add-mul}
@@ -309,6 +311,9 @@ module _ {K : Type 0} {R : Ring K} {D : Discrete K} where
   unfolding act
   act-sequence-zero f k = list-act-sequence-zero R (f .toList) k
 
+  pub act-vanishes : (f : Polynomial R D) {s : ℕ → K} → ((i : ℕ) → s i ≡ 0#) → (k : ℕ) → act f s k ≡ 0#
+  act-vanishes f h k = ap (λ u. act f u k) (fun-ext h) ∙ act-sequence-zero f k
+
   pub act-sequence-neg : (f : Polynomial R D) (s : ℕ → K) (k : ℕ) → act f (λ i. ⊖ s i) k ≡ ⊖ act f s k
   act-sequence-neg f s k =
       neg-unique
@@ -382,6 +387,20 @@ agree-suc {s = s} {t} {n} h e i l = elim (ℕ.eq-or-lt-of-le (ℕ.le-of-suc-le-s
   | inl z ↦ subst (λ k. s k ≡ t k) (sym z) e
   | inr z ↦ h i z
 ]
+
+pub agree-decided : {K : Type 0} → Discrete K → (n : ℕ) (s t : ℕ → K) → Dec (Agree n s t)
+agree-decided D n s t = elim (none-below (λ i. Dec·not (D (s i) (t i))) n) [
+  | inl f ↦ no (λ h. f .2 .holds (h (f .0) (f .1)))
+  | inr h ↦ yes (λ i l. dec→stable (D (s i) (t i)) (h i l))
+]
+
+-- The first e places of the action of a polynomial of degree a depend on the first e + a terms alone.
+pub act-agree :
+    {K : Type 0} {R : Ring K} {D : Discrete K} {f : Polynomial R D} {a e : ℕ} {s t : ℕ → K}
+    → Below f (suc a)
+    → Agree (e + a) s t
+    → Agree e (act f s) (act f t)
+act-agree {s = s} {t} b h k l = act-local b s t k k (λ i m. h (k + i) (omega arith))
 
 pub record Kills {K : Type 0} {R : Ring K} {D : Discrete K} (s : ℕ → K) (f : Polynomial R D) : Type 0 where
   pub vanishes : (k : ℕ) → act f s k ≡ R .0#

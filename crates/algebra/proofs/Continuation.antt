@@ -9,7 +9,7 @@
 --   Continues g w s         == s begins with the terms w, and g annihilates it
 --   monic-agree             == sequences with the same first d terms, on which a monic polynomial of degree d
 --                              acts alike at j places, have the same first d + j terms
---   continuation-continues  == for a monic g of degree d, each w of d terms has a continuation that g annihilates
+--   continuation-continues  == each w of d terms has a continuation annihilated by a monic g of degree d
 --   continues-unique        == and only one
 --
 -- Assumes nothing.
@@ -17,7 +17,7 @@ use mathlib.Core.Path.{_≡_, refl, sym, ap, ap₂, subst, _∙_}
 use mathlib.Core.List.{List, [], _∷_, _++_}
 use lib.ListN.{length, getD, drop, length-append, length-drop, List·getD-append, List·getD-eq-default}
 use lib.Seq.{getD-drop, getD-at}
-use Prim.Native.Nat.{ℕ, zero, suc, _+_, _-_, _≤_, _<_, zero-le}
+use Prim.Native.Nat.{ℕ, zero, suc, _+_, _≤_, _<_}
 use native.Mathlib.Nat as ℕ
 use native.Mathlib.Decide.{decLt}
 use native.Mathlib.Omega.{arith}
