@@ -9,6 +9,8 @@
 --   monic-divisor      == the quotient of monic polynomials is monic, and the degrees add up
 --   divisors-equal     == monic polynomials that divide each other are equal
 --   divides-cancel     == a monic factor on both sides of a divisibility cancels
+--   divide-x           == division by x: the remainder is the constant term
+--   x-divides          == x divides what has the constant term 0
 --   field-divide       == over a field, division by any polynomial other than 0
 --   field-divides      == over a field, divisibility is decided
 --
@@ -20,7 +22,7 @@ use native.Mathlib.Nat as ℕ
 use native.Mathlib.Decide.{decLt}
 use native.Mathlib.Omega.{arith}
 use Rattle.algebra.proofs.Ring.{Ring, Field}
-use Rattle.algebra.proofs.Ring.{one-mul, zero-mul, mul-zero, mul-left-comm}
+use Rattle.algebra.proofs.Ring.{zero-add, one-mul, zero-mul, mul-zero, mul-left-comm}
 use Rattle.algebra.proofs.Ring.{add-left-cancel, eq-of-sub-zero}
 use Rattle.algebra.proofs.Solver.{solve, _:=_, _:+_, _:*_, :-_, :0}
 use Rattle.algebra.proofs.Ideal.{Divides, divides-multiple, divides-trans, multiples-ideal}
@@ -34,11 +36,15 @@ use Rattle.algebra.proofs.Polynomial.{
   coefficient-add,
   coefficient-neg,
   coefficient-scale,
+  coefficient-zero,
   coefficient-one-zero,
   coefficient-one-suc,
   coefficient-constant-suc,
+  coefficient-constant-zero,
+  coefficient-x-mul-zero,
   coefficient-x-mul-suc,
   constant,
+  constant-polynomial-hom,
   scale,
   X,
   Below,
@@ -311,6 +317,55 @@ module _ {K : Type 0} {R : Ring K} {D : Discrete K} where
         quotient = d .quotient;
         equation = monic-cancel m (d .equation ∙ mul-left-comm (polynomials R D) (d .quotient) f g);
       }
+
+-- Division by x: the remainder is the constant term.
+module _ {K : Type 0} {R : Ring K} {D : Discrete K} where
+  open Ring R using (0#, _⊕_, add-zero)
+  open Ring (polynomials R D) using (0# as 0ₚ, _⊕_ as _⊞_, _⊗_ as _⊠_)
+
+  infixl 60 _⊕_ _⊞_
+  infixl 70 _⊠_
+  coefficient-next : (a : K) (f : Polynomial R D) → coefficient (constant R D a ⊞ X R D ⊠ f) 0 ≡ a
+  coefficient-next a f =
+      coefficient-add (constant R D a) (X R D ⊠ f) 0
+      ∙ ap₂ _⊕_ (coefficient-constant-zero R D a) (coefficient-x-mul-zero f)
+      ∙ add-zero a
+
+  pub divide-x :
+      (f : Polynomial R D)
+      → (g : Polynomial R D) × (f ≡ constant R D (coefficient f 0) ⊞ X R D ⊠ g)
+  divide-x = polynomial-induction R D _ (0ₚ, sym at-zero) (λ a f _. (f, at-next a f))
+    where
+      at-zero : constant R D (coefficient 0ₚ 0) ⊞ X R D ⊠ 0ₚ ≡ 0ₚ
+      at-zero =
+          ap₂
+          _⊞_
+          (ap (constant R D) (coefficient-zero R D 0) ∙ constant-polynomial-hom R D .zero)
+          (mul-zero (polynomials R D) (X R D))
+          ∙ polynomials R D .add-zero 0ₚ
+
+      at-next :
+          (a : K) (f : Polynomial R D)
+          → constant R D a ⊞ X R D ⊠ f
+          ≡ constant R D (coefficient (constant R D a ⊞ X R D ⊠ f) 0) ⊞ X R D ⊠ f
+      at-next a f = ap (λ c. constant R D c ⊞ X R D ⊠ f) (sym (coefficient-next a f))
+
+  pub x-divides : (f : Polynomial R D) → coefficient f 0 ≡ 0# → Divides (polynomials R D) (X R D) f
+  x-divides f z =
+      let (g, e) = divide-x f in
+      record {
+        quotient = g;
+        equation =
+            e
+            ∙ ap (λ u. u ⊞ X R D ⊠ g) (ap (constant R D) z ∙ constant-polynomial-hom R D .zero)
+            ∙ zero-add (polynomials R D) (X R D ⊠ g)
+            ∙ polynomials R D .mul-comm (X R D) g;
+      }
+
+  pub x-divides-constant : {f : Polynomial R D} → Divides (polynomials R D) (X R D) f → coefficient f 0 ≡ 0#
+  x-divides-constant {f} d =
+      ap (λ u. coefficient u 0) (d .equation ∙ polynomials R D .mul-comm (d .quotient) (X R D))
+      ∙ coefficient-x-mul-zero (d .quotient)
 
 -- Over a field, by any polynomial other than 0.
 module _ {K : Type 0} {R : Ring K} {D : Discrete K} (F : Field R) where

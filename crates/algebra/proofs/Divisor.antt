@@ -3,8 +3,7 @@
 --   Gcd R a b g       == g divides a and b, and g = left·a + right·b for the two elements given, so that
 --                        every common divisor divides g; of 0 and 0 it is 0
 --   Lcm R a b m       == a and b divide m, and m divides whatever both divide
---   CommonFactor a b g k
---                     == the monic polynomial g of positive degree k divides the polynomials a and b
+--   Factor f g k      == the monic polynomial g of positive degree k divides f
 --   gcd               == polynomials over a field have a greatest common divisor
 --   monic-gcd         == a monic one, where not both are 0
 --   gcd-unique        == there is at most one monic greatest common divisor
@@ -172,11 +171,10 @@ module _ {K : Type 0} {R : Ring K} {D : Discrete K} where
   open Ring (polynomials R D) using (_⊗_ as _⊠_)
 
   infixl 70 _⊠_
-  pub record CommonFactor (a b g : Polynomial R D) (k : ℕ) : Type 0 where
+  pub record Factor (f g : Polynomial R D) (k : ℕ) : Type 0 where
     pub monic : Monic g k
     pub positive : 0 < k
-    pub divides-left : Divides (polynomials R D) g a
-    pub divides-right : Divides (polynomials R D) g b
+    pub divides : Divides (polynomials R D) g f
 
   pub gcd-unique :
       Nontrivial R
@@ -306,26 +304,20 @@ module _ {K : Type 0} {R : Ring K} {D : Discrete K} (F : Field R) where
   pub coprime-or-common :
       (a b : Polynomial R D)
       → ¬ ((a ≡ 0ₚ) × (b ≡ 0ₚ))
-      → Coprime (polynomials R D) a b ⊎ ((g : Polynomial R D) × (k : ℕ) × CommonFactor a b g k)
+      → Coprime (polynomials R D) a b ⊎ ((g : Polynomial R D) × (k : ℕ) × Factor a g k × Factor b g k)
   coprime-or-common a b h = let (g, k, m, p) = monic-gcd a b h in go k m p
     where
       go :
           {g : Polynomial R D} (k : ℕ)
           → Monic g k
           → Gcd (polynomials R D) a b g
-          → Coprime (polynomials R D) a b ⊎ ((g : Polynomial R D) × (k : ℕ) × CommonFactor a b g k)
+          → Coprime (polynomials R D) a b ⊎ ((g : Polynomial R D) × (k : ℕ) × Factor a g k × Factor b g k)
       go zero m p =
           inl (gcd-coprime (polynomials R D) (subst (Gcd (polynomials R D) a b) (monic-degree-zero m) p))
-      go {g} (suc k) m p = inr (
-        g,
-        suc k,
-        record {
-          monic = m;
-          positive = omega arith;
-          divides-left = p .divides-left;
-          divides-right = p .divides-right;
-        },
-      )
+      go {g} (suc k) m p = inr (g, suc k, factor (p .divides-left), factor (p .divides-right))
+        where
+          factor : {f : Polynomial R D} → Divides (polynomials R D) g f → Factor f g (suc k)
+          factor d = record { monic = m; positive = omega arith; divides = d }
 
   pub monic-lcm :
       {a b : Polynomial R D} {m n : ℕ}
