@@ -1,2 +1,252 @@
--- Fields with finitely many elements: powers of a residue modulo an irreducible polynomial.
+-- Fields with finitely many elements: the residues modulo an irreducible polynomial, and their powers.
+--
+--   Elements all          == the list all has every element of its type, each once
+--   polynomials-below R D all d
+--                         == the list of all polynomials below d with coefficients from the list all: for
+--                            d = 0 the polynomial 0 alone
+--   below-residues        == modulo a monic polynomial of degree d, the polynomials below d are a complete
+--                            system of residues
+--   polynomial-power      == over a field of q elements, f irreducible of degree d: f divides h^(q^d-1) - 1
+--                            for every h that f does not divide
+--   element-power         == a^(q-1) = 1 for each a other than 0 in a field of q elements
+--
 -- Assumes nothing.
+use mathlib.Core.Path.{_≡_, refl, sym, ap, ap₂, subst, _∙_}
+use mathlib.Core.Logic.{_↔_, ∥∥₁-elim}
+use mathlib.Core.List.{List, [], _∷_, map, flatMap, product, List·Nodup}
+use mathlib.Core.List.{List·Mem, List·Memᴰ·head, mem-map, mem-map-of-mem, mem-singleton}
+use mathlib.Mathlib.Data.List.ProdSigma.{mem-product}
+use mathlib.Mathlib.Data.List.Nodup as Nodup
+use lib.ListN.{length, length-map, length-append}
+use Prim.Native.Nat.{ℕ, zero, suc, _+_, _*_, _-_, _^_, _≤_, _<_, suc-le-suc}
+use native.Mathlib.Nat as ℕ
+use native.Mathlib.Omega.{arith}
+use Rattle.algebra.proofs.Ring.{Ring, Field, zero-add, sub-unique, eq-of-sub-zero, mul-zero, mul-eq-zero}
+use Rattle.algebra.proofs.Solver.{solve, _:=_, _:+_, _:*_, :0}
+use Rattle.algebra.proofs.Power.{power}
+use Rattle.algebra.proofs.Ideal.{Divides, Atom}
+use Rattle.algebra.proofs.Polynomial.{
+  Polynomial,
+  polynomials,
+  polynomial-ext,
+  polynomial-discrete,
+  polynomial-induction,
+  coefficient,
+  coefficient-add,
+  coefficient-constant-zero,
+  coefficient-constant-suc,
+  coefficient-x-mul-zero,
+  coefficient-x-mul-suc,
+  constant,
+  constant-polynomial-hom,
+  X,
+  Below,
+  below-zero,
+}
+use Rattle.algebra.proofs.Monic.{Monic, below-of-zero, below-add, below-neg, monic-one, monic-degree}
+use Rattle.algebra.proofs.Division.{divide, divides-below, divisor-degree}
+use Rattle.algebra.proofs.Residues.{Residues, PrimeIdeal, atom-prime, residue-power}
+use Rattle.algebra.proofs.PrimeField.{elements, elements-complete, elements-once}
+
+pub record Elements {K : Type 0} (all : List K) : Type 0 where
+  pub complete : (a : K) → List·Mem a all
+  pub once : List·Nodup all
+
+pub prime-elements : (p : ℕ) → Elements (elements p)
+prime-elements p = record { complete = λ a. ∣ elements-complete a ∣₁; once = elements-once p }
+
+-- Pairs
+length-pairs : {A B : Type 0} (xs : List A) (ys : List B) → length (product xs ys) ≡ length xs * length ys
+unfolding product flatMap
+length-pairs [] ys = sym (ℕ.zero-mul (length ys))
+length-pairs {A} {B} (x ∷ xs) ys =
+    length-append (map (λ b. (x, b)) ys) (product xs ys)
+    ∙ ap₂ _+_ (length-map ys (λ b. (x, b))) (length-pairs xs ys)
+    ∙ ℕ.add-comm (length ys) (length xs * length ys)
+    ∙ sym (ℕ.suc-mul (length xs) (length ys))
+
+-- The polynomials below d: those below d + 1 are a + x·f with f below d
+module _ {K : Type 0} (R : Ring K) (D : Discrete K) where
+  open Ring R using (0#, _⊕_, add-zero)
+  open Ring (polynomials R D) using (0# as 0ₚ, _⊕_ as _⊞_, _⊗_ as _⊠_, ⊖_ as ⊟_)
+
+  infixl 60 _⊕_ _⊞_
+  infixl 70 _⊠_
+  infix 80 ⊟_
+  attach : K × Polynomial R D → Polynomial R D
+  attach e = constant R D (e .0) ⊞ X R D ⊠ e .1
+
+  attach-first : (a : K) (f : Polynomial R D) → coefficient (attach (a, f)) 0 ≡ a
+  unfolding attach
+  attach-first a f =
+      coefficient-add (constant R D a) (X R D ⊠ f) 0
+      ∙ ap₂ _⊕_ (coefficient-constant-zero R D a) (coefficient-x-mul-zero f)
+      ∙ add-zero a
+
+  attach-rest : (a : K) (f : Polynomial R D) (n : ℕ) → coefficient (attach (a, f)) (suc n) ≡ coefficient f n
+  unfolding attach
+  attach-rest a f n =
+      coefficient-add (constant R D a) (X R D ⊠ f) (suc n)
+      ∙ ap₂ _⊕_ (coefficient-constant-suc R D a n) (coefficient-x-mul-suc f n)
+      ∙ zero-add R (coefficient f n)
+
+  detach : (f : Polynomial R D) → (e : K × Polynomial R D) × (attach e ≡ f)
+  unfolding attach
+  detach =
+      polynomial-induction R D (λ f. (e : K × Polynomial R D) × (attach e ≡ f))
+      ((0#, 0ₚ), zero)
+      (λ a f _. ((a, f), refl))
+    where
+      zero : constant R D 0# ⊞ X R D ⊠ 0ₚ ≡ 0ₚ
+      zero =
+          rw (constant-polynomial-hom R D .zero)
+          (solve (polynomials R D) 1 (λ x. :0 :+ x :* :0 := :0) refl (X R D))
+
+  attach-injective : (e e′ : K × Polynomial R D) → attach e ≡ attach e′ → e ≡ e′
+  attach-injective e e′ p = λ i. (first i, rest i)
+    where
+      first : e .0 ≡ e′ .0
+      first = sym (attach-first (e .0) (e .1)) ∙ ap (λ f. coefficient f 0) p ∙ attach-first (e′ .0) (e′ .1)
+
+      rest : e .1 ≡ e′ .1
+      rest =
+          polynomial-ext
+          (
+          λ n.
+          sym (attach-rest (e .0) (e .1) n)
+          ∙ ap (λ f. coefficient f (suc n)) p
+          ∙ attach-rest (e′ .0) (e′ .1) n
+          )
+
+  attach-below : (a : K) {f : Polynomial R D} {n : ℕ} → Below f n ↔ Below (attach (a, f)) (suc n)
+  attach-below a {f} {n} = (
+    λ b. record { above = elim [ zero ↦ λ l. absurd (ℕ.not-suc-le-zero l) | suc i ↦ at-suc b i ] },
+    λ b. record { above = λ i l. sym (attach-rest a f i) ∙ b .above (suc i) (suc-le-suc l) },
+  )
+    where
+      at-suc : Below f n → (i : ℕ) → suc n ≤ suc i → coefficient (attach (a, f)) (suc i) ≡ 0#
+      at-suc b i l = attach-rest a f i ∙ b .above i (ℕ.le-of-suc-le-suc l)
+
+  below-prop : (f : Polynomial R D) (n : ℕ) → IsProp (Below f n)
+  below-prop f n b c = λ i. record { above = λ j l. R .isSet _ _ (b .above j l) (c .above j l) i }
+
+  module _ (all : List K) where
+    pub polynomials-below : ℕ → List (Polynomial R D)
+    polynomials-below zero = 0ₚ ∷ []
+    polynomials-below (suc d) = map attach (product all (polynomials-below d))
+
+    pub polynomials-below-length : (d : ℕ) → length (polynomials-below d) ≡ length all ^ d
+    unfolding polynomials-below
+    polynomials-below-length zero = sym (ℕ.pow-zero (length all))
+    polynomials-below-length (suc d) =
+        length-map (product all (polynomials-below d)) attach
+        ∙ length-pairs all (polynomials-below d)
+        ∙ ap (_*_ (length all)) (polynomials-below-length d)
+        ∙ sym (ℕ.pow-succ' (length all) d)
+
+    pub polynomials-below-sound : (d : ℕ) {f : Polynomial R D} → List·Mem f (polynomials-below d) → Below f d
+    unfolding polynomials-below
+    polynomials-below-sound zero m = rw (mem-singleton (polynomials R D .isSet) .0 m) (below-of-zero R D 0)
+    polynomials-below-sound (suc d) {f} m =
+        ∥∥₁-elim
+        (mem-map {f = attach} {l = product all (polynomials-below d)} .0 m)
+        (below-prop f (suc d))
+        (
+        λ w.
+        let b = polynomials-below-sound d (mem-product {l₁ = all} .0 (w .1) .1) in
+        subst (λ g. Below g (suc d)) (w .2) (attach-below (w .0 .0) .0 b)
+        )
+
+    module _ (E : Elements all) where
+      pub polynomials-below-complete :
+          (d : ℕ) {f : Polynomial R D} → Below f d → List·Mem f (polynomials-below d)
+      unfolding polynomials-below
+      polynomials-below-complete zero b = ∣ List·Memᴰ·head (below-zero b) ∣₁
+      polynomials-below-complete (suc d) {f} b =
+          let (e, p) = detach f in
+          let c : Below (e .1) d = attach-below (e .0) .1 (rw p b) in
+          subst
+          (λ g. List·Mem g (polynomials-below (suc d)))
+          p
+          (mem-map-of-mem attach (mem-product .1 (E .complete (e .0), polynomials-below-complete d c)))
+
+      pub polynomials-below-once : (d : ℕ) → List·Nodup (polynomials-below d)
+      unfolding polynomials-below
+      polynomials-below-once zero = Nodup.nodup-singleton 0ₚ
+      polynomials-below-once (suc d) =
+          Nodup.map attach-injective (Nodup.product (E .once) (polynomials-below-once d))
+
+  module _ {all : List K} (E : Elements all) {f : Polynomial R D} {d : ℕ} (m : Monic f d) where
+    difference-below :
+        {a b : Polynomial R D}
+        → List·Mem a (polynomials-below all d)
+        → List·Mem b (polynomials-below all d)
+        → Below (a ⊞ ⊟ b) d
+    difference-below i j =
+        below-add (polynomials-below-sound all d i) (below-neg (polynomials-below-sound all d j))
+
+    pub below-residues : Residues (polynomials R D) (Divides (polynomials R D) f) (polynomials-below all d)
+    below-residues =
+        record {
+          reduce = λ h. divide m h .remainder;
+          member = λ h. polynomials-below-complete all E d (divide m h .small);
+          congruent =
+              λ h.
+              record {
+                quotient = divide m h .quotient;
+                equation = sym (sub-unique (polynomials R D) (sym (divide m h .equation)));
+              };
+          once = polynomials-below-once all E d;
+          apart = λ a b e. eq-of-sub-zero (polynomials R D) (divides-below m e (difference-below a b));
+        }
+
+-- Over a field of q elements
+module _ {K : Type 0} {R : Ring K} (F : Field R) {all : List K} (E : Elements all) where
+  open Ring R using (0#, 1#, _⊕_, _⊗_, ⊖_)
+
+  infixl 60 _⊕_
+  infixl 70 _⊗_
+  infix 80 ⊖_
+  zero-prime : PrimeIdeal R (λ a. a ≡ 0#)
+  zero-prime = record {
+    ideal = record {
+      has-zero = refl;
+      sum = λ e e′. ap₂ _⊕_ e e′ ∙ R .add-zero 0#;
+      multiple = λ q e. ap (_⊗_ q) e ∙ mul-zero R q;
+    };
+    proper = F .one-nonzero;
+    factor = mul-eq-zero F;
+  }
+
+  zero-residues : Residues R (λ a. a ≡ 0#) all
+  zero-residues = record {
+    reduce = λ a. a;
+    member = E .complete;
+    congruent = R .add-neg;
+    once = E .once;
+    apart = λ _ _. eq-of-sub-zero R;
+  }
+
+  pub element-power : {a : K} → ¬ (a ≡ 0#) → power R a (length all - 1) ≡ 1#
+  element-power h = eq-of-sub-zero R (residue-power R zero-prime (F .discrete) zero-residues h)
+
+  module _ {D : Discrete K} where
+    open Ring (polynomials R D) using (1# as 1ₚ, _⊕_ as _⊞_, ⊖_ as ⊟_)
+
+    infixl 60 _⊞_
+    infix 80 ⊟_
+    pub polynomial-power : {f h : Polynomial R D} {d : ℕ}
+        → Atom (polynomials R D) f → Monic f d → 0 < d → ¬ Divides (polynomials R D) f h
+        → Divides (polynomials R D) f (power (polynomials R D) h (length all ^ d - 1) ⊞ ⊟ 1ₚ)
+    polynomial-power {f} {h} {d} atom m l k =
+        subst
+        (λ n. Divides (polynomials R D) f (power (polynomials R D) h (n - 1) ⊞ ⊟ 1ₚ))
+        (polynomials-below-length R D all d)
+        (residue-power (polynomials R D) prime polynomial-discrete (below-residues R D E m) k)
+      where
+        proper : ¬ Divides (polynomials R D) f 1ₚ
+        proper e =
+            let z : d ≤ 0 = divisor-degree m (monic-degree (F .one-nonzero) (monic-one R D)) e in omega arith
+
+        prime : PrimeIdeal (polynomials R D) (Divides (polynomials R D) f)
+        prime = atom-prime (polynomials R D) atom proper

@@ -2,6 +2,7 @@
 --
 --   product R xs        == the product of the members of the list xs; 1# for the empty list
 --   PrimeIdeal R I      == the ideal I does not hold 1#, and holds a product only where it holds a factor
+--   atom-prime          == the multiples of an atom that is no unit form a prime ideal
 --   Residues R I xs     == the list xs is a complete system of residues modulo I: each element of the ring
 --                          differs from exactly one member of xs by an element of I, and no member is there
 --                          twice; `reduce a` is that member for a
@@ -24,7 +25,7 @@ use native.Mathlib.Nat.{ℕ-set}
 use native.Mathlib.Omega.{arith}
 use Rattle.algebra.proofs.Ring.{Ring, mul-left-comm, mul-sub, sub-mul, one-mul}
 use Rattle.algebra.proofs.Power.{power, power-zero, power-suc}
-use Rattle.algebra.proofs.Ideal.{Ideal}
+use Rattle.algebra.proofs.Ideal.{Ideal, Divides, Atom, multiples-ideal, atom-product}
 use Rattle.algebra.proofs.Solver.{solve, _:=_, _:+_, _:*_, :-_, :1}
 
 -- Lists without repetition
@@ -81,9 +82,16 @@ module _ {K : Type 0} (R : Ring K) where
   pub record Residues (I : K → Type 0) (xs : List K) : Type 0 where
     pub reduce : K → K
     pub member : (a : K) → List·Mem (reduce a) xs
-    pub congruent : (a : K) → I (reduce a ⊕ ⊖ a)
+    pub congruent : (a : K) → I (a ⊕ ⊖ reduce a)
     pub once : List·Nodup xs
     pub apart : {a b : K} → List·Mem a xs → List·Mem b xs → I (a ⊕ ⊖ b) → a ≡ b
+
+  pub atom-prime : {f : K} → Atom R f → ¬ Divides R f 1# → PrimeIdeal (Divides R f)
+  atom-prime {f} atom proper = record {
+    ideal = multiples-ideal R f;
+    proper = proper;
+    factor = atom-product R atom;
+  }
 
   -- Congruence modulo an ideal
   module _ {I : K → Type 0} (ideal : Ideal R I) where
@@ -150,7 +158,7 @@ module _ {K : Type 0} (R : Ring K) where
       outside-once = Nodup·sublist (erase-sublist discrete (reduce 0#)) once
 
       zero-inside : I (reduce 0#)
-      zero-inside = congruent-member ideal (congruent 0#) (ideal .has-zero)
+      zero-inside = congruent-member ideal (congruent-sym ideal (congruent 0#)) (ideal .has-zero)
 
       outside-member : {a : K} → List·Mem a outside → List·Mem a xs
       unfolding outside
@@ -166,7 +174,7 @@ module _ {K : Type 0} (R : Ring K) where
       unfolding outside
       not-outside a h =
           Nodup·mem-erase-iff discrete once .1 (
-            λ e. h (congruent-member ideal (congruent-sym ideal (congruent a)) (subst I (sym e) zero-inside)),
+            λ e. h (congruent-member ideal (congruent a) (subst I (sym e) zero-inside)),
             member a,
           )
 
@@ -189,8 +197,8 @@ module _ {K : Type 0} (R : Ring K) where
                 (
                 congruent-trans
                 ideal
-                (congruent-sym ideal (congruent (h ⊗ a)))
-                (subst (λ c. I (c ⊕ ⊖ (h ⊗ b))) (sym e) (congruent (h ⊗ b)))
+                (congruent (h ⊗ a))
+                (rw e (congruent-sym ideal (congruent (h ⊗ b))))
                 )
 
         steps-permute : Perm (map step outside) outside
@@ -202,15 +210,11 @@ module _ {K : Type 0} (R : Ring K) where
 
         product-step : I (power R h (length outside) ⊗ product outside ⊕ ⊖ product outside)
         product-step =
-            congruent-sym
-            ideal
-            (
             subst₂
             (λ a b. I (a ⊕ ⊖ b))
-            (product-perm steps-permute)
             (product-multiples h outside)
+            (product-perm steps-permute)
             (product-congruent ideal (λ a. congruent (h ⊗ a)) outside)
-            )
 
         pub residue-power : I (power R h (length xs - 1) ⊕ ⊖ 1#)
         residue-power = elim (factor difference) [
