@@ -1,2 +1,295 @@
--- Powers of an irreducible polynomial that annihilate a periodic sequence.
+-- Powers of an irreducible polynomial in an ideal that contains x^N − 1.
+--
+--   Valuation p N w M    == N = p^w·M and p does not divide M: w is the p-adic valuation of N; N is not 0
+--   unity-power          == (x^M − 1)^(p^w) = x^(p^w·M) − 1 in characteristic p
+--   atom-power-lowers    == if t is squarefree, and t^n and some power of the atom f are in an ideal, f^n is
+--   atom-divides-base    == if the ideal is not the whole ring, f divides t then
+--   period-power         == in characteristic p, if x^N − 1 and any power of the atom f are in an ideal, so
+--                           is f^(p^w), where w is the valuation of N
+--   period-least         == so the least such power is at most p^w, and p^w ≤ N by `valuation-le`
+--   period-divides       == if the ideal is not the whole ring, f divides x^M − 1
+--   period-size          == so p^w times the degree of f is at most N
+--   period-constant-term == and the constant term of f is not 0, in any characteristic: f is not x
+--
 -- Assumes nothing.
+use mathlib.Core.Path.{_≡_, sym, ap, ap₂, subst, _∙_}
+use mathlib.Core.Logic.{inl, inr}
+use Prim.Native.Nat.{ℕ, zero, suc, _*_, _^_, _∣_, _≤_, _<_}
+use native.Mathlib.Nat as ℕ
+use native.Mathlib.Omega.{arith}
+use Rattle.algebra.proofs.Number.{Least, Prime, prime-inverse, split-power}
+use Rattle.algebra.proofs.Ring.{Ring, zero-add, mul-zero, neg-injective, neg-zero}
+use Rattle.algebra.proofs.Multiple.{numeral, numeral-mul, numeral-one}
+use Rattle.algebra.proofs.Characteristic.{Characteristic, numeral-mod}
+use Rattle.algebra.proofs.Power.{power, power-mul, power-power, power-suc-left, power-unit, power-one}
+use Rattle.algebra.proofs.Ideal.{
+  Ideal,
+  Divides,
+  Coprime,
+  Atom,
+  divides-mul,
+  divides-refl,
+  divides-member,
+  one-member,
+  coprime-member,
+  coprime-power,
+}
+use Rattle.algebra.proofs.Polynomial.{
+  Polynomial,
+  below-weaken,
+  polynomials,
+  coefficient,
+  coefficient-add,
+  coefficient-neg,
+  coefficient-one-zero,
+  coefficient-mul-zero,
+  coefficient-x-mul-zero,
+  X,
+  constant,
+  constant-polynomial-hom,
+}
+use Rattle.algebra.proofs.Monic.{
+  Monic,
+  Nontrivial,
+  monic-one,
+  monic-x-power,
+  monic-add-below,
+  monic-degree,
+  below-neg,
+}
+use Rattle.algebra.proofs.Division.{divisor-degree}
+use Rattle.algebra.proofs.Frobenius.{frobenius, polynomial-characteristic}
+use Rattle.algebra.proofs.Derivative.{Squarefree, unity, unity-squarefree}
+
+pub record Valuation (p N w M : ℕ) : Type 0 where
+  pub product : N ≡ p ^ w * M
+  pub rest : ¬ (p ∣ M)
+
+pub valuation : {p : ℕ} → Prime p → (N : ℕ) → 0 < N → (w M : ℕ) × Valuation p N w M
+valuation {p} P N pos =
+    let (w, M, e, h) = split-power p (P .large) N pos in (w, M, record { product = e; rest = h })
+
+pub valuation-rest-pos : {p N w M : ℕ} → Valuation p N w M → 0 < M
+valuation-rest-pos {p} {M = M} v = go M (v .rest)
+  where
+    go : (m : ℕ) → ¬ (p ∣ m) → 0 < m
+    go zero h = absurd (h (ℕ.dvd-zero p))
+    go (suc m) h = omega arith
+
+pub valuation-le : {p N w M : ℕ} → Valuation p N w M → p ^ w ≤ N
+valuation-le {p} {w = w} v =
+    omega (arith, v .product, ℕ.le-mul-of-pos-right (p ^ w) (valuation-rest-pos v))
+
+-- In any ring with any ideal.
+module _ {K : Type 0} (R : Ring K) {I : K → Type 0} (ideal : Ideal R I) {f : K} (atom : Atom R f) where
+  open Ring R using (0#, 1#, _⊕_, _⊗_, mul-one, mul-comm, mul-assoc)
+  open Ideal ideal using (multiple)
+
+  infixl 60 _⊕_
+  infixl 70 _⊗_
+  coprime-whole : {t : K} → Coprime R f t → (n e : ℕ) → I (power R t n) → I (power R f e) → I 1#
+  coprime-whole p n e a b =
+      coprime-member R ideal (coprime-power R p e n) (rw mul-one b) (rw mul-one a)
+
+  -- t = q·f with q coprime to f.
+  cofactor-lowers :
+      {t : K} (d : Divides R f t)
+      → Coprime R f (d .quotient)
+      → (n e : ℕ)
+      → I (power R t n)
+      → I (power R f e)
+      → I (power R f n)
+  cofactor-lowers d p n e a b =
+      coprime-member
+      R
+      ideal
+      (coprime-power R p e n)
+      (rw mul-comm (multiple (power R f n) b))
+      (rw (← power-mul, ← d .equation) a)
+
+  unit-whole : Divides R f 1# → (e : ℕ) → I (power R f e) → I 1#
+  unit-whole d e b =
+      divides-member
+      R
+      ideal
+      (record { quotient = power R (d .quotient) e; equation = sym (power-unit R e (sym (d .equation))) })
+      b
+
+  pub atom-power-lowers :
+      {t : K} → Squarefree R t → (n e : ℕ) → I (power R t n) → I (power R f e) → I (power R f n)
+  atom-power-lowers {t} free n e a b = elim (atom t) [
+    | inr p ↦ one-member R ideal (power R f n) (coprime-whole p n e a b)
+    | inl d ↦ elim (atom (d .quotient)) [
+      | inr p ↦ cofactor-lowers d p n e a b
+      | inl c ↦
+          let square : Divides R (f ⊗ f) t = rw (d .equation) (divides-mul R c (divides-refl R f)) in
+          one-member R ideal (power R f n) (unit-whole (free f square) e b)
+    ]
+  ]
+
+  pub atom-divides-base :
+      ¬ I 1# → {t : K} (n e : ℕ) → I (power R t n) → I (power R f e) → Divides R f t
+  atom-divides-base proper {t} n e a b = elim (atom t) [
+    | inl d ↦ d
+    | inr p ↦ absurd (proper (coprime-whole p n e a b))
+  ]
+
+-- In a ring of characteristic p.
+module _ {K : Type 0} {R : Ring K} {p : ℕ} (C : Characteristic R p) where
+  open Ring R using (0#, 1#, _⊕_, _⊗_, ⊖_)
+
+  infixl 60 _⊕_
+  infixl 70 _⊗_
+  infix 80 ⊖_
+  -- A number that p does not divide is invertible.
+  pub numeral-unit : (n : ℕ) → ¬ (p ∣ n) → (c : K) × (numeral R n ⊗ c ≡ 1#)
+  numeral-unit n h =
+      let (x, e) = prime-inverse (C .prime) n h in (
+        numeral R x,
+        sym (numeral-mul R n x) ∙ sym (numeral-mod C (n * x)) ∙ ap (numeral R) e ∙ numeral-one R,
+      )
+
+  pub unity-power : (x : K) (w n : ℕ) → power R (unity R x n) (p ^ w) ≡ unity R x (p ^ w * n)
+  unity-power x w n =
+      frobenius C w .add (power R x n) (⊖ 1#)
+      ∙ ap₂
+      _⊕_
+      (power-power R x n (p ^ w) ∙ ap (power R x) (ℕ.mul-comm n (p ^ w)))
+      (frobenius C w .neg 1# ∙ ap ⊖_ (frobenius C w .one))
+
+-- The polynomial x^n − 1.
+module _ {K : Type 0} (R : Ring K) (D : Discrete K) where
+  open Ring R using (0#, 1#, _⊕_, _⊗_, ⊖_)
+  open Ring (polynomials R D) using (1# as 1ₚ, _⊕_ as _⊞_, _⊗_ as _⊠_, ⊖_ as ⊟_)
+
+  infixl 60 _⊕_ _⊞_
+  infixl 70 _⊗_ _⊠_
+  infix 80 ⊖_ ⊟_
+  pub unity-monic : (n : ℕ) → 0 < n → Monic (unity (polynomials R D) (X R D) n) n
+  unity-monic n pos =
+      monic-add-below (monic-x-power n) (below-neg (below-weaken (monic-one R D .below) pos))
+
+  pub x-constant-term : coefficient (X R D) 0 ≡ 0#
+  x-constant-term =
+      ap (λ f. coefficient f 0) (sym (polynomials R D .mul-one (X R D))) ∙ coefficient-x-mul-zero 1ₚ
+
+  pub unity-constant-term : (n : ℕ) → 0 < n → coefficient (unity (polynomials R D) (X R D) n) 0 ≡ ⊖ 1#
+  unity-constant-term zero pos = absurd (omega arith)
+  unity-constant-term (suc n) pos =
+      coefficient-add (power (polynomials R D) (X R D) (suc n)) (⊟ 1ₚ) 0
+      ∙ ap₂
+      _⊕_
+      (
+      ap (λ f. coefficient f 0) (power-suc-left (polynomials R D) (X R D) n)
+      ∙ coefficient-x-mul-zero (power (polynomials R D) (X R D) n)
+      )
+      (coefficient-neg 1ₚ 0 ∙ ap ⊖_ (coefficient-one-zero R D))
+      ∙ zero-add R (⊖ 1#)
+
+  pub unity-divisor-constant-term :
+      Nontrivial R
+      → (n : ℕ)
+      → 0 < n
+      → {f : Polynomial R D}
+      → Divides (polynomials R D) f (unity (polynomials R D) (X R D) n)
+      → ¬ (coefficient f 0 ≡ 0#)
+  unity-divisor-constant-term h n pos {f} d z = h (neg-injective R (last ∙ sym (neg-zero R)))
+    where
+      last : ⊖ 1# ≡ 0#
+      last =
+          sym (unity-constant-term n pos)
+          ∙ ap (λ g. coefficient g 0) (d .equation)
+          ∙ coefficient-mul-zero (d .quotient) f
+          ∙ ap (_⊗_ (coefficient (d .quotient) 0)) z
+          ∙ mul-zero R (coefficient (d .quotient) 0)
+
+-- Ideals of polynomials that contain x^N − 1.
+module _
+    {K : Type 0} {R : Ring K} {D : Discrete K} {I : Polynomial R D → Type 0}
+    (ideal : Ideal (polynomials R D) I)
+  where
+    open Ring R using (0#, 1#)
+    open Ring (polynomials R D) using (0# as 0ₚ, 1# as 1ₚ)
+
+    proper-nontrivial : ¬ I 1ₚ → Nontrivial R
+    proper-nontrivial proper e = proper (subst I (sym same) (ideal .has-zero))
+      where
+        same : 1ₚ ≡ 0ₚ
+        same =
+            sym (constant-polynomial-hom R D .one)
+            ∙ ap (constant R D) e
+            ∙ constant-polynomial-hom R D .zero
+
+    pub period-constant-term :
+        {f : Polynomial R D} → Atom (polynomials R D) f
+        → ¬ I 1ₚ
+        → (N e : ℕ)
+        → 0 < N
+        → I (unity (polynomials R D) (X R D) N)
+        → I (power (polynomials R D) f e)
+        → ¬ (coefficient f 0 ≡ 0#)
+    period-constant-term atom proper N e pos a b =
+        unity-divisor-constant-term R D (proper-nontrivial proper) N pos
+        (atom-divides-base (polynomials R D) ideal atom proper 1 e (rw power-one a) b)
+
+    pub period-not-x :
+        {f : Polynomial R D} → Atom (polynomials R D) f
+        → ¬ I 1ₚ
+        → (N e : ℕ)
+        → 0 < N
+        → I (unity (polynomials R D) (X R D) N)
+        → I (power (polynomials R D) f e)
+        → ¬ (f ≡ X R D)
+    period-not-x atom proper N e pos a b z =
+        period-constant-term atom proper N e pos a b (ap (λ g. coefficient g 0) z ∙ x-constant-term R D)
+
+    -- In characteristic p.
+    module _
+        {p N w M : ℕ} (C : Characteristic R p) (v : Valuation p N w M)
+        (periodic : I (unity (polynomials R D) (X R D) N)) {f : Polynomial R D}
+        (atom : Atom (polynomials R D) f)
+      where
+        base-power : I (power (polynomials R D) (unity (polynomials R D) (X R D) M) (p ^ w))
+        base-power =
+            subst
+            I
+            (
+            ap (unity (polynomials R D) (X R D)) (v .product)
+            ∙ sym (unity-power (polynomial-characteristic C D) (X R D) w M)
+            )
+            periodic
+
+        base-squarefree : Squarefree (polynomials R D) (unity (polynomials R D) (X R D) M)
+        base-squarefree = let (c, e) = numeral-unit C M (v .rest) in unity-squarefree R D M c e
+
+        pub period-power :
+            (e : ℕ) → I (power (polynomials R D) f e) → I (power (polynomials R D) f (p ^ w))
+        period-power e b =
+            atom-power-lowers (polynomials R D) ideal atom base-squarefree (p ^ w) e base-power b
+
+        pub period-least : {r : ℕ} → Least (λ k. I (power (polynomials R D) f k)) r → r ≤ p ^ w
+        period-least {r} least =
+            let m = period-power r (least .holds) in
+            let not-less : ¬ (p ^ w < r) = λ l. least .least (p ^ w) l m in
+            omega arith
+
+        pub period-divides :
+            ¬ I 1ₚ
+            → (e : ℕ)
+            → I (power (polynomials R D) f e)
+            → Divides (polynomials R D) f (unity (polynomials R D) (X R D) M)
+        period-divides proper e b =
+            atom-divides-base (polynomials R D) ideal atom proper (p ^ w) e base-power b
+
+        pub period-degree :
+            ¬ I 1ₚ → {n : ℕ} → Monic f n → (e : ℕ) → I (power (polynomials R D) f e) → n ≤ M
+        period-degree proper {n} m e b =
+            divisor-degree
+            m
+            (monic-degree (proper-nontrivial proper) (unity-monic R D M (valuation-rest-pos v)))
+            (period-divides proper e b)
+
+        pub period-size :
+            ¬ I 1ₚ → {n : ℕ} → Monic f n → (e : ℕ) → I (power (polynomials R D) f e) → p ^ w * n ≤ N
+        period-size proper {n} m e b =
+            omega (arith, v .product, ℕ.mul-le-mul-left (p ^ w) (period-degree proper m e b))
