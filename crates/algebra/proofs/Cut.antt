@@ -1,2 +1,224 @@
--- Cutting a sequence at a place.
+-- Cutting a sequence at a place, and sequences with a period.
+--
+--   cut s k            == the sequence s from its place k on
+--   kills-cut          == h annihilates s from place k on exactly where x^k·h annihilates s
+--   coprime-x          == over a field, a polynomial with a constant term other than 0 is coprime to x
+--   cut-kills          == where some polynomial coprime to x annihilates s, the same polynomials annihilate s
+--                         and s from any place on
+--   cut-minimal        == and so both have the same minimal polynomial
+--   Periodic s n       == s repeats every n terms; every sequence repeats every 0 terms
+--   periodic-kills     == s repeats every n terms exactly where x^n − 1 annihilates it
+--   periodic-places    == a polynomial whose action on s vanishes at the n places of a period annihilates s
+--
+-- x^n − 1 is `unity` of Derivative; it is coprime to x for n above 0 (`coprime-unity`), so that a sequence
+-- with a period may be cut anywhere.
 -- Assumes nothing.
+use mathlib.Core.Path.{_≡_, refl, sym, ap, ap₂, _∙_}
+use mathlib.Core.Logic.{_↔_}
+use Prim.Native.Nat.{ℕ, zero, suc, _+_, _*_, _/_, _%_, _<_}
+use native.Mathlib.Nat as ℕ
+use native.Mathlib.Omega.{arith}
+use Rattle.algebra.proofs.Ring.{Ring, Field}
+use Rattle.algebra.proofs.Ring.{inverse-mul, sub-zero-of-eq, eq-of-sub-zero}
+use Rattle.algebra.proofs.Power.{power, power-suc}
+use Rattle.algebra.proofs.Solver.{solve, _:=_, _:+_, _:*_, :-_, :1}
+use Rattle.algebra.proofs.Ideal.{Coprime, coprime-member, coprime-sym, coprime-power-right}
+use Rattle.algebra.proofs.Polynomial.{
+  Polynomial,
+  polynomials,
+  polynomial-induction,
+  coefficient,
+  coefficient-zero,
+  coefficient-add,
+  coefficient-constant-zero,
+  coefficient-x-mul-zero,
+  constant,
+  constant-polynomial-hom,
+  X,
+  below-length,
+}
+use Rattle.algebra.proofs.Action.{
+  act,
+  act-local,
+  act-shift,
+  act-sub,
+  act-one,
+  act-x-power,
+  act-x-power-mul,
+  Agree,
+  Kills,
+}
+use Rattle.algebra.proofs.Annihilator.{kills-ideal, Minimal}
+use Rattle.algebra.proofs.Derivative.{unity}
+
+-- In any ring, x is coprime to x^n − 1 for n above 0.
+pub coprime-unity : {K : Type 0} (R : Ring K) (x : K) (n : ℕ) → 0 < n → Coprime R x (unity R x n)
+coprime-unity R x zero l = absurd (ℕ.lt-irrefl 0 l)
+coprime-unity R x (suc n) l =
+    record {
+      left = power R x n;
+      right = (R .⊖_) (R .1#);
+      bezout =
+          rw
+          (power-suc R x n)
+          (solve R 2 (λ x y. y :* x :+ :- :1 :* (y :* x :+ :- :1) := :1) refl x (power R x n));
+    }
+
+abbrev pub cut : {K : Type 0} → (ℕ → K) → ℕ → ℕ → K
+cut s k i = s (k + i)
+
+module _ {K : Type 0} {R : Ring K} {D : Discrete K} where
+  open Ring R using (0#)
+  open Ring (polynomials R D) using (_⊗_ as _⊠_)
+
+  infixl 70 _⊠_
+  pub kills-cut :
+      (s : ℕ → K) (k : ℕ) (h : Polynomial R D)
+      → Kills (cut s k) h ↔ Kills s (power (polynomials R D) (X R D) k ⊠ h)
+  kills-cut s k h = (
+    λ z. record { vanishes = λ i. act-x-power-mul k h s i ∙ sym (act-shift h s k i) ∙ z .vanishes i },
+    λ z. record { vanishes = λ i. act-shift h s k i ∙ sym (act-x-power-mul k h s i) ∙ z .vanishes i },
+  )
+
+  pub cut-of-kills : {s : ℕ → K} {h : Polynomial R D} (k : ℕ) → Kills s h → Kills (cut s k) h
+  cut-of-kills {s} {h} k z = record { vanishes = λ i. act-shift h s k i ∙ z .vanishes (k + i) }
+
+-- Where x does not divide some annihilator.
+module _ {K : Type 0} {R : Ring K} {D : Discrete K} (F : Field R) where
+  open Ring R using (0#, 1#, _⊗_, add-zero)
+  open Ring (polynomials R D) using (0# as 0ₚ, 1# as 1ₚ, _⊕_ as _⊞_, _⊗_ as _⊠_, ⊖_ as ⊟_)
+  open Field F using (inverse)
+
+  infixl 60 _⊞_
+  infixl 70 _⊗_ _⊠_
+  infix 80 ⊟_
+  coefficient-cons-zero : (a : K) (f : Polynomial R D) → coefficient (constant R D a ⊞ X R D ⊠ f) 0 ≡ a
+  coefficient-cons-zero a f =
+      coefficient-add (constant R D a) (X R D ⊠ f) 0
+      ∙ ap₂ (R ._⊕_) (coefficient-constant-zero R D a) (coefficient-x-mul-zero f)
+      ∙ add-zero a
+
+  constant-unit : (a : K) → ¬ (a ≡ 0#) → constant R D (inverse a) ⊠ constant R D a ≡ 1ₚ
+  constant-unit a h =
+      sym (constant-polynomial-hom R D .mul (inverse a) a)
+      ∙ ap (constant R D) (inverse-mul F a h)
+      ∙ constant-polynomial-hom R D .one
+
+  pub coprime-x : (f : Polynomial R D) → ¬ (coefficient f 0 ≡ 0#) → Coprime (polynomials R D) (X R D) f
+  coprime-x =
+      polynomial-induction
+      R
+      D
+      (λ f. ¬ (coefficient f 0 ≡ 0#) → Coprime (polynomials R D) (X R D) f)
+      (λ h. absurd (h (coefficient-zero R D 0)))
+      (λ a f _ h. step a f (λ z. h (coefficient-cons-zero a f ∙ z)))
+    where
+      step :
+          (a : K) (f : Polynomial R D)
+          → ¬ (a ≡ 0#)
+          → Coprime (polynomials R D) (X R D) (constant R D a ⊞ X R D ⊠ f)
+      step a f h =
+          record {
+            left = ⊟ (constant R D (inverse a) ⊠ f);
+            right = constant R D (inverse a);
+            bezout =
+                solve
+                (polynomials R D)
+                4
+                (λ x a b f. :- (b :* f) :* x :+ b :* (a :+ x :* f) := b :* a)
+                refl
+                (X R D)
+                (constant R D a)
+                (constant R D (inverse a))
+                f
+                ∙ constant-unit a h;
+          }
+
+-- The same annihilators and the same minimal polynomial from any place on.
+module _
+    {K : Type 0} {R : Ring K} {D : Discrete K} {s : ℕ → K} {f : Polynomial R D}
+    (kills : Kills s f) (coprime : Coprime (polynomials R D) (X R D) f)
+  where
+    coprime-x-power : (k : ℕ) → Coprime (polynomials R D) (power (polynomials R D) (X R D) k) f
+    coprime-x-power k =
+        coprime-sym
+        (polynomials R D)
+        (coprime-power-right (polynomials R D) (coprime-sym (polynomials R D) coprime) k)
+
+    pub cut-kills : (k : ℕ) (h : Polynomial R D) → Kills (cut s k) h ↔ Kills s h
+    cut-kills k h = (
+      λ z. coprime-member
+          (polynomials R D)
+          (kills-ideal s)
+          (coprime-x-power k)
+          (kills-cut s k h .0 z)
+          (rw (polynomials R D .mul-comm f h) (kills-ideal s .multiple h kills)),
+      λ z. cut-of-kills k z,
+    )
+
+    pub cut-minimal : (k : ℕ) (g : Polynomial R D) (n : ℕ) → Minimal (cut s k) g n ↔ Minimal s g n
+    cut-minimal k g n = (
+      λ x. record {
+        monic = x .monic;
+        kills = cut-kills k g .0 (x .kills);
+        least = λ h m a z. x .least h m a (cut-kills k h .1 z);
+      },
+      λ x. record {
+        monic = x .monic;
+        kills = cut-kills k g .1 (x .kills);
+        least = λ h m a z. x .least h m a (cut-kills k h .0 z);
+      },
+    )
+
+-- Sequences with a period.
+abbrev pub Periodic : {K : Type 0} → (ℕ → K) → ℕ → Type 0
+Periodic s n = (i : ℕ) → s (i + n) ≡ s i
+
+module _ {K : Type 0} {s : ℕ → K} (n : ℕ) (periodic : Periodic s n) where
+  pub periodic-multiple : (i m : ℕ) → s (i + m * n) ≡ s i
+  periodic-multiple i zero = ap s (omega arith)
+  periodic-multiple i (suc m) =
+      ap s (rw (ℕ.suc-mul m n) (omega arith)) ∙ periodic (i + m * n) ∙ periodic-multiple i m
+
+  pub periodic-remainder : (i : ℕ) → s (i % n) ≡ s i
+  periodic-remainder i = sym (periodic-multiple (i % n) (i / n)) ∙ ap s (ℕ.mod-add-div' i n)
+
+  -- What holds at the places of one period holds everywhere.
+  pub periodic-all : (a : K) → 0 < n → ((i : ℕ) → i < n → s i ≡ a) → (i : ℕ) → s i ≡ a
+  periodic-all a l h i = sym (periodic-remainder i) ∙ h (i % n) (ℕ.mod-lt i l)
+
+module _ {K : Type 0} {R : Ring K} {D : Discrete K} where
+  open Ring R using (0#, 1#, _⊕_, ⊖_)
+  open Ring (polynomials R D) using (1# as 1ₚ, _⊕_ as _⊞_, ⊖_ as ⊟_)
+
+  infixl 60 _⊕_ _⊞_
+  infix 80 ⊖_ ⊟_
+  pub periodic-act : (f : Polynomial R D) {s : ℕ → K} (n : ℕ) → Periodic s n → Periodic (act f s) n
+  periodic-act f {s} n h k =
+      act-local (below-length f) s s (k + n) k (λ i _. ap s (omega arith) ∙ h (k + i))
+
+  pub periodic-places :
+      (f : Polynomial R D) {s : ℕ → K} (n : ℕ)
+      → 0 < n
+      → Periodic s n
+      → Agree n (act f s) (λ _. 0#)
+      → Kills s f
+  periodic-places f n l h v = record { vanishes = periodic-all n (periodic-act f n h) 0# l v }
+
+module _ {K : Type 0} (R : Ring K) (D : Discrete K) where
+  open Ring R using (0#, 1#, _⊕_, ⊖_)
+  open Ring (polynomials R D) using (1# as 1ₚ)
+
+  infixl 60 _⊕_
+  infix 80 ⊖_
+  period-act : (s : ℕ → K) (n k : ℕ) → act (unity (polynomials R D) (X R D) n) s k ≡ s (k + n) ⊕ ⊖ s k
+  period-act s n k =
+      act-sub (power (polynomials R D) (X R D) n) 1ₚ s k
+      ∙ ap₂ (λ a b. a ⊕ ⊖ b) (act-x-power R D n s k ∙ ap s (ℕ.add-comm n k)) (act-one R D s k)
+
+  pub periodic-kills :
+      (s : ℕ → K) (n : ℕ) → Periodic s n ↔ Kills s (unity (polynomials R D) (X R D) n)
+  periodic-kills s n = (
+    λ h. record { vanishes = λ k. period-act s n k ∙ sub-zero-of-eq R (h k) },
+    λ z k. eq-of-sub-zero R (sym (period-act s n k) ∙ z .vanishes k),
+  )
