@@ -20,7 +20,7 @@ use native.Mathlib.Nat as ℕ
 use native.Mathlib.Omega.{arith}
 use Rattle.algebra.proofs.Ring.{Ring, Field}
 use Rattle.algebra.proofs.Ring.{inverse-mul, sub-zero-of-eq, eq-of-sub-zero}
-use Rattle.algebra.proofs.Power.{power, power-suc}
+use Rattle.algebra.proofs.Power.{power}
 use Rattle.algebra.proofs.Solver.{solve, _:=_, _:+_, _:*_, :-_, :1}
 use Rattle.algebra.proofs.Ideal.{Coprime, coprime-member, coprime-sym, coprime-power-right}
 use Rattle.algebra.proofs.Polynomial.{
@@ -53,15 +53,13 @@ use Rattle.algebra.proofs.Derivative.{unity}
 
 -- In any ring, x is coprime to x^n − 1 for n above 0.
 pub coprime-unity : {K : Type 0} (R : Ring K) (x : K) (n : ℕ) → 0 < n → Coprime R x (unity R x n)
+unfolding power
 coprime-unity R x zero l = absurd (ℕ.lt-irrefl 0 l)
 coprime-unity R x (suc n) l =
     record {
       left = power R x n;
       right = (R .⊖_) (R .1#);
-      bezout =
-          rw
-          (power-suc R x n)
-          (solve R 2 (λ x y. y :* x :+ :- :1 :* (y :* x :+ :- :1) := :1) refl x (power R x n));
+      bezout = solve R 2 (λ x y. y :* x :+ :- :1 :* (y :* x :+ :- :1) := :1) refl x (power R x n);
     }
 
 abbrev pub cut : {K : Type 0} → (ℕ → K) → ℕ → ℕ → K
