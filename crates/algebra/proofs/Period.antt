@@ -1,27 +1,34 @@
--- Powers of an irreducible polynomial in an ideal that contains x^N − 1.
+-- Powers of an irreducible polynomial in an ideal that contains x^N − 1; sequences with the period N.
 --
---   Valuation p N w M    == N = p^w·M and p does not divide M: w is the p-adic valuation of N; N is not 0
+--   Valuation p N w M    == N = p^w·M and p does not divide M: w is the p-adic valuation of N; for a prime p,
+--                           N is not 0
+--   numeral-unit         == in characteristic p, a number that p does not divide is invertible
 --   unity-power          == (x^M − 1)^(p^w) = x^(p^w·M) − 1 in characteristic p
 --   atom-power-lowers    == if t is squarefree, and t^n and some power of the atom f are in an ideal, f^n is
 --   atom-divides-base    == if the ideal is not the whole ring, f divides t then
---   period-power         == in characteristic p, if x^N − 1 and any power of the atom f are in an ideal, so
---                           is f^(p^w), where w is the valuation of N
+--   period-power         == in characteristic p, if x^N − 1 and some power of the atom f are in an ideal,
+--                           f^(p^w) is, where w is the valuation of N
 --   period-least         == so the least such power is at most p^w, and p^w ≤ N by `valuation-le`
 --   period-divides       == if the ideal is not the whole ring, f divides x^M − 1
 --   period-size          == so p^w times the degree of f is at most N
 --   period-constant-term == and the constant term of f is not 0, in any characteristic: f is not x
+--   periodic-power, periodic-least, periodic-size, periodic-constant-term
+--                        == the same for a sequence with the period N, over a field, and an irreducible f
+--   periodic-search      == of the powers of f, none annihilates the sequence, or there is a least one that
+--                           does, at most p^w
 --
 -- Assumes nothing.
 use mathlib.Core.Path.{_≡_, sym, ap, ap₂, subst, _∙_}
-use mathlib.Core.Logic.{inl, inr}
+use mathlib.Core.Logic.{_⊎_, inl, inr}
 use Prim.Native.Nat.{ℕ, zero, suc, _*_, _^_, _∣_, _≤_, _<_}
 use native.Mathlib.Nat as ℕ
 use native.Mathlib.Omega.{arith}
-use Rattle.algebra.proofs.Number.{Least, Prime, prime-inverse, split-power}
-use Rattle.algebra.proofs.Ring.{Ring, zero-add, mul-zero, neg-injective, neg-zero}
+use Rattle.algebra.proofs.Number.{Least, Prime, least-below}
+use Rattle.algebra.proofs.Number.{prime-inverse, prime-power-pos, split-power}
+use Rattle.algebra.proofs.Ring.{Ring, Field}
 use Rattle.algebra.proofs.Multiple.{numeral, numeral-mul, numeral-one}
 use Rattle.algebra.proofs.Characteristic.{Characteristic, numeral-mod}
-use Rattle.algebra.proofs.Power.{power, power-mul, power-power, power-suc-left, power-unit, power-one}
+use Rattle.algebra.proofs.Power.{power, power-mul, power-power, power-unit, power-one}
 use Rattle.algebra.proofs.Ideal.{
   Ideal,
   Divides,
@@ -33,17 +40,16 @@ use Rattle.algebra.proofs.Ideal.{
   one-member,
   coprime-member,
   coprime-power,
+  coprime-cancel,
+  divides-trans,
+  divides-product,
 }
 use Rattle.algebra.proofs.Polynomial.{
   Polynomial,
   below-weaken,
   polynomials,
   coefficient,
-  coefficient-add,
-  coefficient-neg,
   coefficient-one-zero,
-  coefficient-mul-zero,
-  coefficient-x-mul-zero,
   X,
   constant,
   constant-polynomial-hom,
@@ -57,9 +63,13 @@ use Rattle.algebra.proofs.Monic.{
   monic-degree,
   below-neg,
 }
-use Rattle.algebra.proofs.Division.{divisor-degree}
+use Rattle.algebra.proofs.Division.{divisor-degree, x-divides, x-divides-constant}
 use Rattle.algebra.proofs.Frobenius.{frobenius, polynomial-characteristic}
 use Rattle.algebra.proofs.Derivative.{Squarefree, unity, unity-squarefree}
+use Rattle.algebra.proofs.Irreducible.{Irreducible, irreducible-atom}
+use Rattle.algebra.proofs.Action.{Kills}
+use Rattle.algebra.proofs.Annihilator.{kills-ideal, kills-one, kills-decided}
+use Rattle.algebra.proofs.Cut.{Periodic, periodic-kills, coprime-unity}
 
 pub record Valuation (p N w M : ℕ) : Type 0 where
   pub product : N ≡ p ^ w * M
@@ -79,6 +89,9 @@ valuation-rest-pos {p} {M = M} v = go M (v .rest)
 pub valuation-le : {p N w M : ℕ} → Valuation p N w M → p ^ w ≤ N
 valuation-le {p} {w = w} v =
     omega (arith, v .product, ℕ.le-mul-of-pos-right (p ^ w) (valuation-rest-pos v))
+
+pub valuation-pos : {p N w M : ℕ} → Prime p → Valuation p N w M → 0 < N
+valuation-pos {w = w} P v = omega (arith, prime-power-pos P w, valuation-le v)
 
 -- In any ring with any ideal.
 module _ {K : Type 0} (R : Ring K) {I : K → Type 0} (ideal : Ideal R I) {f : K} (atom : Atom R f) where
@@ -169,23 +182,6 @@ module _ {K : Type 0} (R : Ring K) (D : Discrete K) where
   unity-monic n pos =
       monic-add-below (monic-x-power n) (below-neg (below-weaken (monic-one R D .below) pos))
 
-  pub x-constant-term : coefficient (X R D) 0 ≡ 0#
-  x-constant-term =
-      ap (λ f. coefficient f 0) (sym (polynomials R D .mul-one (X R D))) ∙ coefficient-x-mul-zero 1ₚ
-
-  pub unity-constant-term : (n : ℕ) → 0 < n → coefficient (unity (polynomials R D) (X R D) n) 0 ≡ ⊖ 1#
-  unity-constant-term zero pos = absurd (omega arith)
-  unity-constant-term (suc n) pos =
-      coefficient-add (power (polynomials R D) (X R D) (suc n)) (⊟ 1ₚ) 0
-      ∙ ap₂
-      _⊕_
-      (
-      ap (λ f. coefficient f 0) (power-suc-left (polynomials R D) (X R D) n)
-      ∙ coefficient-x-mul-zero (power (polynomials R D) (X R D) n)
-      )
-      (coefficient-neg 1ₚ 0 ∙ ap ⊖_ (coefficient-one-zero R D))
-      ∙ zero-add R (⊖ 1#)
-
   pub unity-divisor-constant-term :
       Nontrivial R
       → (n : ℕ)
@@ -193,15 +189,20 @@ module _ {K : Type 0} (R : Ring K) (D : Discrete K) where
       → {f : Polynomial R D}
       → Divides (polynomials R D) f (unity (polynomials R D) (X R D) n)
       → ¬ (coefficient f 0 ≡ 0#)
-  unity-divisor-constant-term h n pos {f} d z = h (neg-injective R (last ∙ sym (neg-zero R)))
+  unity-divisor-constant-term h n pos {f} d z =
+      h (sym (coefficient-one-zero R D) ∙ x-divides-constant x-divides-one)
     where
-      last : ⊖ 1# ≡ 0#
-      last =
-          sym (unity-constant-term n pos)
-          ∙ ap (λ g. coefficient g 0) (d .equation)
-          ∙ coefficient-mul-zero (d .quotient) f
-          ∙ ap (_⊗_ (coefficient (d .quotient) 0)) z
-          ∙ mul-zero R (coefficient (d .quotient) 0)
+      x-divides-one : Divides (polynomials R D) (X R D) 1ₚ
+      x-divides-one =
+          coprime-cancel
+          (polynomials R D)
+          (coprime-unity (polynomials R D) (X R D) n pos)
+          (
+          divides-trans
+          (polynomials R D)
+          (divides-trans (polynomials R D) (x-divides f z) d)
+          (divides-product (polynomials R D) (unity (polynomials R D) (X R D) n) 1ₚ)
+          )
 
 -- Ideals of polynomials that contain x^N − 1.
 module _
@@ -241,7 +242,8 @@ module _
         → I (power (polynomials R D) f e)
         → ¬ (f ≡ X R D)
     period-not-x atom proper N e pos a b z =
-        period-constant-term atom proper N e pos a b (ap (λ g. coefficient g 0) z ∙ x-constant-term R D)
+        period-constant-term atom proper N e pos a b
+        (ap (λ g. coefficient g 0) z ∙ x-divides-constant (divides-refl (polynomials R D) (X R D)))
 
     -- In characteristic p.
     module _
@@ -293,3 +295,69 @@ module _
             ¬ I 1ₚ → {n : ℕ} → Monic f n → (e : ℕ) → I (power (polynomials R D) f e) → p ^ w * n ≤ N
         period-size proper {n} m e b =
             omega (arith, v .product, ℕ.mul-le-mul-left (p ^ w) (period-degree proper m e b))
+
+-- Sequences of period N over a field, and an irreducible f of degree n.
+module _
+    {K : Type 0} {R : Ring K} {D : Discrete K} (F : Field R) {s : ℕ → K} {N : ℕ} (periodic : Periodic s N)
+    {f : Polynomial R D} {n : ℕ} (irreducible : Irreducible f n)
+  where
+    open Ring R using (0#)
+
+    pub periodic-constant-term :
+        ¬ ((i : ℕ) → s i ≡ 0#)
+        → 0 < N
+        → (e : ℕ)
+        → Kills s (power (polynomials R D) f e)
+        → ¬ (coefficient f 0 ≡ 0#)
+    periodic-constant-term nonzero pos e =
+        period-constant-term
+        (kills-ideal s)
+        (irreducible-atom F irreducible)
+        (λ z. nonzero (kills-one s .0 z))
+        N
+        e
+        pos
+        (periodic-kills R D s N .0 periodic)
+
+    module _ {p w M : ℕ} (C : Characteristic R p) (v : Valuation p N w M) where
+      periodic-unity : Kills s (unity (polynomials R D) (X R D) N)
+      periodic-unity = periodic-kills R D s N .0 periodic
+
+      pub periodic-power :
+          (e : ℕ) → Kills s (power (polynomials R D) f e) → Kills s (power (polynomials R D) f (p ^ w))
+      periodic-power = period-power (kills-ideal s) C v periodic-unity (irreducible-atom F irreducible)
+
+      pub periodic-least : {r : ℕ} → Least (λ k. Kills s (power (polynomials R D) f k)) r → r ≤ p ^ w
+      periodic-least = period-least (kills-ideal s) C v periodic-unity (irreducible-atom F irreducible)
+
+      pub periodic-size :
+          ¬ ((i : ℕ) → s i ≡ 0#) → (e : ℕ) → Kills s (power (polynomials R D) f e) → p ^ w * n ≤ N
+      periodic-size nonzero =
+          period-size
+          (kills-ideal s)
+          C
+          v
+          periodic-unity
+          (irreducible-atom F irreducible)
+          (λ z. nonzero (kills-one s .0 z))
+          (irreducible .monic)
+
+      -- The least power that annihilates s, if any does.
+      pub periodic-search :
+          ((r : ℕ) × (r ≤ p ^ w) × Least (λ k. Kills s (power (polynomials R D) f k)) r)
+          ⊎ ((e : ℕ) → ¬ Kills s (power (polynomials R D) f e))
+      periodic-search = go (decided (p ^ w))
+        where
+          decided : (k : ℕ) → Dec (Kills s (power (polynomials R D) f k))
+          decided k =
+              kills-decided
+              (unity-monic R D N (valuation-pos (C .prime) v))
+              periodic-unity
+              (power (polynomials R D) f k)
+
+          go :
+              Dec (Kills s (power (polynomials R D) f (p ^ w)))
+              → ((r : ℕ) × (r ≤ p ^ w) × Least (λ k. Kills s (power (polynomials R D) f k)) r)
+              ⊎ ((e : ℕ) → ¬ Kills s (power (polynomials R D) f e))
+          go (yes z) = inl (least-below decided (p ^ w) z)
+          go (no h) = inr (λ e z. h (periodic-power e z))
