@@ -1,12 +1,12 @@
 -- Fields with finitely many elements: the residues modulo an irreducible polynomial, and their powers.
 --
---   Elements all          == the list all has every element of its type, each once
---   polynomials-below R D all d
---                         == the list of all polynomials below d with coefficients from the list all: for
---                            d = 0 the polynomial 0 alone
+--   Elements K q          == a list of the q elements of the type K, each of them once
+--   polynomials-below R D E d
+--                         == the list of all polynomials below d, each once: q^d where the elements E of
+--                            the ring R are q; for d = 0 the polynomial 0 alone
 --   below-residues        == modulo a monic polynomial of degree d, the polynomials below d are a complete
 --                            system of residues
---   polynomial-power      == over a field of q elements, f irreducible of degree d: f divides h^(q^d-1) - 1
+--   irreducible-power     == over a field of q elements, f irreducible of degree d: f divides h^(q^d-1) - 1
 --                            for every h that f does not divide
 --   element-power         == a^(q-1) = 1 for each a other than 0 in a field of q elements
 --
@@ -14,17 +14,18 @@
 use mathlib.Core.Path.{_≡_, refl, sym, ap, ap₂, subst, _∙_}
 use mathlib.Core.Logic.{_↔_, ∥∥₁-elim}
 use mathlib.Core.List.{List, [], _∷_, map, flatMap, product, List·Nodup}
-use mathlib.Core.List.{List·Mem, List·Memᴰ·head, mem-map, mem-map-of-mem, mem-singleton}
+use mathlib.Core.List.{List·Mem, List·Memᴰ·head, mem-map, mem-map-of-mem, mem-singleton, not-mem-nil}
 use mathlib.Mathlib.Data.List.ProdSigma.{mem-product}
 use mathlib.Mathlib.Data.List.Nodup as Nodup
 use lib.ListN.{length, length-map, length-append}
 use Prim.Native.Nat.{ℕ, zero, suc, _+_, _*_, _-_, _^_, _≤_, _<_, suc-le-suc}
 use native.Mathlib.Nat as ℕ
 use native.Mathlib.Omega.{arith}
-use Rattle.algebra.proofs.Ring.{Ring, Field, zero-add, sub-unique, eq-of-sub-zero, mul-zero, mul-eq-zero}
+use Rattle.algebra.proofs.Ring.{Ring, Field}
+use Rattle.algebra.proofs.Ring.{zero-add, sub-unique, eq-of-sub-zero, mul-zero, mul-eq-zero}
 use Rattle.algebra.proofs.Solver.{solve, _:=_, _:+_, _:*_, :0}
 use Rattle.algebra.proofs.Power.{power}
-use Rattle.algebra.proofs.Ideal.{Divides, Atom}
+use Rattle.algebra.proofs.Ideal.{Divides}
 use Rattle.algebra.proofs.Polynomial.{
   Polynomial,
   polynomials,
@@ -45,15 +46,26 @@ use Rattle.algebra.proofs.Polynomial.{
 }
 use Rattle.algebra.proofs.Monic.{Monic, below-of-zero, below-add, below-neg, monic-one, monic-degree}
 use Rattle.algebra.proofs.Division.{divide, divides-below, divisor-degree}
+use Rattle.algebra.proofs.Derivative.{unity}
+use Rattle.algebra.proofs.Irreducible.{Irreducible, irreducible-atom}
 use Rattle.algebra.proofs.Residues.{Residues, PrimeIdeal, atom-prime, residue-power}
-use Rattle.algebra.proofs.PrimeField.{elements, elements-complete, elements-once}
+use Rattle.algebra.proofs.PrimeField.{Residue, elements}
+use Rattle.algebra.proofs.PrimeField.{elements-length, elements-complete, elements-once}
 
-pub record Elements {K : Type 0} (all : List K) : Type 0 where
+pub record Elements (K : Type 0) (q : ℕ) : Type 0 where
+  pub all : List K
+  pub size : length all ≡ q
   pub complete : (a : K) → List·Mem a all
   pub once : List·Nodup all
 
-pub prime-elements : (p : ℕ) → Elements (elements p)
-prime-elements p = record { complete = λ a. ∣ elements-complete a ∣₁; once = elements-once p }
+pub prime-elements : (p : ℕ) → Elements (Residue p) p
+prime-elements p =
+    record {
+      all = elements p;
+      size = elements-length p;
+      complete = λ a. ∣ elements-complete a ∣₁;
+      once = elements-once p;
+    }
 
 -- Pairs
 length-pairs : {A B : Type 0} (xs : List A) (ys : List B) → length (product xs ys) ≡ length xs * length ys
@@ -130,19 +142,21 @@ module _ {K : Type 0} (R : Ring K) (D : Discrete K) where
   below-prop : (f : Polynomial R D) (n : ℕ) → IsProp (Below f n)
   below-prop f n b c = λ i. record { above = λ j l. R .isSet _ _ (b .above j l) (c .above j l) i }
 
-  module _ (all : List K) where
+  module _ {q : ℕ} (E : Elements K q) where
+    open Elements E using (all, size, complete, once)
+
     pub polynomials-below : ℕ → List (Polynomial R D)
     polynomials-below zero = 0ₚ ∷ []
     polynomials-below (suc d) = map attach (product all (polynomials-below d))
 
-    pub polynomials-below-length : (d : ℕ) → length (polynomials-below d) ≡ length all ^ d
+    pub polynomials-below-length : (d : ℕ) → length (polynomials-below d) ≡ q ^ d
     unfolding polynomials-below
-    polynomials-below-length zero = sym (ℕ.pow-zero (length all))
+    polynomials-below-length zero = sym (ℕ.pow-zero q)
     polynomials-below-length (suc d) =
         length-map (product all (polynomials-below d)) attach
         ∙ length-pairs all (polynomials-below d)
-        ∙ ap (_*_ (length all)) (polynomials-below-length d)
-        ∙ sym (ℕ.pow-succ' (length all) d)
+        ∙ ap₂ _*_ size (polynomials-below-length d)
+        ∙ sym (ℕ.pow-succ' q d)
 
     pub polynomials-below-sound : (d : ℕ) {f : Polynomial R D} → List·Mem f (polynomials-below d) → Below f d
     unfolding polynomials-below
@@ -157,68 +171,88 @@ module _ {K : Type 0} (R : Ring K) (D : Discrete K) where
         subst (λ g. Below g (suc d)) (w .2) (attach-below (w .0 .0) .0 b)
         )
 
-    module _ (E : Elements all) where
-      pub polynomials-below-complete :
-          (d : ℕ) {f : Polynomial R D} → Below f d → List·Mem f (polynomials-below d)
-      unfolding polynomials-below
-      polynomials-below-complete zero b = ∣ List·Memᴰ·head (below-zero b) ∣₁
-      polynomials-below-complete (suc d) {f} b =
-          let (e, p) = detach f in
-          let c : Below (e .1) d = attach-below (e .0) .1 (rw p b) in
-          subst
-          (λ g. List·Mem g (polynomials-below (suc d)))
-          p
-          (mem-map-of-mem attach (mem-product .1 (E .complete (e .0), polynomials-below-complete d c)))
+    pub polynomials-below-complete :
+        (d : ℕ) {f : Polynomial R D} → Below f d → List·Mem f (polynomials-below d)
+    unfolding polynomials-below
+    polynomials-below-complete zero b = ∣ List·Memᴰ·head (below-zero b) ∣₁
+    polynomials-below-complete (suc d) {f} b =
+        let (e, p) = detach f in
+        let c : Below (e .1) d = attach-below (e .0) .1 (rw p b) in
+        subst
+        (λ g. List·Mem g (polynomials-below (suc d)))
+        p
+        (mem-map-of-mem attach (mem-product .1 (complete (e .0), polynomials-below-complete d c)))
 
-      pub polynomials-below-once : (d : ℕ) → List·Nodup (polynomials-below d)
-      unfolding polynomials-below
-      polynomials-below-once zero = Nodup.nodup-singleton 0ₚ
-      polynomials-below-once (suc d) =
-          Nodup.map attach-injective (Nodup.product (E .once) (polynomials-below-once d))
+    pub polynomials-below-once : (d : ℕ) → List·Nodup (polynomials-below d)
+    unfolding polynomials-below
+    polynomials-below-once zero = Nodup.nodup-singleton 0ₚ
+    polynomials-below-once (suc d) =
+        Nodup.map attach-injective (Nodup.product once (polynomials-below-once d))
 
-  module _ {all : List K} (E : Elements all) {f : Polynomial R D} {d : ℕ} (m : Monic f d) where
+    -- Residues modulo a monic polynomial
     difference-below :
-        {a b : Polynomial R D}
-        → List·Mem a (polynomials-below all d)
-        → List·Mem b (polynomials-below all d)
+        (d : ℕ) {a b : Polynomial R D}
+        → List·Mem a (polynomials-below d)
+        → List·Mem b (polynomials-below d)
         → Below (a ⊞ ⊟ b) d
-    difference-below i j =
-        below-add (polynomials-below-sound all d i) (below-neg (polynomials-below-sound all d j))
+    difference-below d i j = below-add (polynomials-below-sound d i) (below-neg (polynomials-below-sound d j))
 
-    pub below-residues : Residues (polynomials R D) (Divides (polynomials R D) f) (polynomials-below all d)
-    below-residues =
+    pub below-residues :
+        {f : Polynomial R D} {d : ℕ}
+        → Monic f d
+        → Residues (polynomials R D) (Divides (polynomials R D) f) (polynomials-below d)
+    below-residues {d = d} m =
         record {
           reduce = λ h. divide m h .remainder;
-          member = λ h. polynomials-below-complete all E d (divide m h .small);
+          member = λ h. polynomials-below-complete d (divide m h .small);
           congruent =
               λ h.
               record {
                 quotient = divide m h .quotient;
                 equation = sym (sub-unique (polynomials R D) (sym (divide m h .equation)));
               };
-          once = polynomials-below-once all E d;
-          apart = λ a b e. eq-of-sub-zero (polynomials R D) (divides-below m e (difference-below a b));
+          once = polynomials-below-once d;
+          apart = λ a b e. eq-of-sub-zero (polynomials R D) (divides-below m e (difference-below d a b));
         }
 
 -- Over a field of q elements
-module _ {K : Type 0} {R : Ring K} (F : Field R) {all : List K} (E : Elements all) where
-  open Ring R using (0#, 1#, _⊕_, _⊗_, ⊖_)
+module _ {K : Type 0} {R : Ring K} {q : ℕ} (F : Field R) (E : Elements K q) where
+  open Ring R using (0#, 1#, _⊕_, _⊗_)
 
   infixl 60 _⊕_
   infixl 70 _⊗_
-  infix 80 ⊖_
+  -- The elements 0 and 1 are there.
+  pub elements-two : 1 < q
+  elements-two = subst (λ n. 1 < n) (E .size) (go (E .all) (E .complete))
+    where
+      go : (xs : List K) → ((a : K) → List·Mem a xs) → 1 < length xs
+      go [] h = absurd (not-mem-nil (h 0#))
+      go (x ∷ []) h = absurd (F .one-nonzero (only (h 1#) ∙ sym (only (h 0#))))
+        where
+          only : {a : K} → List·Mem a (x ∷ []) → a ≡ x
+          only m = mem-singleton (R .isSet) .0 m
+      go (x ∷ y ∷ xs) h = omega arith
+
+  pub residues-two : (d : ℕ) → 0 < d → 1 < q ^ d
+  residues-two zero l = absurd (omega arith)
+  residues-two (suc d) l =
+      rw ℕ.pow-succ' (ℕ.le-trans elements-two (ℕ.le-mul-of-pos-right q (ℕ.one-le-pow d q some)))
+    where
+      some : 0 < q
+      some = omega (arith, elements-two)
+
   zero-prime : PrimeIdeal R (λ a. a ≡ 0#)
   zero-prime = record {
     ideal = record {
       has-zero = refl;
       sum = λ e e′. ap₂ _⊕_ e e′ ∙ R .add-zero 0#;
-      multiple = λ q e. ap (_⊗_ q) e ∙ mul-zero R q;
+      multiple = λ c e. ap (_⊗_ c) e ∙ mul-zero R c;
     };
     proper = F .one-nonzero;
     factor = mul-eq-zero F;
   }
 
-  zero-residues : Residues R (λ a. a ≡ 0#) all
+  zero-residues : Residues R (λ a. a ≡ 0#) (E .all)
   zero-residues = record {
     reduce = λ a. a;
     member = E .complete;
@@ -227,26 +261,32 @@ module _ {K : Type 0} {R : Ring K} (F : Field R) {all : List K} (E : Elements al
     apart = λ _ _. eq-of-sub-zero R;
   }
 
-  pub element-power : {a : K} → ¬ (a ≡ 0#) → power R a (length all - 1) ≡ 1#
-  element-power h = eq-of-sub-zero R (residue-power R zero-prime (F .discrete) zero-residues h)
+  pub element-power : {a : K} → ¬ (a ≡ 0#) → power R a (q - 1) ≡ 1#
+  element-power {a} h =
+      subst (λ n. power R a (n - 1) ≡ 1#) (E .size)
+      (eq-of-sub-zero R (residue-power R zero-prime (F .discrete) zero-residues h))
 
   module _ {D : Discrete K} where
-    open Ring (polynomials R D) using (1# as 1ₚ, _⊕_ as _⊞_, ⊖_ as ⊟_)
+    open Ring (polynomials R D) using (1# as 1ₚ)
 
-    infixl 60 _⊞_
-    infix 80 ⊟_
-    pub polynomial-power : {f h : Polynomial R D} {d : ℕ}
-        → Atom (polynomials R D) f → Monic f d → 0 < d → ¬ Divides (polynomials R D) f h
-        → Divides (polynomials R D) f (power (polynomials R D) h (length all ^ d - 1) ⊞ ⊟ 1ₚ)
-    polynomial-power {f} {h} {d} atom m l k =
-        subst
-        (λ n. Divides (polynomials R D) f (power (polynomials R D) h (n - 1) ⊞ ⊟ 1ₚ))
-        (polynomials-below-length R D all d)
-        (residue-power (polynomials R D) prime polynomial-discrete (below-residues R D E m) k)
+    irreducible-prime : {f : Polynomial R D} {d : ℕ}
+        → Irreducible f d → PrimeIdeal (polynomials R D) (Divides (polynomials R D) f)
+    irreducible-prime {f} {d} i = atom-prime (polynomials R D) (irreducible-atom F i) proper
       where
         proper : ¬ Divides (polynomials R D) f 1ₚ
         proper e =
-            let z : d ≤ 0 = divisor-degree m (monic-degree (F .one-nonzero) (monic-one R D)) e in omega arith
+            let z = divisor-degree (i .monic) (monic-degree (F .one-nonzero) (monic-one R D)) e in
+            omega (arith, i .positive)
 
-        prime : PrimeIdeal (polynomials R D) (Divides (polynomials R D) f)
-        prime = atom-prime (polynomials R D) atom proper
+    pub irreducible-power : {f h : Polynomial R D} {d : ℕ}
+        → Irreducible f d
+        → ¬ Divides (polynomials R D) f h
+        → Divides (polynomials R D) f (unity (polynomials R D) h (q ^ d - 1))
+    irreducible-power {f} {h} {d} i k =
+        subst
+        (λ n. Divides (polynomials R D) f (unity (polynomials R D) h (n - 1)))
+        (polynomials-below-length R D E d)
+        (residue-power (polynomials R D) (irreducible-prime i) polynomial-discrete residues k)
+      where
+        residues : Residues (polynomials R D) (Divides (polynomials R D) f) (polynomials-below R D E d)
+        residues = below-residues R D E (i .monic)
