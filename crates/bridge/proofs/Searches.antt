@@ -1,0 +1,579 @@
+-- The searches of `meaning`, in words.
+--
+--   T-true, true-T, T-false, false-T == a test that passes is `true`, one that fails is `false`
+--   T-same         == two tests that pass together are equal
+--   all-member, member-all   == a test passes on the whole of a list exactly where it passes on each member
+--   some-member, member-some == it passes on some element exactly where it passes on a member, given with it
+--   all-range, range-all, some-range, range-some == the same for a range, by its bounds; `-first` from 0 on
+--   least-some     == what `least` finds is the least number that passes, and at most the bound
+--   least-none     == where it finds none, no number up to the bound passes
+--   least-found, least-missing == the converses
+--   together-range == `together` of the answers of a range has each of the answers, in order
+--   settle-answered, settle-refused == what a settled table says of its conditions
+--
+-- Membership is `List·Memᴰ`, as data.
+-- Assumes nothing.
+use Prim.Native.Nat.{ℕ, zero, suc, _+_, _≤_, _<_, zero-le, suc-le-suc}
+use native.Mathlib.Omega.{arith}
+use native.Mathlib.Nat.{le-of-suc-le-suc, not-suc-le-zero, le-refl, le-trans, eq-or-lt-of-le}
+use mathlib.Core.Path.{_≡_, refl, sym, ap, _∙_, subst}
+use mathlib.Core.Logic.{_⊎_, inl, inr}
+use mathlib.Core.Bool.{Bool, true, false, not, _&&_, _||_}
+use mathlib.Core.List.{List, [], _∷_, map, List·Memᴰ, List·Memᴰ·head, List·Memᴰ·tail}
+use mathlib.Core.Option.{Option, none, some, Option·some-injective, Option·none-ne-some, Option·some-ne-none}
+use lib.ListN.{length, getD, length-map, List·getD-map}
+use lib.Seq.{ext-getD}
+use lib.Dec.{T}
+use Rattle.meaning.specs.Search.{range, holdsForAll, holdsForSome, least, mapOption, bind, isNone, together}
+use Rattle.meaning.specs.Result.{Check, refused, answered, firstOf, settle, valueOf}
+use Rattle.meaning.proofs.Tables.{firstOf-skip, NoneHolds, firstOf-none, none-holds, settle-none, least-zero}
+use Rattle.algebra.proofs.Number.{Least}
+
+-- A test and its outcome
+pub T-true : {b : Bool} → T b → b ≡ true
+T-true {b = true} h = refl
+T-true {b = false} h = absurd h
+
+pub true-T : {b : Bool} → b ≡ true → T b
+true-T e = subst T (sym e) tt
+
+pub T-false : {b : Bool} → ¬ T b → b ≡ false
+T-false {b = true} h = absurd (h tt)
+T-false {b = false} h = refl
+
+pub false-T : {b : Bool} → b ≡ false → ¬ T b
+false-T e h = subst T e h
+
+pub T-decided : (b : Bool) → Dec (T b)
+T-decided true = yes tt
+T-decided false = no (λ h. h)
+
+pub T-same : {b c : Bool} → (T b → T c) → (T c → T b) → b ≡ c
+T-same {b = true} {c} f g = sym (T-true (f tt))
+T-same {b = false} {c} f g = sym (T-false g)
+
+pub not-false : (b : Bool) → not b ≡ false → T b
+not-false true e = tt
+not-false false e = absurd (false-T e tt)
+
+pub T-not-false : (b : Bool) → T b → not b ≡ false
+T-not-false b h = ap not (T-true {b = b} h)
+
+pub T-and : (b c : Bool) → T (b && c) → T b × T c
+T-and true c h = (tt, h)
+T-and false c h = absurd h
+
+pub and-T : (b c : Bool) → T b → T c → T (b && c)
+and-T true c h k = k
+and-T false c h k = absurd h
+
+pub or-false : (b c : Bool) → (b || c) ≡ false → (b ≡ false) × (c ≡ false)
+or-false true c e = absurd (false-T e tt)
+or-false false c e = (refl, e)
+
+-- Every element passes
+module _ {A : Type 0} (t : A → Bool) where
+  pub all-nil : T (holdsForAll t [])
+  unfolding holdsForAll
+  all-nil = tt
+
+  pub all-cons : (a : A) (l : List A) → T (t a) → T (holdsForAll t l) → T (holdsForAll t (a ∷ l))
+  unfolding holdsForAll
+  all-cons a l h hs = rw (T-true {b = t a} h, holdsForAll) hs
+
+  pub all-uncons : (a : A) (l : List A) → T (holdsForAll t (a ∷ l)) → T (t a) × T (holdsForAll t l)
+  unfolding holdsForAll
+  all-uncons a l h = go (t a) refl
+    where
+      go : (b : Bool) → t a ≡ b → T (t a) × T (holdsForAll t l)
+      go true e = (true-T e, (rw (e, holdsForAll) at h))
+      go false e = absurd (rw (e, holdsForAll) at h)
+
+  pub all-member : (l : List A) → T (holdsForAll t l) → (a : A) → List·Memᴰ a l → T (t a)
+  all-member (b ∷ l) h a (List·Memᴰ·head e) = subst (λ c. T (t c)) (sym e) (all-uncons b l h .0)
+  all-member (b ∷ l) h a (List·Memᴰ·tail m) = all-member l (all-uncons b l h .1) a m
+
+  pub member-all : (l : List A) → ((a : A) → List·Memᴰ a l → T (t a)) → T (holdsForAll t l)
+  member-all [] h = all-nil
+  member-all (a ∷ l) h =
+      all-cons a l (h a (List·Memᴰ·head refl)) (member-all l (λ b m. h b (List·Memᴰ·tail m)))
+
+  -- Some element passes
+  pub some-nil : ¬ T (holdsForSome t [])
+  unfolding holdsForSome
+  some-nil h = h
+
+  pub some-head : (a : A) (l : List A) → T (t a) → T (holdsForSome t (a ∷ l))
+  unfolding holdsForSome
+  some-head a l h = rw (T-true {b = t a} h, holdsForSome) tt
+
+  pub some-tail : (a : A) (l : List A) → T (holdsForSome t l) → T (holdsForSome t (a ∷ l))
+  unfolding holdsForSome
+  some-tail a l h = go (t a) refl
+    where
+      go : (b : Bool) → t a ≡ b → T (holdsForSome t (a ∷ l))
+      go true e = rw (e, holdsForSome) tt
+      go false e = rw (e, holdsForSome) h
+
+  pub some-uncons : (a : A) (l : List A) → T (holdsForSome t (a ∷ l)) → T (t a) ⊎ T (holdsForSome t l)
+  unfolding holdsForSome
+  some-uncons a l h = go (t a) refl
+    where
+      go : (b : Bool) → t a ≡ b → T (t a) ⊎ T (holdsForSome t l)
+      go true e = inl (true-T e)
+      go false e = inr (rw (e, holdsForSome) at h)
+
+  pub some-member : (l : List A) → T (holdsForSome t l) → (a : A) × List·Memᴰ a l × T (t a)
+  some-member [] h = absurd (some-nil h)
+  some-member (b ∷ l) h = go (some-member l) (some-uncons b l h)
+    where
+      go :
+          (T (holdsForSome t l) → (a : A) × List·Memᴰ a l × T (t a))
+          → T (t b) ⊎ T (holdsForSome t l)
+          → (a : A) × List·Memᴰ a (b ∷ l) × T (t a)
+      go rest (inl h) = (b, List·Memᴰ·head refl, h)
+      go rest (inr h) = let (a, m, p) = rest h in (a, List·Memᴰ·tail m, p)
+
+  pub member-some : (l : List A) (a : A) → List·Memᴰ a l → T (t a) → T (holdsForSome t l)
+  member-some (b ∷ l) a (List·Memᴰ·head e) h = some-head b l (subst (λ c. T (t c)) e h)
+  member-some (b ∷ l) a (List·Memᴰ·tail m) h = some-tail b l (member-some l a m h)
+
+  pub none-member : (l : List A) → ¬ T (holdsForSome t l) → (a : A) → List·Memᴰ a l → ¬ T (t a)
+  none-member l h a m p = h (member-some l a m p)
+
+  pub member-none : (l : List A) → ((a : A) → List·Memᴰ a l → ¬ T (t a)) → ¬ T (holdsForSome t l)
+  member-none l h p = let (a, m, q) = some-member l p in h a m q
+
+-- The searches depend on the values of the test at the members alone
+module _ {A : Type 0} (t u : A → Bool) (l : List A) (same : (a : A) → List·Memᴰ a l → t a ≡ u a) where
+  pub all-same : holdsForAll t l ≡ holdsForAll u l
+  all-same =
+      T-same
+      (λ h. member-all u l (λ a m. subst T (same a m) (all-member t l h a m)))
+      (λ h. member-all t l (λ a m. subst T (sym (same a m)) (all-member u l h a m)))
+
+  pub some-same : holdsForSome t l ≡ holdsForSome u l
+  some-same =
+      T-same
+      (λ h. let (a, m, p) = some-member t l h in member-some u l a m (subst T (same a m) p))
+      (λ h. let (a, m, p) = some-member u l h in member-some t l a m (subst T (sym (same a m)) p))
+
+-- Ranges
+pub range-nil : (a : ℕ) → range a 0 ≡ []
+unfolding range
+range-nil a = refl
+
+pub range-cons : (a n : ℕ) → range a (suc n) ≡ a ∷ range (suc a) n
+unfolding range
+range-cons a n = refl
+
+pub length-range : (a n : ℕ) → length (range a n) ≡ n
+unfolding range
+length-range a zero = refl
+length-range a (suc n) = ap suc (length-range (suc a) n)
+
+pub getD-range : (a n i d : ℕ) → i < n → getD (range a n) i d ≡ a + i
+unfolding range
+getD-range a zero i d l = absurd (not-suc-le-zero l)
+getD-range a (suc n) zero d l = omega arith
+getD-range a (suc n) (suc i) d l = getD-range (suc a) n i d (le-of-suc-le-suc l) ∙ omega arith
+
+pub member-range : {i : ℕ} (a n : ℕ) → List·Memᴰ i (range a n) → (a ≤ i) × (i < a + n)
+unfolding range
+member-range a (suc n) (List·Memᴰ·head e) = omega arith
+member-range a (suc n) (List·Memᴰ·tail m) = let h = member-range (suc a) n m in omega arith
+
+pub range-member : {i : ℕ} (a n : ℕ) → a ≤ i → i < a + n → List·Memᴰ i (range a n)
+unfolding range
+range-member a zero l h = absurd (omega arith)
+range-member {i} a (suc n) l h = go (range-member (suc a) n) (eq-or-lt-of-le l)
+  where
+    go :
+        (suc a ≤ i → i < suc a + n → List·Memᴰ i (range (suc a) n))
+        → (a ≡ i) ⊎ (a < i)
+        → List·Memᴰ i (a ∷ range (suc a) n)
+    go rest (inl e) = List·Memᴰ·head (sym e)
+    go rest (inr s) = List·Memᴰ·tail (rest s (omega arith))
+
+module _ (t : ℕ → Bool) where
+  pub all-range : (a n : ℕ) → T (holdsForAll t (range a n)) → (i : ℕ) → a ≤ i → i < a + n → T (t i)
+  all-range a n h i l m = all-member t (range a n) h i (range-member a n l m)
+
+  pub range-all : (a n : ℕ) → ((i : ℕ) → a ≤ i → i < a + n → T (t i)) → T (holdsForAll t (range a n))
+  range-all a n h = member-all t (range a n) (λ i m. let (l, b) = member-range a n m in h i l b)
+
+  pub some-range :
+      (a n : ℕ) → T (holdsForSome t (range a n)) → (i : ℕ) × (a ≤ i) × (i < a + n) × T (t i)
+  some-range a n h =
+      let (i, m, p) = some-member t (range a n) h in
+      let (l, b) = member-range a n m in
+      (i, l, b, p)
+
+  pub range-some : (a n i : ℕ) → a ≤ i → i < a + n → T (t i) → T (holdsForSome t (range a n))
+  range-some a n i l m p = member-some t (range a n) i (range-member a n l m) p
+
+  pub none-range : (a n : ℕ) → ¬ T (holdsForSome t (range a n)) → (i : ℕ) → a ≤ i → i < a + n → ¬ T (t i)
+  none-range a n h i l m p = h (range-some a n i l m p)
+
+  pub range-none : (a n : ℕ) → ((i : ℕ) → a ≤ i → i < a + n → ¬ T (t i)) → ¬ T (holdsForSome t (range a n))
+  range-none a n h p = let (i, l, m, q) = some-range a n p in h i l m q
+
+  pub all-first : (n : ℕ) → T (holdsForAll t (range 0 n)) → (i : ℕ) → i < n → T (t i)
+  all-first n h i l = all-range 0 n h i zero-le (omega arith)
+
+  pub first-all : (n : ℕ) → ((i : ℕ) → i < n → T (t i)) → T (holdsForAll t (range 0 n))
+  first-all n h = range-all 0 n (λ i _ m. h i (omega arith))
+
+-- Options
+pub isNone-none : {A : Type 0} {o : Option A} → T (isNone o) → o ≡ none
+unfolding isNone
+isNone-none {o = none} h = refl
+isNone-none {o = some a} h = absurd h
+
+pub none-isNone : {A : Type 0} {o : Option A} → o ≡ none → T (isNone o)
+unfolding isNone
+none-isNone e = subst (λ o. T (isNone o)) (sym e) tt
+
+pub isNone-some : {A : Type 0} {o : Option A} → isNone o ≡ false → (a : A) × (o ≡ some a)
+unfolding isNone
+isNone-some {o = none} e = absurd (false-T e tt)
+isNone-some {o = some a} e = (a, refl)
+
+pub some-isNone : {A : Type 0} {o : Option A} {a : A} → o ≡ some a → isNone o ≡ false
+unfolding isNone
+some-isNone e = ap isNone e
+
+pub bind-none : {A B : Type 0} (g : A → Option B) → bind none g ≡ none
+unfolding bind
+bind-none g = refl
+
+pub bind-some : {A B : Type 0} {o : Option A} {a : A} (g : A → Option B) → o ≡ some a → bind o g ≡ g a
+unfolding bind
+bind-some g e = ap (λ o. bind o g) e
+
+pub some-bind : {A B : Type 0} (o : Option A) (g : A → Option B) {b : B} → bind o g ≡ some b
+    → (a : A) × (o ≡ some a) × (g a ≡ some b)
+unfolding bind
+some-bind none g e = absurd (Option·none-ne-some _ e)
+some-bind (some a) g e = (a, refl, e)
+
+pub mapOption-none : {A B : Type 0} (f : A → B) → mapOption f none ≡ none
+unfolding mapOption
+mapOption-none f = refl
+
+pub mapOption-some :
+    {A B : Type 0} (f : A → B) {o : Option A} {a : A} → o ≡ some a → mapOption f o ≡ some (f a)
+unfolding mapOption
+mapOption-some f e = ap (mapOption f) e
+
+pub some-mapOption :
+    {A B : Type 0} (f : A → B) (o : Option A) {b : B}
+    → mapOption f o ≡ some b
+    → (a : A) × (o ≡ some a) × (f a ≡ b)
+unfolding mapOption
+some-mapOption f none e = absurd (Option·none-ne-some _ e)
+some-mapOption f (some a) e = (a, refl, Option·some-injective _ _ e)
+
+pub none-mapOption : {A B : Type 0} (f : A → B) (o : Option A) → mapOption f o ≡ none → o ≡ none
+unfolding mapOption
+none-mapOption f none e = refl
+none-mapOption f (some a) e = absurd (Option·some-ne-none _ e)
+
+-- The least number that passes
+abbrev pub LeastPasses : (ℕ → Bool) → ℕ → Type 0
+LeastPasses t r = Least (λ n. T (t n)) r
+
+pub least-unique : {P : ℕ → Type 0} {m n : ℕ} → Least P m → Least P n → m ≡ n
+least-unique {P} {m} {n} a b =
+    let l : ¬ (m < n) = λ h. b .least m h (a .holds) in
+    let r : ¬ (n < m) = λ h. a .least n h (b .holds) in
+    omega arith
+
+least-none-zero : (t : ℕ → Bool) → least 0 t ≡ none → ¬ T (t 0)
+least-none-zero t e h = Option·some-ne-none 0 (sym (least-zero 0 t (T-true h)) ∙ e)
+
+-- the search goes on where 0 does not pass
+pub least-suc :
+    (b : ℕ) (t : ℕ → Bool) → ¬ T (t 0) → least (suc b) t ≡ mapOption suc (least b (λ r. t (suc r)))
+unfolding least
+least-suc b t h = rw (T-false {b = t 0} h, least)
+
+pub least-stop : (t : ℕ → Bool) → ¬ T (t 0) → least 0 t ≡ none
+unfolding least
+least-stop t h = rw (T-false {b = t 0} h, least)
+
+least-shift :
+    (t : ℕ → Bool) {r : ℕ} → ¬ T (t 0) → LeastPasses (λ n. t (suc n)) r → LeastPasses t (suc r)
+least-shift t {r} h l = record { holds = l .holds; least = smaller }
+  where
+    smaller : (m : ℕ) → m < suc r → ¬ T (t m)
+    smaller zero s = h
+    smaller (suc m) s = l .least m (le-of-suc-le-suc s)
+
+least-zero-some :
+    (b : ℕ) (t : ℕ → Bool) {r : ℕ} → T (t 0) → least b t ≡ some r → (r ≤ b) × LeastPasses t r
+least-zero-some b t {r} h e = subst (λ n. (n ≤ b) × LeastPasses t n) is-zero (zero-le, first)
+  where
+    is-zero : 0 ≡ r
+    is-zero = Option·some-injective 0 r (sym (least-zero b t (T-true h)) ∙ e)
+
+    first : LeastPasses t 0
+    first = record { holds = h; least = λ m l. absurd (not-suc-le-zero l) }
+
+pub least-some : (b : ℕ) (t : ℕ → Bool) {r : ℕ} → least b t ≡ some r → (r ≤ b) × LeastPasses t r
+least-some zero t {r} e = go (T-decided (t 0))
+  where
+    go : Dec (T (t 0)) → (r ≤ 0) × LeastPasses t r
+    go (yes h) = least-zero-some 0 t h e
+    go (no h) = absurd (Option·none-ne-some r (sym (least-stop t h) ∙ e))
+least-some (suc b) t {r} e = go (λ k. least-some b (λ n. t (suc n)) {r = k}) (T-decided (t 0))
+  where
+    go :
+        ((k : ℕ) → least b (λ n. t (suc n)) ≡ some k → (k ≤ b) × LeastPasses (λ n. t (suc n)) k)
+        → Dec (T (t 0))
+        → (r ≤ suc b) × LeastPasses t r
+    go rest (yes h) = least-zero-some (suc b) t h e
+    go rest (no h) =
+        let (k, f, q) = some-mapOption suc (least b (λ n. t (suc n))) (sym (least-suc b t h) ∙ e) in
+        let (l, m) = rest k f in
+        subst (λ n. (n ≤ suc b) × LeastPasses t n) q (suc-le-suc l, least-shift t h m)
+
+pub least-none : (b : ℕ) (t : ℕ → Bool) → least b t ≡ none → (r : ℕ) → r ≤ b → ¬ T (t r)
+least-none b t e zero l h = Option·some-ne-none 0 (sym (least-zero b t (T-true h)) ∙ e)
+least-none zero t e (suc r) l h = not-suc-le-zero l
+least-none (suc b) t e (suc r) l h = least-none b (λ n. t (suc n)) rest r (le-of-suc-le-suc l) h
+  where
+    first : ¬ T (t 0)
+    first z = Option·some-ne-none 0 (sym (least-zero (suc b) t (T-true z)) ∙ e)
+
+    rest : least b (λ n. t (suc n)) ≡ none
+    rest = none-mapOption suc (least b (λ n. t (suc n))) (sym (least-suc b t first) ∙ e)
+
+-- the outcome of a search with both cases in words
+pub least-either :
+    (b : ℕ) (t : ℕ → Bool)
+    → ((r : ℕ) × (least b t ≡ some r) × (r ≤ b) × LeastPasses t r)
+    ⊎ ((least b t ≡ none) × ((r : ℕ) → r ≤ b → ¬ T (t r)))
+least-either b t = go (least b t) refl
+  where
+    go :
+        (o : Option ℕ)
+        → least b t ≡ o
+        → ((r : ℕ) × (least b t ≡ some r) × (r ≤ b) × LeastPasses t r)
+        ⊎ ((least b t ≡ none) × ((r : ℕ) → r ≤ b → ¬ T (t r)))
+    go none e = inr (e, least-none b t e)
+    go (some r) e = let (l, m) = least-some b t e in inl (r, e, l, m)
+
+pub least-found : (b : ℕ) (t : ℕ → Bool) {r : ℕ} → r ≤ b → LeastPasses t r → least b t ≡ some r
+least-found b t {r} l m = elim (least-either b t) [
+  | inl (k, e, _, n) ↦ e ∙ ap {B = Option ℕ} some (least-unique n m)
+  | inr (_, h) ↦ absurd (h r l (m .holds))
+]
+
+pub least-missing : (b : ℕ) (t : ℕ → Bool) → ((r : ℕ) → r ≤ b → ¬ T (t r)) → least b t ≡ none
+least-missing b t h = elim (least-either b t) [
+  | inl (k, _, l, n) ↦ absurd (h k l (n .holds))
+  | inr (e, _) ↦ e
+]
+
+-- a number that passes, at most the bound: the search finds one at most that
+pub least-exists :
+    (b : ℕ) (t : ℕ → Bool) (n : ℕ)
+    → n ≤ b
+    → T (t n)
+    → (r : ℕ) × (least b t ≡ some r) × (r ≤ n) × LeastPasses t r
+least-exists b t n l p = elim (least-either b t) [
+  | inl (r, e, _, m) ↦ (r, e, below r m, m)
+  | inr (_, h) ↦ absurd (h n l p)
+]
+  where
+    below : (r : ℕ) → LeastPasses t r → r ≤ n
+    below r m = let h : ¬ (n < r) = λ s. m .least n s p in omega arith
+
+-- a larger bound finds the same
+pub least-wider : (b c : ℕ) (t : ℕ → Bool) {r : ℕ} → b ≤ c → least b t ≡ some r → least c t ≡ some r
+least-wider b c t l e = let (k, m) = least-some b t e in least-found c t (le-trans k l) m
+
+-- so does a smaller one that is not below what was found
+pub least-narrower : (b c : ℕ) (t : ℕ → Bool) {r : ℕ} → r ≤ c → least b t ≡ some r → least c t ≡ some r
+least-narrower b c t l e = least-found c t l (least-some b t e .1)
+
+pub least-same :
+    (b : ℕ) (t u : ℕ → Bool) → ((r : ℕ) → r ≤ b → t r ≡ u r) → least b t ≡ least b u
+least-same b t u same = elim (least-either b t) [
+  | inl (r, e, l, m) ↦ e ∙ sym (least-found b u l (moved r l m))
+  | inr (e, h) ↦ e ∙ sym (least-missing b u (λ r l p. h r l (subst T (sym (same r l)) p)))
+]
+  where
+    moved : (r : ℕ) → r ≤ b → LeastPasses t r → LeastPasses u r
+    moved r l m =
+        record {
+          holds = subst T (same r l) (m .holds);
+          least = λ k s p. m .least k s (subst T (sym (same k (le-trans (omega arith) l))) p);
+        }
+
+-- within a list the default does not matter
+getD-any : {A : Type 0} (l : List A) (i : ℕ) (d e : A) → i < length l → getD l i d ≡ getD l i e
+getD-any [] i d e l = absurd (not-suc-le-zero l)
+getD-any (a ∷ l) zero d e _ = refl
+getD-any (a ∷ l) (suc i) d e h = getD-any l i d e (le-of-suc-le-suc h)
+
+-- All the values of a list of answers
+module _ {A : Type 0} where
+  pub together-nil : together {A = A} [] ≡ some []
+  unfolding together
+  together-nil = refl
+
+  pub together-cons :
+      (a : A) (l : List (Option A)) → together (some a ∷ l) ≡ mapOption (λ xs. a ∷ xs) (together l)
+  unfolding together
+  together-cons a l = refl
+
+  together-none : (l : List (Option A)) → together (none ∷ l) ≡ none
+  unfolding together
+  together-none l = refl
+
+  pub map-together : (xs : List A) → together (map some xs) ≡ some xs
+  map-together [] = together-nil
+  map-together (a ∷ xs) = together-cons a (map some xs) ∙ mapOption-some (λ l. a ∷ l) (map-together xs)
+
+  pub together-map : (l : List (Option A)) {xs : List A} → together l ≡ some xs → l ≡ map some xs
+  together-map [] e = ap (map some) (Option·some-injective _ _ (sym together-nil ∙ e))
+  together-map (none ∷ l) e = absurd (Option·none-ne-some _ (sym (together-none l) ∙ e))
+  together-map (some a ∷ l) {xs} e =
+      let (ys, f, q) = some-mapOption (λ l. a ∷ l) (together l) (sym (together-cons a l) ∙ e) in
+      ap (_∷_ (some a)) (together-map l f) ∙ ap (map some) q
+
+  module _ (d : A) (f : ℕ → Option A) where
+    -- the answers of a range, by places
+    getD-answers :
+        (a n i : ℕ) (xs : List A) → i < n → getD (map f (range a n)) i (some d) ≡ f (a + i)
+    getD-answers a n i xs l =
+        getD-any (map f (range a n)) i (some d) (f 0) (rw (length-map, length-range) l)
+        ∙ List·getD-map f (range a n) i 0
+        ∙ ap f (getD-range a n i 0 l)
+
+    pub together-range :
+        (a n : ℕ) {xs : List A}
+        → together (map f (range a n)) ≡ some xs
+        → (length xs ≡ n) × ((i : ℕ) → i < n → f (a + i) ≡ some (getD xs i d))
+    together-range a n {xs} e = (size, place)
+      where
+        equal : map f (range a n) ≡ map some xs
+        equal = together-map (map f (range a n)) e
+
+        size : length xs ≡ n
+        size =
+            sym (length-map xs some) ∙ ap length (sym equal) ∙ length-map (range a n) f ∙ length-range a n
+
+        place : (i : ℕ) → i < n → f (a + i) ≡ some (getD xs i d)
+        place i l =
+            sym (getD-answers a n i xs l)
+            ∙ ap (λ l. getD l i (some d)) equal
+            ∙ List·getD-map some xs i d
+
+    pub range-together :
+        (a n : ℕ) (xs : List A)
+        → length xs ≡ n
+        → ((i : ℕ) → i < n → f (a + i) ≡ some (getD xs i d))
+        → together (map f (range a n)) ≡ some xs
+    range-together a n xs e h = ap together equal ∙ map-together xs
+      where
+        size : length (map f (range a n)) ≡ n
+        size = length-map (range a n) f ∙ length-range a n
+
+        equal : map f (range a n) ≡ map some xs
+        equal =
+            ext-getD (some d) (map f (range a n)) (map some xs) (size ∙ sym e ∙ sym (length-map xs some))
+            (λ i l. let m : i < n = rw size at l in
+            getD-answers a n i xs m ∙ h i m ∙ sym (List·getD-map some xs i d))
+
+  -- where each answer of the range is there, all are there together
+  pub range-together-some :
+      (f : ℕ → Option A) (a n : ℕ)
+      → ((i : ℕ) → a ≤ i → i < a + n → (x : A) × (f i ≡ some x))
+      → (xs : List A) × (together (map f (range a n)) ≡ some xs)
+  range-together-some f a zero h = ([], ap (λ l. together (map f l)) (range-nil a) ∙ together-nil)
+  range-together-some f a (suc n) h =
+      let (x, e) = h a (le-refl a) (omega arith) in
+      let (xs, es) = range-together-some f (suc a) n (λ i l m. h i (omega arith) (omega arith)) in (
+        x ∷ xs,
+        ap (λ l. together (map f l)) (range-cons a n)
+            ∙ ap (λ o. together (o ∷ map f (range (suc a) n))) e
+            ∙ together-cons x (map f (range (suc a) n))
+            ∙ mapOption-some (λ l. x ∷ l) es,
+      )
+
+-- Tables
+firstOf-stop : (c : Check) (table : List Check) → (c .1) tt ≡ true → firstOf (c ∷ table) ≡ some (c .0)
+unfolding firstOf
+firstOf-stop c table e = rw (e, firstOf)
+
+module _ {A : Type 0} (v : Unit {0} → Option A) where
+  pub settle-nil : settle [] v ≡ valueOf (v tt)
+  settle-nil = settle-none [] v (firstOf-none [] tt)
+
+  pub settle-skip :
+      (c : Check) (table : List Check) → (c .1) tt ≡ false → settle (c ∷ table) v ≡ settle table v
+  unfolding settle
+  settle-skip c table e = rw (firstOf-skip c table e, settle)
+
+  pub settle-stop :
+      (c : Check) (table : List Check) → (c .1) tt ≡ true → settle (c ∷ table) v ≡ refused (c .0)
+  unfolding settle
+  settle-stop c table e = rw (firstOf-stop c table e, settle)
+
+  pub settle-answered :
+      (table : List Check) {a : A} → settle table v ≡ answered a → NoneHolds table × (v tt ≡ some a)
+  unfolding settle valueOf
+  settle-answered table {a} e = go (firstOf table) refl
+    where
+      value : (o : Option A) → valueOf o ≡ answered a → o ≡ some a
+      value none f = absurd (let z : _≡_ {A = ℕ} 0 1 = cc in omega arith)
+      value (some b) f = cc
+
+      go : (o : Option ℕ) → firstOf table ≡ o → NoneHolds table × (v tt ≡ some a)
+      go none f = (none-holds table (none-isNone f), value (v tt) (sym (settle-none table v f) ∙ e))
+      go (some n) f =
+          let g : refused n ≡ answered a = sym (rw (f, settle)) ∙ e in
+          absurd (let z : _≡_ {A = ℕ} 0 1 = cc in omega arith)
+
+  -- a refusal names a condition of the table that holds; the number 0 stands for a missing value
+  pub settle-refused :
+      (table : List Check) {n : ℕ}
+      → settle table v ≡ refused n
+      → (firstOf table ≡ some n) ⊎ (NoneHolds table × (v tt ≡ none) × (n ≡ 0))
+  unfolding settle valueOf
+  settle-refused table {n} e = go (firstOf table) refl
+    where
+      value : (o : Option A) → valueOf o ≡ refused n → (o ≡ none) × (n ≡ 0)
+      value none f = (refl, cc)
+      value (some b) f = absurd (let z : _≡_ {A = ℕ} 0 1 = cc in omega arith)
+
+      go :
+          (o : Option ℕ)
+          → firstOf table ≡ o
+          → (firstOf table ≡ some n) ⊎ (NoneHolds table × (v tt ≡ none) × (n ≡ 0))
+      go none f =
+          let (h, z) = value (v tt) (sym (settle-none table v f) ∙ e) in
+          inr (none-holds table (none-isNone f), h, z)
+      go (some k) f =
+          let g : refused k ≡ refused n = sym (rw (f, settle)) ∙ e in
+          inl (f ∙ ap {B = Option ℕ} some (cc))
+
+pub firstOf-holds :
+    (table : List Check) {n : ℕ}
+    → firstOf table ≡ some n
+    → (c : Check) × List·Memᴰ c table × (c .0 ≡ n) × ((c .1) tt ≡ true)
+firstOf-holds [] e = absurd (Option·none-ne-some _ (sym (firstOf-none [] tt) ∙ e))
+firstOf-holds (c ∷ table) {n} e = go (firstOf-holds table) ((c .1) tt) refl
+  where
+    go :
+        (firstOf table ≡ some n → (c : Check) × List·Memᴰ c table × (c .0 ≡ n) × ((c .1) tt ≡ true))
+        → (b : Bool)
+        → (c .1) tt ≡ b
+        → (d : Check) × List·Memᴰ d (c ∷ table) × (d .0 ≡ n) × ((d .1) tt ≡ true)
+    go rest true h = (c, List·Memᴰ·head refl, Option·some-injective _ _ (sym (firstOf-stop c table h) ∙ e), h)
+    go rest false h =
+        let (d, m, z, p) = rest (sym (firstOf-skip c table h) ∙ e) in
+        (d, List·Memᴰ·tail m, z, p)

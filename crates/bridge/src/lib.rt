@@ -1,0 +1,1 @@
+// The definitions of `meaning` are what `algebra` means by them. Theory only: everything stands in proofs/.
