@@ -20,6 +20,7 @@ pub mod Irreducible
 pub mod Annihilator
 pub mod Cut
 pub mod Massey
+pub mod MasseyStep
 pub mod Spread
 pub mod Frobenius
 pub mod Derivative
