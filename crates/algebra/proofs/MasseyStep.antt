@@ -1,13 +1,13 @@
 -- The step of the Berlekamp-Massey algorithm, from n known terms to n + 1.
 --
---   shift k f            == x^k·f
+--   shift k f            == x^k·f; its list is that of f after k zeros (`fromList-shift`)
 --   discrepancy f L n t  == the action of f, of degree L, at place n − L: the first place that needs term n
 --   Earlier g L n b t    == what is kept of an earlier polynomial g: its action vanishes at the places before
 --                           L − 1 and is b there, b is not 0, and g is below n + 1 − L
 --   State f g L b n t    == f fits the first n terms of t with the least degree L, at most n, and g is an
 --                           earlier polynomial; at the start g is 0
 --   Reached R D t n      == a state after n terms
---   earlier-of-fits      == g of degree a fitted n′ terms and not n′ + 1, n′ < n, L = n′ + 1 − a: g is earlier
+--   earlier-of-fits      == g of degree a fitted n′ terms, not n′ + 1, n′ < n, L = n′ + 1 − a: g is earlier
 --   step-same            == the discrepancy is 0: f fits n + 1 terms
 --   step-kept            == it is d, and 2L > n: f − (d/b)·x^(2L−1−n)·g fits n + 1 terms, of degree L
 --   step-changed         == it is d, not 0, and 2L ≤ n: x^(n+1−2L)·f − (d/b)·g fits n + 1 terms, of degree
@@ -18,14 +18,16 @@
 --   minimal-exists       == over a field, a sequence annihilated by a monic polynomial has a minimal one
 --
 -- Assumes nothing.
-use mathlib.Core.Path.{_≡_, refl, sym, ap, subst, _∙_}
+use mathlib.Core.Path.{_≡_, refl, sym, ap, ap₂, subst, _∙_}
+use mathlib.Core.List.{List, _++_}
+use lib.ListN.{replicate}
 use Prim.Native.Nat.{ℕ, zero, suc, _+_, _*_, _-_, _≤_, _<_, zero-le}
 use native.Mathlib.Nat as ℕ
 use native.Mathlib.Decide.{decLt}
 use native.Mathlib.Omega.{arith}
 use Rattle.algebra.proofs.Ring.{Ring, Field}
-use Rattle.algebra.proofs.Ring.{mul-zero, sub-zero-of-eq, inverse-mul}
-use Rattle.algebra.proofs.Power.{power}
+use Rattle.algebra.proofs.Ring.{zero-add, one-mul, mul-zero, sub-zero-of-eq, inverse-mul}
+use Rattle.algebra.proofs.Power.{power, power-zero, power-suc-left}
 use Rattle.algebra.proofs.Polynomial.{
   Polynomial,
   Below,
@@ -35,6 +37,9 @@ use Rattle.algebra.proofs.Polynomial.{
   coefficient-x-power-mul-above,
   scale,
   X,
+  constant-polynomial-hom,
+  fromList,
+  fromList-cons,
 }
 use Rattle.algebra.proofs.Monic.{
   Monic,
@@ -71,6 +76,24 @@ module _ {K : Type 0} {R : Ring K} {D : Discrete K} where
             ∙ coefficient-x-power-mul-above k f (i - k)
             ∙ b .above (i - k) (omega arith);
       }
+
+  pub fromList-shift :
+      (k : ℕ) (xs : List K) → fromList R D (replicate k 0# ++ xs) ≡ shift k (fromList R D xs)
+  fromList-shift zero xs =
+      sym
+      (
+      ap (λ u. u ⊠ fromList R D xs) (power-zero (polynomials R D) (X R D))
+      ∙ one-mul (polynomials R D) (fromList R D xs)
+      )
+  fromList-shift (suc k) xs =
+      fromList-cons R D 0# (replicate k 0# ++ xs)
+      ∙ ap₂ _⊞_ (constant-polynomial-hom R D .zero) (ap (_⊠_ (X R D)) (fromList-shift k xs))
+      ∙ zero-add (polynomials R D) (X R D ⊠ shift k (fromList R D xs))
+      ∙ sym
+      (
+      ap (λ u. u ⊠ fromList R D xs) (power-suc-left (polynomials R D) (X R D) k)
+      ∙ polynomials R D .mul-assoc (X R D) (power (polynomials R D) (X R D) k) (fromList R D xs)
+      )
 
   monic-correct :
       {f g : Polynomial R D} {n : ℕ} (c : K) → Monic f n → Below g n → Monic (f ⊞ ⊟ (scale c g)) n
