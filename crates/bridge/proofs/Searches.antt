@@ -17,9 +17,11 @@ use Prim.Native.Nat.{ℕ, zero, suc, _+_, _≤_, _<_, zero-le, suc-le-suc}
 use native.Mathlib.Omega.{arith}
 use native.Mathlib.Nat.{le-of-suc-le-suc, not-suc-le-zero, le-refl, le-trans, eq-or-lt-of-le}
 use mathlib.Core.Path.{_≡_, refl, sym, ap, _∙_, subst}
-use mathlib.Core.Logic.{_⊎_, inl, inr}
+use mathlib.Core.HLevel.{⊥-prop}
+use mathlib.Core.Logic.{_⊎_, inl, inr, ∥∥₁-elim}
 use mathlib.Core.Bool.{Bool, true, false, not, _&&_, _||_}
 use mathlib.Core.List.{List, [], _∷_, map, List·Memᴰ, List·Memᴰ·head, List·Memᴰ·tail}
+use mathlib.Core.List.{List·Nodup, Pairwise·nil, Pairwise·cons}
 use mathlib.Core.Option.{Option, none, some, Option·some-injective, Option·none-ne-some, Option·some-ne-none}
 use lib.ListN.{length, getD, length-map, List·getD-map}
 use lib.Seq.{ext-getD}
@@ -194,6 +196,14 @@ range-member {i} a (suc n) l h = go (range-member (suc a) n) (eq-or-lt-of-le l)
         → List·Memᴰ i (a ∷ range (suc a) n)
     go rest (inl e) = List·Memᴰ·head (sym e)
     go rest (inr s) = List·Memᴰ·tail (rest s (omega arith))
+
+pub range-once : (a n : ℕ) → List·Nodup (range a n)
+unfolding range
+range-once a zero = Pairwise·nil
+range-once a (suc n) = Pairwise·cons (λ i m e. ∥∥₁-elim m ⊥-prop (λ h. later i e h)) (range-once (suc a) n)
+  where
+    later : (i : ℕ) → a ≡ i → ¬ List·Memᴰ i (range (suc a) n)
+    later i e h = let l = member-range (suc a) n h in omega arith
 
 module _ (t : ℕ → Bool) where
   pub all-range : (a n : ℕ) → T (holdsForAll t (range a n)) → (i : ℕ) → a ≤ i → i < a + n → T (t i)
