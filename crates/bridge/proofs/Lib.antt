@@ -1,2 +1,3 @@
 pub mod Searches
 pub mod Interpretation
+pub mod Polynomials
