@@ -1,3 +1,4 @@
 pub mod Searches
 pub mod Interpretation
 pub mod Polynomials
+pub mod Products

@@ -146,6 +146,12 @@ module _ {A : Type 0} (t : A → Bool) where
   pub member-none : (l : List A) → ((a : A) → List·Memᴰ a l → ¬ T (t a)) → ¬ T (holdsForSome t l)
   member-none l h p = let (a, m, q) = some-member l p in h a m q
 
+-- what stands in a place of a list is a member
+pub getD-member : {A : Type 0} (l : List A) (i : ℕ) (d : A) → i < length l → List·Memᴰ (getD l i d) l
+getD-member [] i d k = absurd (not-suc-le-zero k)
+getD-member (a ∷ l) zero d k = List·Memᴰ·head refl
+getD-member (a ∷ l) (suc i) d k = List·Memᴰ·tail (getD-member l i d (le-of-suc-le-suc k))
+
 -- The searches depend on the values of the test at the members alone
 module _ {A : Type 0} (t u : A → Bool) (l : List A) (same : (a : A) → List·Memᴰ a l → t a ≡ u a) where
   pub all-same : holdsForAll t l ≡ holdsForAll u l
