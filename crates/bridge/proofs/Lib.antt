@@ -2,3 +2,4 @@ pub mod Searches
 pub mod Interpretation
 pub mod Polynomials
 pub mod Products
+pub mod Spread
