@@ -3,3 +3,4 @@ pub mod Interpretation
 pub mod Polynomials
 pub mod Products
 pub mod Spread
+pub mod Monics
