@@ -3,4 +3,5 @@ pub mod Interpretation
 pub mod Polynomials
 pub mod Products
 pub mod Spread
+pub mod Actions
 pub mod Monics

@@ -6,7 +6,7 @@
 --   poly-plus, poly-scale, poly-times, poly-one == operations on lists are those of polynomials; no condition
 --   times-elements == products of any two lists have elements of F alone for numbers
 --   length-times, degree-times == the product of lists that are not empty
---   isMonicOver in words: monic-length, monic-last, monic-elements, and monic-over the other way
+--   monic-length, monic-last, monic-elements, monic-over == `isMonicOver` in words, and back
 --   monic-poly     == a monic list is a monic polynomial of the list's degree
 --   list-equal     == lists of elements of one length with the same polynomial are equal
 --   monic-equal    == monic lists with the same polynomial are equal

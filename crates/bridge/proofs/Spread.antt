@@ -38,7 +38,6 @@ use Rattle.bridge.proofs.Interpretation.{prime-size, prime-characterist
 use Rattle.bridge.proofs.Polynomials.{poly, coefficient-poly, elements-nil, elements-cons}
 use Rattle.bridge.proofs.Polynomials.{elements-uncons}
 use Rattle.bridge.proofs.Polynomials.{degree-length, length-degree, list-equal, monic-over}
-use Rattle.bridge.proofs.Polynomials.{monic-length}
 use Rattle.bridge.proofs.Polynomials.{monic-last, monic-elements, monic-nonempty}
 use Rattle.bridge.proofs.Products.{poly-power, power-elements, power-nonempty, degree-power}
 
