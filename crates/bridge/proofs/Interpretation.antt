@@ -361,6 +361,10 @@ module _ {F : Field} (I : IsField F) where
           ∥∥₁-elim h (ℕ-set m n)
           (λ i. ∥∥₁-elim k (ℕ-set m n) (λ j. element-injective (below i) (below j) e))
 
+  pub elements-all : elements .all ≡ map element (range 0 (F .size))
+  unfolding elements
+  elements-all = refl
+
   -- Raising to the size, and to powers of the characteristic where that is the size
   pub power-size : (c : K) → power ring c (F .size) ≡ c
   power-size c = elim (field .discrete c 0#) [

@@ -9,7 +9,7 @@
 --   least-none     == where it finds none, no number up to the bound passes
 --   least-found, least-missing == the converses
 --   together-range == `together` of the answers of a range has each of the answers, in order
---   settle-answered, settle-refused == what a settled table says of its conditions
+--   settle-answered, answered-settle, settle-refused == what a settled table says of its conditions
 --
 -- Membership is `List·Memᴰ`, as data.
 -- Assumes nothing.
@@ -553,6 +553,11 @@ module _ {A : Type 0} (v : Unit {0} → Option A) where
       go (some n) f =
           let g : refused n ≡ answered a = sym (rw (f, settle)) ∙ e in
           absurd (let z : _≡_ {A = ℕ} 0 1 = cc in omega arith)
+
+  pub answered-settle :
+      (table : List Check) {a : A} → NoneHolds table → v tt ≡ some a → settle table v ≡ answered a
+  unfolding valueOf
+  answered-settle table h e = settle-none table v (firstOf-none table h) ∙ ap valueOf e
 
   -- a refusal names a condition of the table that holds; the number 0 stands for a missing value
   pub settle-refused :
