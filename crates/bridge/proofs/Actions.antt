@@ -9,7 +9,9 @@
 --   actAt-plus, actAt-scale, actAt-sequence-add, actAt-sequence-scale == additive, in both arguments
 --   actAt-local    == the action at place k depends on the terms from k on alone, as many as the list has
 --   actAt-equal    == lists with the same polynomial act alike
---   actStride F g q s k == c0·s(k) + c1·s(k+q) + c2·s(k+2q) + …; `actAt-spread`: the action of a spread list
+--   actStride F g q s k == c0·s(k) + c1·s(k+q) + c2·s(k+2q) + …, the action with the stride q; it is that of
+--                     the list spread q places apart by `actAt-spread`
+--   actAt-power-stride, prime-actAt-power == the power p^w of a list acts with the stride p^w
 --   endless-kills, kills-endless == annihilation of an endless sequence is that of `algebra`
 --   endless-times, endless-power == multiples and higher powers of what annihilates annihilate too
 --   known-places, places-known == annihilation of known terms is that each place is 0; for a stretch of a
@@ -19,7 +21,7 @@
 --   getD-cut, length-cut == the terms of a stretch
 --
 -- Assumes nothing.
-use Prim.Native.Nat.{ℕ, zero, suc, _+_, _*_, _-_, _%_, _≤_, _<_}
+use Prim.Native.Nat.{ℕ, zero, suc, _+_, _*_, _-_, _^_, _%_, _≤_, _<_}
 use mathlib.Core.Path.{_≡_, refl, sym, ap, ap₂, subst, fun-ext, _∙_}
 use mathlib.Core.List.{List, [], _∷_, _++_, map}
 use native.Mathlib.Nat.{not-suc-le-zero, le-of-suc-le-suc, mod-lt, mod-eq-of-lt, add-mod-right}
@@ -28,7 +30,7 @@ use native.Mathlib.Omega.{arith}
 use lib.ListN.{length, getD, take, drop}
 use lib.Seq.{ext-getD}
 use lib.Dec.{T, eqb, eqb→eq, eqb-refl}
-use Rattle.meaning.specs.Field.{Field, areElements}
+use Rattle.meaning.specs.Field.{Field, prime, areElements}
 use Rattle.meaning.specs.Polynomial.{Polynomial, degree, isMonicOver, plus, scale, times, power, product}
 use Rattle.meaning.specs.Portion.{withPower}
 use Rattle.meaning.specs.Sequence.{Sequence, InField, actAt, known, periodic, AnnihilatesEndless}
@@ -43,11 +45,12 @@ use Rattle.algebra.proofs.Cut.{Periodic, periodic-all, periodic-remainder}
 use Rattle.bridge.proofs.Searches.{all-first, first-all}
 use Rattle.bridge.proofs.Interpretation.{IsField, element-injective, element-zero-only, element-add}
 use Rattle.bridge.proofs.Interpretation.{element-mul, add-below, mul-below, size-positive}
-use Rattle.bridge.proofs.Interpretation.{number-zero-mul, number-zero-add}
+use Rattle.bridge.proofs.Interpretation.{number-zero-mul, number-zero-add, prime-characteristic-number}
 use Rattle.bridge.proofs.Polynomials.{poly, polyRing, poly-plus, poly-scale, poly-times, poly-one}
 use Rattle.bridge.proofs.Polynomials.{monic-poly, getD-below, getD-elements}
 use Rattle.bridge.proofs.Products.{poly-power, factorAt, Nonempties, product-split}
-use Rattle.bridge.proofs.Spread.{gap, spread, spread-nil, spread-cons}
+use Rattle.bridge.proofs.Spread.{gap, spread, spread-nil, spread-cons, raise, power-spread}
+use Rattle.bridge.proofs.Spread.{characteristic-power-pos, prime-power-spread}
 
 pub actAt-nil : (F : Field) (s : Sequence) (k : ℕ) → actAt F [] s k ≡ 0
 unfolding actAt
@@ -256,6 +259,27 @@ pub actStride-cons :
 unfolding actStride
 actStride-cons F c g q s k = refl
 
+pub actStride-local :
+    (F : Field) (g : Polynomial) (q : ℕ) (s t : Sequence) (j k : ℕ)
+    → ((i : ℕ) → i < length g → s (j + q * i) ≡ t (k + q * i))
+    → actStride F g q s j ≡ actStride F g q t k
+unfolding actStride
+actStride-local F [] q s t j k h = refl
+actStride-local F (c ∷ g) q s t j k h =
+    ap₂ (F .add) (ap ((F .mul) c) first) (actStride-local F g q s t (j + q) (k + q) rest)
+  where
+    zeroth : (n : ℕ) → n + q * 0 ≡ n
+    zeroth n = omega (arith, ℕ.mul-zero q)
+
+    later : (n i : ℕ) → n + q * suc i ≡ n + q + q * i
+    later n i = omega (arith, ℕ.mul-suc q i)
+
+    first : s j ≡ t k
+    first = ap s (sym (zeroth j)) ∙ h 0 (omega arith) ∙ ap t (zeroth k)
+
+    rest : (i : ℕ) → i < length g → s (j + q + q * i) ≡ t (k + q + q * i)
+    rest i l = ap s (sym (later j i)) ∙ h (suc i) (omega arith) ∙ ap t (later k i)
+
 module _ {F : Field} (I : IsField F) where
   -- zeros before a list pass over as many terms
   actAt-gap :
@@ -288,6 +312,34 @@ module _ {F : Field} (I : IsField F) where
     where
       place : suc k + (q - 1) ≡ k + q
       place = omega arith
+
+  pub actStride-below : (g : Polynomial) (q : ℕ) (s : Sequence) (k : ℕ) → actStride F g q s k < F .size
+  unfolding actStride
+  actStride-below [] q s k = size-positive I
+  actStride-below (c ∷ g) q s k = add-below I ((F .mul) c (s k)) (actStride F g q s (k + q))
+
+  -- the power p^w of a list acts with the stride p^w
+  pub actAt-power-stride :
+      (w : ℕ) (f : Polynomial)
+      → 0 < length f
+      → (s : Sequence) (k : ℕ)
+      → actAt F (power F f (F .characteristic ^ w)) s k
+      ≡ actStride F (map (raise F (F .characteristic ^ w)) f) (F .characteristic ^ w) s k
+  actAt-power-stride w f l s k =
+      ap (λ g. actAt F g s k) (power-spread I w f l)
+      ∙ actAt-spread (F .characteristic ^ w) (characteristic-power-pos I w) _ s k
+
+pub prime-actAt-power :
+    (p : ℕ) (I : IsField (prime p)) (w : ℕ) (f : Polynomial)
+    → 0 < length f
+    → T (areElements (prime p) f)
+    → (s : Sequence) (k : ℕ)
+    → actAt (prime p) (power (prime p) f (p ^ w)) s k ≡ actStride (prime p) f (p ^ w) s k
+prime-actAt-power p I w f l h s k =
+    ap (λ g. actAt (prime p) g s k) (prime-power-spread p I w f l h) ∙ actAt-spread I (p ^ w) pos f s k
+  where
+    pos : 0 < p ^ w
+    pos = subst (λ c. 0 < c ^ w) (prime-characteristic-number p) (characteristic-power-pos I w)
 
 -- Endless sequences
 module _ {F : Field} (I : IsField F) where
