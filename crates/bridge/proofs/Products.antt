@@ -255,6 +255,16 @@ pub withPower-monics :
 withPower-monics F i r l h j k =
     subst (λ f. T (isMonicOver F f)) (sym (factorAt-withPower i r l j)) (h j (rw length-withPower at k))
 
+-- the degree with the power r in place i
+pub degree-split :
+    (l : List (Polynomial × ℕ)) (i r : ℕ)
+    → i < length l
+    → totalDegree (withPower i r l) ≡ r * degree (factorAt l i) + totalDegree (withPower i 0 l)
+unfolding withPower totalDegree
+degree-split [] i r k = absurd (not-suc-le-zero k)
+degree-split (f ∷ l) zero r k = omega (arith, ℕ.zero-mul (degree (f .0)))
+degree-split (f ∷ l) (suc i) r k = omega (arith, degree-split l i r (le-of-suc-le-suc k))
+
 pub product-nil : (F : Field) → product F [] ≡ 1 ∷ []
 unfolding product
 product-nil F = refl
@@ -344,16 +354,6 @@ module _ {F : Field} (I : IsField F) where
     where
       rest : Nonempties l
       rest = nonempties-rest f l h
-
-  -- the degree with the power r in place i
-  pub degree-split :
-      (l : List (Polynomial × ℕ)) (i r : ℕ)
-      → i < length l
-      → totalDegree (withPower i r l) ≡ r * degree (factorAt l i) + totalDegree (withPower i 0 l)
-  unfolding withPower totalDegree
-  degree-split [] i r k = absurd (not-suc-le-zero k)
-  degree-split (f ∷ l) zero r k = omega (arith, ℕ.zero-mul (degree (f .0)))
-  degree-split (f ∷ l) (suc i) r k = omega (arith, degree-split l i r (le-of-suc-le-suc k))
 
   -- The products as polynomials
   abbrev pub polys : List (Polynomial × ℕ) → List (Poly I)
