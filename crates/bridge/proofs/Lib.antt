@@ -5,3 +5,4 @@ pub mod Products
 pub mod Spread
 pub mod Actions
 pub mod Monics
+pub mod Irreducibles

@@ -20,10 +20,9 @@ use mathlib.Core.Logic.{_⊎_, inl, inr, ∥∥₁-elim}
 use mathlib.Core.Bool.{Bool}
 use mathlib.Core.List.{List, [], _∷_, _++_, map, List·Mem, List·Memᴰ, List·Memᴰ·head, List·Memᴰ·tail}
 use mathlib.Core.List.{Memᴰ·cast, Memᴰ·append-left, Memᴰ·append-right, List·Memᴰ·append-cases, Memᴰ·map}
-use mathlib.Core.List.{Memᴰ·of-map, List·Memᴰ·not-nil, List·Nodup, Pairwise·nil}
-use mathlib.Core.List.{Pairwise·cons, head-eq-of-cons-eq, tail-eq-of-cons-eq}
-use mathlib.Mathlib.Data.List.Nodup.{append, nodup-singleton}
-use mathlib.Mathlib.Data.List.Nodup.{map as nodup-map}
+use mathlib.Core.List.{Memᴰ·of-map, List·Memᴰ·not-nil, List·Nodup, Pairwise·nil, Pairwise·cons}
+use mathlib.Core.List.{head-eq-of-cons-eq, tail-eq-of-cons-eq}
+use mathlib.Mathlib.Data.List.Nodup.{append, nodup-singleton, map as nodup-map}
 use native.Mathlib.Nat.{not-suc-le-zero, le-of-suc-le-suc, pow-zero, pow-suc, pow-succ', mod-lt, div-add-mod'}
 use native.Mathlib.Nat.{div-lt-iff-lt-mul, div-div-eq-div-mul, div-one, suc-mul}
 use native.Mathlib.Omega.{arith}
