@@ -28,7 +28,7 @@ use lib.ListN.{length-map}
 use lib.Dec.{T, leb, eqb, leb→le, le→leb, eqb→eq, eqb-refl, T-not, not-T}
 use Rattle.meaning.specs.Search.{range, holdsForAll}
 use Rattle.meaning.specs.Field.{Field, prime, isPrime, primeInRange, largestPrime, multiple, negative}
-use Rattle.meaning.specs.Field.{Prime as MeaningPrime}
+use Rattle.meaning.specs.Field.{PrimeNumber}
 use Rattle.algebra.proofs.Ring.{Ring, Field as AlgebraField, neg-unique, one-mul, mul-zero, zero-add}
 use Rattle.algebra.proofs.Ring.{mul-neg, mul-nonzero}
 use Rattle.algebra.proofs.Number.{Prime, prime-pos, prime-by-remainders, prime-factors}
@@ -132,10 +132,10 @@ prime-isPrime {n} P =
         not-T (eqb (n % d) 0)
         (λ h. P .indivisible d l (omega arith) (dvd-of-mod-eq-zero d (eqb→eq (n % d) 0 h)))
 
-pub prime-meaning : {n : ℕ} → Prime n → MeaningPrime n
+pub prime-meaning : {n : ℕ} → Prime n → PrimeNumber n
 prime-meaning P = record { atLeastTwo = P .large; onlyTrivial = prime-factors P }
 
-pub meaning-prime : {n : ℕ} → MeaningPrime n → Prime n
+pub meaning-prime : {n : ℕ} → PrimeNumber n → Prime n
 meaning-prime {n} P = record { large = P .atLeastTwo; indivisible = indivisible }
   where
     indivisible : (d : ℕ) → 1 < d → d < n → ¬ (d ∣ n)
@@ -144,10 +144,10 @@ meaning-prime {n} P = record { large = P .atLeastTwo; indivisible = indivisible 
       | inr e ↦ absurd (omega arith)
     ]
 
-pub isPrime-meaning : (n : ℕ) → T (isPrime n) → MeaningPrime n
+pub isPrime-meaning : (n : ℕ) → T (isPrime n) → PrimeNumber n
 isPrime-meaning n h = prime-meaning (isPrime-prime n h)
 
-pub meaning-isPrime : {n : ℕ} → MeaningPrime n → T (isPrime n)
+pub meaning-isPrime : {n : ℕ} → PrimeNumber n → T (isPrime n)
 meaning-isPrime P = prime-isPrime (meaning-prime P)
 
 -- The range of refusal 6

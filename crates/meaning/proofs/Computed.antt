@@ -1,7 +1,8 @@
--- One name that opens every executable definition of specs/, so that a row computes under `unfolding
--- computed`. Each other name opens one file, or a part of it. Assumes nothing.
-use Rattle.meaning.specs.Search.{range, holdsForAll, holdsForSome, mapOption, bind, isNone, least}
-use Rattle.meaning.specs.Search.{together}
+-- One name that opens every executable definition of specs/, so that a row computes under `unfolding computed`.
+-- Each other name opens one file, or a part of it.
+-- Assumes nothing.
+use Rattle.meaning.specs.Search.{range, holdsForAll, holdsForSome, firstThat, mapOption, bind, isNone}
+use Rattle.meaning.specs.Search.{least, together}
 use Rattle.meaning.specs.Field.{prime, isPrime, largestPrime, primeInRange, isElement, areElements}
 use Rattle.meaning.specs.Field.{multiple, negative}
 use Rattle.meaning.specs.Polynomial.{degree, leading, isMonic, isMonicOver, plus, scale, times, power}
@@ -20,22 +21,25 @@ use Rattle.meaning.specs.Period.{periodPower, periodTable, periodAnswer,
 use Rattle.meaning.specs.Portion.{factorsOf, withPower, leastAt, setPowers, onward, setRating, setTable}
 use Rattle.meaning.specs.Portion.{setAnswer, rateSet, factorTable, acceptedFactors, portionTable}
 use Rattle.meaning.specs.Portion.{ratePortion}
-use Rattle.meaning.specs.Free.{fitsDegree, leastDegree, freeRating, freeTable, rateFree}
-use Rattle.meaning.specs.Continuation.{continueTable, filled, continueSequence, irreducibleTable}
-use Rattle.meaning.specs.Continuation.{askIrreducible}
+use Rattle.meaning.specs.Free.{fitsDegree, leastDegree, isUnique, freePolynomial, freeRating, freeTable}
+use Rattle.meaning.specs.Free.{rateFree}
+use Rattle.meaning.specs.Continuation.{continueTable, filled, continueSequence}
+use Rattle.meaning.specs.Irreducibility.{irreducibleTable, askIrreducible}
 use Rattle.meaning.specs.Route.{lookUp, bodyLengths, admitted, stopped, before, walk, bodies, appended}
 use Rattle.meaning.specs.Route.{number, byteOf, factorUpper, modeOf, suits, modeUnsuited, suited}
 use Rattle.meaning.specs.Route.{records, endRecord, readRecord, boxOf}
-use Rattle.meaning.specs.File.{fileFactor, polynomialOf, fileDegreeOutOfRange, fileNotMonic, freeLabel, termsOf}
-use Rattle.meaning.specs.File.{rated, ofPeriod, ofSet, ofFree, rateMode, rateRecords, rateFile}
+use Rattle.meaning.specs.File.{fileFactor, polynomialOf, fileDegreeOutOfRange, fileNotMonic, termsOf}
+use Rattle.meaning.specs.File.{fileAnswer, ofPeriod, ofSet, freeLabel, ofFree, rateMode, rateRecords}
+use Rattle.meaning.specs.File.{rateFile}
 use Rattle.meaning.specs.Print.{text, digits, decimal, joined, line, header, labelWord, density}
 use Rattle.meaning.specs.Print.{resultLine, polyLine, report, printed}
 use Rattle.meaning.specs.Answers.{numberOf, toldIrreducible, toldFilling, toldPower, toldFree, toldSet}
-use Rattle.meaning.specs.Answers.{setTold, toldFile, labelTold, fileTold, toldRecord, padded, setPadded}
-use Rattle.meaning.specs.Answers.{labelPowers, filePadded}
+use Rattle.meaning.specs.Answers.{setFiguresTold, toldFile, labelTold, fileFiguresTold, toldRecord}
+use Rattle.meaning.specs.Answers.{padded, setPadded, labelPowers, filePadded}
+use Rattle.meaning.specs.Calls.{bufferAfter, bodyAfter}
 
 unfoldable pub openSearch : Unit {0}
-unfolding range holdsForAll holdsForSome mapOption bind isNone least together
+unfolding range holdsForAll holdsForSome firstThat mapOption bind isNone least together
 openSearch = tt
 
 unfoldable pub openField : Unit {0}
@@ -87,12 +91,16 @@ unfolding acceptedFactors portionTable ratePortion
 openPortion-2 = tt
 
 unfoldable pub openFree : Unit {0}
-unfolding fitsDegree leastDegree freeRating freeTable rateFree
+unfolding fitsDegree leastDegree isUnique freePolynomial freeRating freeTable rateFree
 openFree = tt
 
 unfoldable pub openContinuation : Unit {0}
-unfolding continueTable filled continueSequence irreducibleTable askIrreducible
+unfolding continueTable filled continueSequence
 openContinuation = tt
+
+unfoldable pub openIrreducibility : Unit {0}
+unfolding irreducibleTable askIrreducible
+openIrreducibility = tt
 
 unfoldable pub openRoute-1 : Unit {0}
 unfolding lookUp bodyLengths admitted stopped before walk bodies appended number byteOf factorUpper modeOf
@@ -103,11 +111,11 @@ unfolding suits modeUnsuited suited records endRecord readRecord boxOf
 openRoute-2 = tt
 
 unfoldable pub openFile-1 : Unit {0}
-unfolding fileFactor polynomialOf fileDegreeOutOfRange fileNotMonic termsOf rated ofPeriod ofSet ofFree freeLabel
+unfolding fileFactor polynomialOf fileDegreeOutOfRange fileNotMonic termsOf fileAnswer ofPeriod ofSet
 openFile-1 = tt
 
 unfoldable pub openFile-2 : Unit {0}
-unfolding rateMode rateRecords rateFile
+unfolding freeLabel ofFree rateMode rateRecords rateFile
 openFile-2 = tt
 
 unfoldable pub openPrint : Unit {0}
@@ -115,12 +123,16 @@ unfolding text digits decimal joined line header labelWord density resultLine po
 openPrint = tt
 
 unfoldable pub openAnswers-1 : Unit {0}
-unfolding numberOf toldIrreducible toldFilling toldPower toldFree toldSet setTold toldFile labelTold
+unfolding numberOf toldIrreducible toldFilling toldPower toldFree toldSet setFiguresTold toldFile labelTold
 openAnswers-1 = tt
 
 unfoldable pub openAnswers-2 : Unit {0}
-unfolding fileTold toldRecord padded setPadded labelPowers filePadded
+unfolding fileFiguresTold toldRecord padded setPadded labelPowers filePadded
 openAnswers-2 = tt
+
+unfoldable pub openCalls : Unit {0}
+unfolding bufferAfter bodyAfter
+openCalls = tt
 
 unfoldable pub opened-1 : Unit {0}
 unfolding openSearch openField openPolynomial-1 openPolynomial-2 openSequence
@@ -135,11 +147,11 @@ unfolding openPeriod openPortion-1 openPortion-2 openFree openContinuation
 opened-3 = tt
 
 unfoldable pub opened-4 : Unit {0}
-unfolding openRoute-1 openRoute-2 openFile-1 openFile-2 openPrint
+unfolding openIrreducibility openRoute-1 openRoute-2 openFile-1 openFile-2
 opened-4 = tt
 
 unfoldable pub opened-5 : Unit {0}
-unfolding openAnswers-1 openAnswers-2
+unfolding openPrint openAnswers-1 openAnswers-2 openCalls
 opened-5 = tt
 
 unfoldable pub computed : Unit {0}

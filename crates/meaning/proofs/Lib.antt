@@ -6,5 +6,6 @@ pub mod Rows
 pub mod Refusals
 pub mod Boundaries
 pub mod Orders
+pub mod Lines
 pub mod Lent
 pub mod Determined

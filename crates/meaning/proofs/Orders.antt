@@ -1,24 +1,22 @@
--- Computed rows: the order of the checks, on inputs that meet two refusals. `0` stands where nothing is
+-- Computed rows: the order of the checks, on inputs that meet two refusals. `none` stands where nothing is
 -- refused.
 --
 --   Orders == the table: a field for each row      orders == every row holds
 -- Assumes nothing.
-use Prim.Native.Nat.{ℕ, zero, suc}
+use Prim.Native.Nat.{ℕ}
 use mathlib.Core.Path.{_≡_, refl}
-use mathlib.Core.Bool.{true, false}
 use mathlib.Core.List.{List, [], _∷_, _++_}
-use lib.ListN.{replicate, take}
-use Rattle.meaning.specs.Field.{primeInRange}
+use mathlib.Core.Option.{Option, none, some}
+use lib.ListN.{replicate}
 use Rattle.meaning.specs.Polynomial.{Polynomial}
 use Rattle.meaning.specs.Period.{ratePeriod}
 use Rattle.meaning.specs.Portion.{ratePortion, rateSet}
 use Rattle.meaning.specs.Free.{rateFree}
-use Rattle.meaning.specs.Continuation.{continueSequence, askIrreducible}
-use Rattle.meaning.specs.Route.{boxOf}
+use Rattle.meaning.specs.Continuation.{continueSequence}
+use Rattle.meaning.specs.Irreducibility.{askIrreducible}
 use Rattle.meaning.specs.File.{rateFile}
 use Rattle.meaning.proofs.Computed.{computed}
-use Rattle.meaning.proofs.Rows.{numberIn, box, field, mode, factor, term, terms, stop, end, x+1, x²+1}
-use Rattle.meaning.proofs.Rows.{anyChoice}
+use Rattle.meaning.proofs.Rows.{numberIn, box, field, mode, factor, term, stop, end, x+1, x²+1, x²+x+1, anyChoice}
 
 -- over GF(2): a coefficient that is no element, a leading coefficient that is not 1, a degree of 0
 abbrev badCoefficient : Polynomial
@@ -30,107 +28,168 @@ badLeading = 1 ∷ 0 ∷ []
 abbrev badDegree : Polynomial
 badDegree = 1 ∷ []
 
-abbrev set : List Polynomial → List ℕ → List ℕ → ℕ
+abbrev set : List Polynomial → List ℕ → List ℕ → Option ℕ
 set fs vs ts = numberIn (rateSet 2 fs vs ts 4097 8192)
 
-abbrev ofFile : List ℕ → ℕ
-ofFile file = numberIn (rateFile anyChoice file 4097 8192)
+abbrev portion : ℕ → Polynomial → ℕ → List ℕ → Option ℕ
+portion p f v ts = numberIn (ratePortion p f v ts 4097 8192)
 
--- n copies of a record
-abbrev many : ℕ → List ℕ → List ℕ
-many zero r = []
-many (suc n) r = r ++ many n r
+abbrev ofFile : List ℕ → Option ℕ
+ofFile file = numberIn (rateFile anyChoice file 4097 8192)
 
 -- a file whose header names the field p and the mode m
 abbrev headed : ℕ → ℕ → List ℕ → List ℕ
 headed p m rest = box 7 ++ (field p ++ (mode m ++ rest))
 
 pub record Orders : Type 0 where
-  -- calls: the lower number is given
-  pub sixSeven : numberIn (ratePeriod 4 x+1 [] 4097 8192) ≡ 6
-  pub sevenEight : numberIn (ratePeriod 2 x+1 (replicate 4097 2) 4097 8192) ≡ 7
-  pub eightNine : set [] [] (2 ∷ []) ≡ 8
-  pub nineTen : set (replicate 9 badDegree) [] (0 ∷ []) ≡ 9
-  pub tenEleven : numberIn (ratePeriod 2 (2 ∷ []) (0 ∷ []) 4097 8192) ≡ 10
-  pub elevenTwelve : numberIn (ratePeriod 2 (1 ∷ 0 ∷ 3 ∷ []) (0 ∷ []) 4097 8192) ≡ 11
-  pub twelveSixteen : numberIn (ratePeriod 2 x²+1 (0 ∷ []) 0 0) ≡ 12
-  pub fourteenFifteen : set (x+1 ∷ []) (4097 ∷ []) (0 ∷ []) ≡ 14
-  pub fifteenSixteen : numberIn (ratePortion 2 x+1 2 (0 ∷ []) 0 0) ≡ 15
-  pub sixteenSeventeen : numberIn (ratePeriod 2 (1 ∷ 1 ∷ 1 ∷ []) (0 ∷ 0 ∷ 0 ∷ 1 ∷ []) 4097 0) ≡ 16
-  pub continueTenFifteen : numberIn (continueSequence 2 (replicate 4098 0) [] 0 (0 ∷ [])) ≡ 10
-  pub continueElevenFifteen : numberIn (continueSequence 2 [] (1 ∷ []) 0 (0 ∷ [])) ≡ 11
+  -- the period way: the lower number is given
+  pub period6and7 : numberIn (ratePeriod 4 x+1 [] 4097 8192) ≡ some 6
+  pub period7and8 : numberIn (ratePeriod 2 x+1 (replicate 4097 2) 4097 8192) ≡ some 7
+  pub period8and10 : numberIn (ratePeriod 2 badDegree (2 ∷ []) 4097 8192) ≡ some 8
+  pub period10and11 : numberIn (ratePeriod 2 (2 ∷ []) (0 ∷ []) 4097 8192) ≡ some 10
+  pub period12and16 : numberIn (ratePeriod 2 x²+1 (0 ∷ []) 0 0) ≡ some 12
+  pub period16and17 : numberIn (ratePeriod 2 x²+x+1 (0 ∷ 0 ∷ 0 ∷ 1 ∷ []) 4097 0) ≡ some 16
+  -- the portion way
+  pub portion6and7 : portion 4 x+1 1 [] ≡ some 6
+  pub portion7and8 : portion 2 x+1 1 (replicate 4097 2) ≡ some 7
+  pub portion8and10 : portion 2 badDegree 1 (2 ∷ []) ≡ some 8
+  pub portion10and11 : portion 2 (2 ∷ []) 1 (0 ∷ []) ≡ some 10
+  pub portion11and14 : portion 2 badLeading 0 (0 ∷ []) ≡ some 11
+  pub portion12and14 : portion 2 x²+1 0 (0 ∷ []) ≡ some 12
+  pub portion14and15 : portion 2 x+1 4097 (0 ∷ []) ≡ some 14
+  pub portion15and16 : numberIn (ratePortion 2 x+1 2 (0 ∷ []) 0 0) ≡ some 15
+  pub portion16and17 : numberIn (ratePortion 2 x+1 1 (1 ∷ 0 ∷ []) 0 0) ≡ some 16
+  -- the set way
+  pub set6and7 : numberIn (rateSet 4 (x+1 ∷ []) (1 ∷ []) [] 4097 8192) ≡ some 6
+  pub set7and8 : set (x+1 ∷ []) (1 ∷ []) (replicate 4097 2) ≡ some 7
+  pub set8and9 : set [] [] (2 ∷ []) ≡ some 8
+  pub set9and10 : set (replicate 9 badDegree) [] (0 ∷ []) ≡ some 9
+  pub set12and13 : set (x²+1 ∷ x²+1 ∷ []) [] (0 ∷ []) ≡ some 12
+  pub set13and14 : set (x+1 ∷ x+1 ∷ []) [] (0 ∷ []) ≡ some 13
+  pub set14and15 : set (x+1 ∷ []) (4097 ∷ []) (0 ∷ []) ≡ some 14
+  pub set15and16 : numberIn (rateSet 2 (x+1 ∷ []) (2 ∷ []) (0 ∷ []) 0 0) ≡ some 15
+  pub set16and17 : numberIn (rateSet 2 (x+1 ∷ []) (1 ∷ []) (1 ∷ 0 ∷ []) 0 0) ≡ some 16
+  -- the free way, the continuation, the question whether a polynomial is irreducible
+  pub free6and7 : numberIn (rateFree anyChoice 4 [] 4097 8192) ≡ some 6
+  pub free7and8 : numberIn (rateFree anyChoice 2 (replicate 4097 2) 4097 8192) ≡ some 7
+  pub free8and16 : numberIn (rateFree anyChoice 2 (2 ∷ []) 0 0) ≡ some 8
+  pub continue6and7 : numberIn (continueSequence 4 x+1 (1 ∷ []) 0 []) ≡ some 6
+  pub continue7and8 : numberIn (continueSequence 2 x+1 (2 ∷ []) 0 []) ≡ some 7
+  pub continue8and10 : numberIn (continueSequence 2 (replicate 4098 0) (2 ∷ []) 0 (0 ∷ [])) ≡ some 8
+  pub continue10and11 : numberIn (continueSequence 2 (replicate 4098 0) [] 0 (0 ∷ [])) ≡ some 10
+  pub continue11and15 : numberIn (continueSequence 2 [] (1 ∷ []) 0 (0 ∷ [])) ≡ some 11
+  pub ask6and10 : numberIn (askIrreducible 4 badDegree) ≡ some 6
+  pub ask10and11 : numberIn (askIrreducible 2 (2 ∷ [])) ≡ some 10
   -- each check goes over all factors before the next begins
-  pub tenOverAll : set (badCoefficient ∷ badDegree ∷ []) [] (0 ∷ []) ≡ 10
-  pub elevenOverAll : set (x²+1 ∷ badLeading ∷ []) [] (0 ∷ []) ≡ 11
-  pub twelveOverAll : set (x+1 ∷ x+1 ∷ x²+1 ∷ []) [] (0 ∷ []) ≡ 12
-  pub thirteenOverAll : set (x+1 ∷ (0 ∷ 1 ∷ []) ∷ x+1 ∷ []) (0 ∷ 0 ∷ 0 ∷ []) (0 ∷ []) ≡ 13
-  pub thirteenForgetsUppers : set (x+1 ∷ x+1 ∷ []) (1 ∷ 2 ∷ []) (0 ∷ 0 ∷ 0 ∷ []) ≡ 13
+  pub tenOverAll : set (badCoefficient ∷ badDegree ∷ []) [] (0 ∷ []) ≡ some 10
+  pub elevenOverAll : set (x²+1 ∷ badLeading ∷ []) [] (0 ∷ []) ≡ some 11
+  pub twelveOverAll : set (x+1 ∷ x+1 ∷ x²+1 ∷ []) [] (0 ∷ []) ≡ some 12
+  pub thirteenOverAll : set (x+1 ∷ (0 ∷ 1 ∷ []) ∷ x+1 ∷ []) (0 ∷ 0 ∷ 0 ∷ []) (0 ∷ []) ≡ some 13
+  pub thirteenForgetsUppers : set (x+1 ∷ x+1 ∷ []) (1 ∷ 2 ∷ []) (0 ∷ 0 ∷ 0 ∷ []) ≡ some 13
+  pub fileTenOverAll : ofFile (headed 2 2 (factor 1 1 (2 ∷ []) ++ (factor 0 1 [] ++ (term 0 ++ end))))
+      ≡ some 10
+  pub fileElevenOverAll : ofFile (headed 2 2 (factor 2 1 (1 ∷ []) ++ (factor 1 1 (2 ∷ []) ++ (term 0 ++ end))))
+      ≡ some 11
   -- files: the first bad record decides, and at a record 2, 3 and 4 are tried in turn
-  pub longBeforeKind : ofFile (9 ∷ replicate 16384 9) ≡ 1
-  pub kindBeforeCut : ofFile (box 7 ++ (9 ∷ [])) ≡ 2
-  pub cutBeforePlace : ofFile (box 7 ++ (3 ∷ [])) ≡ 3
-  pub placeBeforeMissingEnd : ofFile (box 7 ++ mode 1) ≡ 4
-  pub placeBeforeLaterKind : ofFile (mode 1 ++ (9 ∷ [])) ≡ 4
-  pub missingEnd : ofFile (headed 2 3 []) ≡ 3
-  pub endBeforeField : ofFile (box 7 ++ end) ≡ 4
-  pub endBeforeMode : ofFile (box 7 ++ (field 2 ++ end)) ≡ 4
-  pub factorAfterTerm : ofFile (headed 2 2 (term 0 ++ (factor 1 1 (1 ∷ []) ++ end))) ≡ 4
-  pub fieldTwice : ofFile (box 7 ++ (field 2 ++ (field 2 ++ end))) ≡ 4
-  pub stopFirst : ofFile (stop ++ end) ≡ 4
-  pub unknownAfterEnd : ofFile (headed 2 3 (term 0 ++ (end ++ (0 ∷ [])))) ≡ 2
-  pub cutAfterEnd : ofFile (headed 2 3 (term 0 ++ (end ++ (7 ∷ [])))) ≡ 3
-  pub placeAfterEnd : ofFile (headed 2 3 (term 0 ++ (end ++ end))) ≡ 4
-  pub stopAfterEnd : ofFile (headed 2 3 (term 0 ++ (end ++ stop))) ≡ 4
+  pub longBeforeKind : ofFile (9 ∷ replicate 16384 9) ≡ some 1
+  pub kindBeforeCut : ofFile (box 7 ++ (9 ∷ [])) ≡ some 2
+  pub cutBeforePlace : ofFile (box 7 ++ (3 ∷ [])) ≡ some 3
+  pub placeBeforeMissingEnd : ofFile (box 7 ++ mode 1) ≡ some 4
+  pub placeBeforeLaterKind : ofFile (mode 1 ++ (9 ∷ [])) ≡ some 4
+  pub overAtStart : ofFile [] ≡ some 3
+  pub overAfterBox : ofFile (box 7) ≡ some 3
+  pub overAfterField : ofFile (box 7 ++ field 2) ≡ some 3
+  pub overAfterMode : ofFile (headed 2 3 []) ≡ some 3
+  pub overAfterFactor : ofFile (headed 2 2 (factor 1 1 [])) ≡ some 3
+  pub overAfterTerm : ofFile (headed 2 3 (term 0)) ≡ some 3
+  pub endBeforeField : ofFile (box 7 ++ end) ≡ some 4
+  pub endBeforeMode : ofFile (box 7 ++ (field 2 ++ end)) ≡ some 4
+  pub factorAfterTerm : ofFile (headed 2 2 (term 0 ++ (factor 1 1 (1 ∷ []) ++ end))) ≡ some 4
+  pub boxTwice : ofFile (box 7 ++ headed 2 3 (term 0 ++ end)) ≡ some 4
+  pub fieldTwice : ofFile (box 7 ++ (field 2 ++ (field 2 ++ (mode 3 ++ (term 0 ++ end))))) ≡ some 4
+  pub modeTwice : ofFile (headed 2 3 (mode 3 ++ (term 0 ++ end))) ≡ some 4
+  pub modeBeforeField : ofFile (box 7 ++ (mode 3 ++ (field 2 ++ (term 0 ++ end)))) ≡ some 4
+  pub stopFirst : ofFile (stop ++ headed 2 3 (term 0 ++ end)) ≡ some 4
+  pub unknownAfterEnd : ofFile (headed 2 3 (term 0 ++ (end ++ (0 ∷ [])))) ≡ some 2
+  pub cutAfterEnd : ofFile (headed 2 3 (term 0 ++ (end ++ (7 ∷ [])))) ≡ some 3
+  pub placeAfterEnd : ofFile (headed 2 3 (term 0 ++ (end ++ end))) ≡ some 4
+  pub stopAfterEnd : ofFile (headed 2 3 (term 0 ++ (end ++ stop))) ≡ some 4
   pub stopsBetween : ofFile (box 7 ++ (stop ++ (field 2 ++ (stop ++ (mode 3 ++ (stop ++ (term 0 ++ (stop ++ end))))))))
-      ≡ 0
+      ≡ none
   -- files: 4 before 5, 5 before 6, and then the checks of the mode
-  pub placeBeforeMode : ofFile (headed 2 9 (end ++ end)) ≡ 4
-  pub modeBeforePrime : ofFile (headed 4 9 end) ≡ 5
-  pub nineInFile : ofFile (headed 4 2 (many 9 (factor 0 0 []) ++ end)) ≡ 5
-  pub noFactorInFile : ofFile (headed 2 2 end) ≡ 5
-  pub freeWithFactor : ofFile (headed 2 3 (factor 1 1 (1 ∷ []) ++ end)) ≡ 5
-  pub periodWithUpper : ofFile (headed 2 1 (factor 1 1 (1 ∷ []) ++ (term 1 ++ end))) ≡ 5
-  pub periodRight : ofFile (headed 2 1 (factor 1 0 (1 ∷ []) ++ (term 1 ++ end))) ≡ 0
-  pub primeBeforeTerms : ofFile (headed 4 3 end) ≡ 6
-  pub noTermInFile : ofFile (headed 2 3 end) ≡ 7
-  pub fileDegree : ofFile (headed 2 2 (factor 33 1 (replicate 32 9) ++ (term 0 ++ end))) ≡ 10
-  pub fileDegree32 : ofFile (headed 2 2 (factor 32 1 (replicate 32 9) ++ (term 0 ++ end))) ≡ 11
-  pub fileCoefficientBeyond : ofFile (headed 2 2 (factor 1 1 (1 ∷ 1 ∷ []) ++ (term 0 ++ end))) ≡ 11
+  pub placeBeforeMode : ofFile (headed 2 9 (end ++ end)) ≡ some 4
+  pub modeBeforePrime : ofFile (headed 4 9 end) ≡ some 5
+  pub primeBeforeTerms : ofFile (headed 4 3 end) ≡ some 6
+  pub fileDegree33 : ofFile (headed 2 2 (factor 33 1 (replicate 32 9) ++ (term 0 ++ end))) ≡ some 10
+  pub fileDegree32 : ofFile (headed 2 2 (factor 32 1 (replicate 32 9) ++ (term 0 ++ end))) ≡ some 11
+  pub fileCoefficientBeyond : ofFile (headed 2 2 (factor 1 1 (1 ∷ 1 ∷ []) ++ (term 0 ++ end))) ≡ some 11
   pub fileCoefficientLast : ofFile (headed 2 2 (factor 1 1 (1 ∷ (replicate 30 0 ++ (1 ∷ []))) ++ (term 0 ++ end)))
-      ≡ 11
-  pub fileUpper : ofFile (headed 2 2 (factor 1 0 (1 ∷ []) ++ (term 0 ++ end))) ≡ 14
+      ≡ some 11
+  pub fileUpperLast : ofFile (headed 2 2 (factor 1 0 (1 ∷ []) ++ end)) ≡ some 7
 
 pub orders : Orders
 unfolding computed
 orders =
     record {
-      sixSeven = refl;
-      sevenEight = refl;
-      eightNine = refl;
-      nineTen = refl;
-      tenEleven = refl;
-      elevenTwelve = refl;
-      twelveSixteen = refl;
-      fourteenFifteen = refl;
-      fifteenSixteen = refl;
-      sixteenSeventeen = refl;
-      continueTenFifteen = refl;
-      continueElevenFifteen = refl;
+      period6and7 = refl;
+      period7and8 = refl;
+      period8and10 = refl;
+      period10and11 = refl;
+      period12and16 = refl;
+      period16and17 = refl;
+      portion6and7 = refl;
+      portion7and8 = refl;
+      portion8and10 = refl;
+      portion10and11 = refl;
+      portion11and14 = refl;
+      portion12and14 = refl;
+      portion14and15 = refl;
+      portion15and16 = refl;
+      portion16and17 = refl;
+      set6and7 = refl;
+      set7and8 = refl;
+      set8and9 = refl;
+      set9and10 = refl;
+      set12and13 = refl;
+      set13and14 = refl;
+      set14and15 = refl;
+      set15and16 = refl;
+      set16and17 = refl;
+      free6and7 = refl;
+      free7and8 = refl;
+      free8and16 = refl;
+      continue6and7 = refl;
+      continue7and8 = refl;
+      continue8and10 = refl;
+      continue10and11 = refl;
+      continue11and15 = refl;
+      ask6and10 = refl;
+      ask10and11 = refl;
       tenOverAll = refl;
       elevenOverAll = refl;
       twelveOverAll = refl;
       thirteenOverAll = refl;
       thirteenForgetsUppers = refl;
+      fileTenOverAll = refl;
+      fileElevenOverAll = refl;
       longBeforeKind = refl;
       kindBeforeCut = refl;
       cutBeforePlace = refl;
       placeBeforeMissingEnd = refl;
       placeBeforeLaterKind = refl;
-      missingEnd = refl;
+      overAtStart = refl;
+      overAfterBox = refl;
+      overAfterField = refl;
+      overAfterMode = refl;
+      overAfterFactor = refl;
+      overAfterTerm = refl;
       endBeforeField = refl;
       endBeforeMode = refl;
       factorAfterTerm = refl;
+      boxTwice = refl;
       fieldTwice = refl;
+      modeTwice = refl;
+      modeBeforeField = refl;
       stopFirst = refl;
       unknownAfterEnd = refl;
       cutAfterEnd = refl;
@@ -139,16 +198,10 @@ orders =
       stopsBetween = refl;
       placeBeforeMode = refl;
       modeBeforePrime = refl;
-      nineInFile = refl;
-      noFactorInFile = refl;
-      freeWithFactor = refl;
-      periodWithUpper = refl;
-      periodRight = refl;
       primeBeforeTerms = refl;
-      noTermInFile = refl;
-      fileDegree = refl;
+      fileDegree33 = refl;
       fileDegree32 = refl;
       fileCoefficientBeyond = refl;
       fileCoefficientLast = refl;
-      fileUpper = refl;
+      fileUpperLast = refl;
     }

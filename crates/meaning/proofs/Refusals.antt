@@ -1,106 +1,203 @@
--- Computed rows: each refusal from 1 to 17 is reached, and the rows M and N of paper 01 with the printed
--- lines of case A.
+-- Computed rows: every refusal that a call or a file can meet is reached.
 --
---   Refusals  == the table: a field for each row      refusals == every row holds
+--   Refusals == the table: a field for each row      refusals == every row holds
 -- Assumes nothing.
-use Prim.Native.Nat.{ℕ}
 use mathlib.Core.Path.{_≡_, refl}
 use mathlib.Core.Bool.{true, false}
-use mathlib.Core.List.{List, [], _∷_, _++_}
+use mathlib.Core.List.{[], _∷_, _++_}
+use mathlib.Core.Option.{some}
 use lib.ListN.{replicate}
-use Rattle.meaning.specs.Result.{Result, refused, answered, figuresOf}
-use Rattle.meaning.specs.Field.{primeInRange}
 use Rattle.meaning.specs.Period.{ratePeriod}
-use Rattle.meaning.specs.Portion.{ratePortion, rateSet}
+use Rattle.meaning.specs.Portion.{ratePortion, rateSet, acceptedFactors}
 use Rattle.meaning.specs.Free.{rateFree}
-use Rattle.meaning.specs.Continuation.{continueSequence, askIrreducible}
+use Rattle.meaning.specs.Continuation.{continueSequence}
+use Rattle.meaning.specs.Irreducibility.{askIrreducible}
 use Rattle.meaning.specs.Route.{readRecord}
 use Rattle.meaning.specs.File.{rateFile}
-use Rattle.meaning.specs.Print.{text, printed}
 use Rattle.meaning.proofs.Computed.{computed}
-use Rattle.meaning.proofs.Rows.{numberIn, box, field, mode, factor, terms, stop, end, x+1, x²+1}
-use Rattle.meaning.proofs.Rows.{anyChoice}
-
--- case A of paper 01 as the file that box 7 sends in mode 2, with a factor of degree d
-abbrev caseA : ℕ → List ℕ → List ℕ
-caseA d cs =
-    box 7
-    ++ (field 2
-    ++ (mode 2
-    ++ (factor d 6 cs
-    ++ (stop
-    ++ (terms (0 ∷ 1 ∷ 0 ∷ 1 ∷ 0 ∷ 0 ∷ 0 ∷ 0 ∷ 1 ∷ 0 ∷ 1 ∷ 1 ∷ 0 ∷ 1 ∷ 0 ∷ 1 ∷ 1 ∷ 0 ∷ []) ++ end)))))
+use Rattle.meaning.proofs.Rows.{numberIn, box, field, mode, factor, term, terms, end, x+1, x²+1, x²+x+1, anyChoice}
 
 pub record Refusals : Type 0 where
-  pub one : numberIn (rateFile anyChoice (replicate 16385 0) 4097 8192) ≡ 1
-  pub two : numberIn (rateFile anyChoice (9 ∷ []) 4097 8192) ≡ 2
-  pub three : numberIn (rateFile anyChoice [] 4097 8192) ≡ 3
-  pub four : numberIn (rateFile anyChoice (field 2) 4097 8192) ≡ 4
-  pub five : numberIn (rateFile anyChoice (box 7 ++ (field 2 ++ (mode 4 ++ end))) 4097 8192) ≡ 5
-  pub six : numberIn (ratePeriod 4 x+1 (0 ∷ 1 ∷ []) 4097 8192) ≡ 6
-  pub seven : numberIn (ratePeriod 2 x+1 [] 4097 8192) ≡ 7
-  pub eight : numberIn (ratePeriod 2 x+1 (0 ∷ 2 ∷ []) 4097 8192) ≡ 8
-  pub nine : numberIn (rateSet 2 [] [] (0 ∷ 1 ∷ []) 4097 8192) ≡ 9
-  pub ten : numberIn (ratePeriod 2 (1 ∷ []) (0 ∷ 1 ∷ []) 4097 8192) ≡ 10
-  pub eleven : numberIn (ratePeriod 2 [] (0 ∷ 1 ∷ []) 4097 8192) ≡ 11
-  pub twelve : numberIn (ratePeriod 2 x²+1 (0 ∷ 1 ∷ []) 4097 8192) ≡ 12
-  pub thirteen : numberIn (rateSet 2 (x+1 ∷ x+1 ∷ []) (1 ∷ 2 ∷ []) (0 ∷ 1 ∷ 1 ∷ []) 4097 8192) ≡ 13
-  pub fourteen : numberIn (ratePortion 2 x+1 0 (0 ∷ 1 ∷ []) 4097 8192) ≡ 14
-  pub fifteen : numberIn (ratePortion 2 x+1 3 (0 ∷ 1 ∷ []) 4097 8192) ≡ 15
-  pub sixteen : numberIn (ratePortion 2 x+1 2 (0 ∷ 1 ∷ []) 4096 8192) ≡ 16
-  pub seventeen : numberIn (ratePortion 2 x+1 1 (1 ∷ 0 ∷ []) 4097 8192) ≡ 17
-  pub freeSix : numberIn (rateFree anyChoice 1 (0 ∷ []) 4097 8192) ≡ 6
-  pub freeSixteen : numberIn (rateFree anyChoice 2 (0 ∷ []) 4097 8191) ≡ 16
-  pub freeZeros : figuresOf (rateFree anyChoice 5 (0 ∷ 0 ∷ 0 ∷ []) 4097 8192)
-      ≡ answered (record { degree = 0; unique = true })
-  pub continueFifteen : numberIn (continueSequence 2 (1 ∷ 1 ∷ 1 ∷ []) (0 ∷ []) 0 (9 ∷ 9 ∷ [])) ≡ 15
-  pub irreducibleSix : numberIn (askIrreducible 6 x+1) ≡ 6
-  pub M : ratePeriod 2 x²+1 (0 ∷ []) 4097 8192 ≡ refused 12
-  pub M-asked : askIrreducible 2 x²+1 ≡ answered false
-  pub M-in-3 : askIrreducible 3 x²+1 ≡ answered true
-  pub N : continueSequence 2 (1 ∷ 1 ∷ 1 ∷ []) (0 ∷ 1 ∷ []) 0 (9 ∷ 9 ∷ 9 ∷ 9 ∷ 9 ∷ 9 ∷ [])
-      ≡ answered (0 ∷ 1 ∷ 1 ∷ 0 ∷ 1 ∷ 1 ∷ [])
-  pub N-from-two : continueSequence 2 (1 ∷ 1 ∷ 1 ∷ []) (0 ∷ 1 ∷ []) 2 (9 ∷ 8 ∷ 7 ∷ []) ≡ answered (9 ∷ 8 ∷ 0 ∷ [])
-  pub printedA : printed anyChoice (caseA 3 (1 ∷ 1 ∷ []))
-      ≡ text "box result density powers\n7 ok 12/18 4\npoly 1 0 0 0 1 0 0 0 0 0 0 0 1\n"
-  pub printedRefusal : printed anyChoice (caseA 2 (1 ∷ 0 ∷ [])) ≡ text "box result density powers\n7 refused 12\n"
-  pub readStop : readRecord (caseA 3 (1 ∷ 1 ∷ [])) 4
-      ≡ answered (record { kind = 7; body = 1 ∷ 2 ∷ 3 ∷ 4 ∷ 5 ∷ 6 ∷ 7 ∷ 8 ∷ [] })
-  pub readBeyond : readRecord (caseA 3 (1 ∷ 1 ∷ [])) 99 ≡ answered (record { kind = 8; body = [] })
+  -- files
+  pub file1 : numberIn (rateFile anyChoice (replicate 16385 0) 4097 8192) ≡ some 1
+  pub file2 : numberIn (rateFile anyChoice (9 ∷ []) 4097 8192) ≡ some 2
+  pub file3 : numberIn (rateFile anyChoice ([]) 4097 8192) ≡ some 3
+  pub file4 : numberIn (rateFile anyChoice (field 2) 4097 8192) ≡ some 4
+  pub file5 : numberIn (rateFile anyChoice (box 7 ++ (field 2 ++ (mode 4 ++ end))) 4097 8192) ≡ some 5
+  pub file6 : numberIn (rateFile anyChoice (box 7 ++ (field 4 ++ (mode 3 ++ (term 0 ++ end)))) 4097 8192)
+      ≡ some 6
+  pub file7 : numberIn (rateFile anyChoice (box 7 ++ (field 2 ++ (mode 3 ++ end))) 4097 8192) ≡ some 7
+  pub file8 : numberIn (rateFile anyChoice (box 7 ++ (field 2 ++ (mode 3 ++ (term 2 ++ end)))) 4097 8192)
+      ≡ some 8
+  pub file10 : numberIn (rateFile anyChoice (box 7 ++ (field 2 ++ (mode 2 ++ (factor 0 1 [] ++ (term 0 ++ end))))) 4097 8192)
+      ≡ some 10
+  pub file11 : numberIn (rateFile anyChoice (box 7 ++ (field 2 ++ (mode 2 ++ (factor 1 1 (2 ∷ []) ++ (term 0 ++ end))))) 4097 8192)
+      ≡ some 11
+  pub file12 : numberIn (rateFile anyChoice (box 7 ++ (field 2 ++ (mode 2 ++ (factor 2 1 (1 ∷ []) ++ (term 0 ++ end))))) 4097 8192)
+      ≡ some 12
+  pub file13 : numberIn (rateFile anyChoice (box 7 ++ (field 2 ++ (mode 2 ++ (factor 1 1 [] ++ (factor 1 1 [] ++ (term 0 ++ end)))))) 4097 8192)
+      ≡ some 13
+  pub file14 : numberIn (rateFile anyChoice (box 7 ++ (field 2 ++ (mode 2 ++ (factor 1 0 [] ++ (term 0 ++ end))))) 4097 8192)
+      ≡ some 14
+  pub file15 : numberIn (rateFile anyChoice (box 7 ++ (field 2 ++ (mode 2 ++ (factor 1 2 [] ++ (term 0 ++ end))))) 4097 8192)
+      ≡ some 15
+  pub file16 : numberIn (rateFile anyChoice (box 7 ++ (field 2 ++ (mode 3 ++ (term 0 ++ end)))) 4096 8192)
+      ≡ some 16
+  pub file17 : numberIn (rateFile anyChoice (box 7 ++ (field 2 ++ (mode 2 ++ (factor 1 1 [] ++ (terms (1 ∷ 1 ∷ []) ++ end))))) 4097 8192)
+      ≡ some 17
+  pub periodFile10 : numberIn (rateFile anyChoice (box 7 ++ (field 2 ++ (mode 1 ++ (factor 0 0 [] ++ (term 0 ++ end))))) 4097 8192)
+      ≡ some 10
+  pub periodFile11 : numberIn (rateFile anyChoice (box 7 ++ (field 2 ++ (mode 1 ++ (factor 1 0 (2 ∷ []) ++ (term 0 ++ end))))) 4097 8192)
+      ≡ some 11
+  pub periodFile12 : numberIn (rateFile anyChoice (box 7 ++ (field 2 ++ (mode 1 ++ (factor 2 0 (1 ∷ []) ++ (term 0 ++ end))))) 4097 8192)
+      ≡ some 12
+  pub periodFile16 : numberIn (rateFile anyChoice (box 7 ++ (field 2 ++ (mode 1 ++ (factor 1 0 (1 ∷ []) ++ (term 1 ++ end))))) 4097 8191)
+      ≡ some 16
+  pub periodFile17 : numberIn (rateFile anyChoice (box 7 ++ (field 2 ++ (mode 1 ++ (factor 2 0 (1 ∷ 1 ∷ []) ++ (terms (0 ∷ 0 ∷ 0 ∷ 1 ∷ []) ++ end))))) 4097 8192)
+      ≡ some 17
+  -- the period way
+  pub period6 : numberIn (ratePeriod 4 x+1 (0 ∷ 1 ∷ []) 4097 8192) ≡ some 6
+  pub period7 : numberIn (ratePeriod 2 x+1 [] 4097 8192) ≡ some 7
+  pub period8 : numberIn (ratePeriod 2 x+1 (0 ∷ 2 ∷ []) 4097 8192) ≡ some 8
+  pub period10 : numberIn (ratePeriod 2 (1 ∷ []) (0 ∷ 1 ∷ []) 4097 8192) ≡ some 10
+  pub period11 : numberIn (ratePeriod 2 [] (0 ∷ 1 ∷ []) 4097 8192) ≡ some 11
+  pub period12 : numberIn (ratePeriod 2 x²+1 (0 ∷ 1 ∷ []) 4097 8192) ≡ some 12
+  pub period16 : numberIn (ratePeriod 2 x+1 (0 ∷ 1 ∷ []) 4096 8192) ≡ some 16
+  pub period17 : numberIn (ratePeriod 2 x²+x+1 (0 ∷ 0 ∷ 0 ∷ 1 ∷ []) 4097 8192) ≡ some 17
+  -- the portion way
+  pub portion6 : numberIn (ratePortion 4 x+1 1 (0 ∷ 1 ∷ []) 4097 8192) ≡ some 6
+  pub portion7 : numberIn (ratePortion 2 x+1 1 [] 4097 8192) ≡ some 7
+  pub portion8 : numberIn (ratePortion 2 x+1 1 (0 ∷ 2 ∷ []) 4097 8192) ≡ some 8
+  pub portion10 : numberIn (ratePortion 2 (1 ∷ []) 1 (0 ∷ 1 ∷ []) 4097 8192) ≡ some 10
+  pub portion11 : numberIn (ratePortion 2 [] 1 (0 ∷ 1 ∷ []) 4097 8192) ≡ some 11
+  pub portion12 : numberIn (ratePortion 2 x²+1 1 (0 ∷ 1 ∷ []) 4097 8192) ≡ some 12
+  pub portion14 : numberIn (ratePortion 2 x+1 0 (0 ∷ 1 ∷ []) 4097 8192) ≡ some 14
+  pub portion15 : numberIn (ratePortion 2 x+1 3 (0 ∷ 1 ∷ []) 4097 8192) ≡ some 15
+  pub portion16 : numberIn (ratePortion 2 x+1 2 (0 ∷ 1 ∷ []) 4096 8192) ≡ some 16
+  pub portion17 : numberIn (ratePortion 2 x+1 1 (1 ∷ 0 ∷ []) 4097 8192) ≡ some 17
+  -- the set way
+  pub set6 : numberIn (rateSet 4 (x+1 ∷ x²+x+1 ∷ []) (1 ∷ 1 ∷ []) (0 ∷ 1 ∷ 1 ∷ []) 4097 8192) ≡ some 6
+  pub set7 : numberIn (rateSet 2 (x+1 ∷ x²+x+1 ∷ []) (1 ∷ 1 ∷ []) [] 4097 8192) ≡ some 7
+  pub set8 : numberIn (rateSet 2 (x+1 ∷ x²+x+1 ∷ []) (1 ∷ 1 ∷ []) (0 ∷ 1 ∷ 2 ∷ []) 4097 8192) ≡ some 8
+  pub set9 : numberIn (rateSet 2 [] [] (0 ∷ 1 ∷ 1 ∷ []) 4097 8192) ≡ some 9
+  pub set10 : numberIn (rateSet 2 (x+1 ∷ (1 ∷ []) ∷ []) (1 ∷ 1 ∷ []) (0 ∷ 1 ∷ 1 ∷ []) 4097 8192) ≡ some 10
+  pub set11 : numberIn (rateSet 2 (x+1 ∷ [] ∷ []) (1 ∷ 1 ∷ []) (0 ∷ 1 ∷ 1 ∷ []) 4097 8192) ≡ some 11
+  pub set12 : numberIn (rateSet 2 (x+1 ∷ x²+1 ∷ []) (1 ∷ 1 ∷ []) (0 ∷ 1 ∷ 1 ∷ []) 4097 8192) ≡ some 12
+  pub set13 : numberIn (rateSet 2 (x+1 ∷ x+1 ∷ []) (1 ∷ 2 ∷ []) (0 ∷ 1 ∷ 1 ∷ []) 4097 8192) ≡ some 13
+  pub set14 : numberIn (rateSet 2 (x+1 ∷ x²+x+1 ∷ []) (1 ∷ 0 ∷ []) (0 ∷ 1 ∷ 1 ∷ []) 4097 8192) ≡ some 14
+  pub set15 : numberIn (rateSet 2 (x+1 ∷ x²+x+1 ∷ []) (1 ∷ 1 ∷ []) (0 ∷ 1 ∷ []) 4097 8192) ≡ some 15
+  pub set16 : numberIn (rateSet 2 (x+1 ∷ x²+x+1 ∷ []) (1 ∷ 1 ∷ []) (0 ∷ 1 ∷ 1 ∷ []) 4097 8191) ≡ some 16
+  pub set17 : numberIn (rateSet 2 (x+1 ∷ x²+x+1 ∷ []) (1 ∷ 1 ∷ []) (0 ∷ 1 ∷ 1 ∷ 1 ∷ []) 4097 8192) ≡ some 17
+  -- the free way
+  pub free6 : numberIn (rateFree anyChoice 1 (0 ∷ []) 4097 8192) ≡ some 6
+  pub free7 : numberIn (rateFree anyChoice 2 [] 4097 8192) ≡ some 7
+  pub free8 : numberIn (rateFree anyChoice 2 (2 ∷ []) 4097 8192) ≡ some 8
+  pub free16 : numberIn (rateFree anyChoice 2 (0 ∷ []) 4097 8191) ≡ some 16
+  -- the continuation way, and the question whether a polynomial is irreducible
+  pub continue6 : numberIn (continueSequence 9 x+1 (1 ∷ []) 0 (9 ∷ 9 ∷ [])) ≡ some 6
+  pub continue7 : numberIn (continueSequence 2 x+1 (1 ∷ []) 0 []) ≡ some 7
+  pub continue8 : numberIn (continueSequence 2 x+1 (2 ∷ []) 0 (9 ∷ 9 ∷ [])) ≡ some 8
+  pub continue10 : numberIn (continueSequence 2 (replicate 4098 0) [] 0 (9 ∷ 9 ∷ [])) ≡ some 10
+  pub continue11 : numberIn (continueSequence 2 [] [] 0 (9 ∷ 9 ∷ [])) ≡ some 11
+  pub continue15 : numberIn (continueSequence 2 x²+x+1 (0 ∷ []) 0 (9 ∷ 9 ∷ [])) ≡ some 15
+  pub ask6 : numberIn (askIrreducible 6 x+1) ≡ some 6
+  pub ask10 : numberIn (askIrreducible 2 (1 ∷ [])) ≡ some 10
+  pub ask11 : numberIn (askIrreducible 2 []) ≡ some 11
+  -- the reader refuses the whole file, whatever number is asked for
+  pub read1 : numberIn (readRecord (replicate 16385 0) 0) ≡ some 1
+  pub read2 : numberIn (readRecord (box 7 ++ (9 ∷ [])) 0) ≡ some 2
+  pub read3 : numberIn (readRecord (box 7) 0) ≡ some 3
+  pub read4 : numberIn (readRecord (box 7 ++ end) 0) ≡ some 4
+  pub read5 : numberIn (readRecord (box 7 ++ (field 2 ++ (mode 4 ++ end))) 0) ≡ some 5
+  -- factors are accepted when 6 and 9 to 14 do not turn them down
+  pub accepted : acceptedFactors 2 (x+1 ∷ x²+x+1 ∷ []) (1 ∷ 1 ∷ []) ≡ true
+  pub accepted6 : acceptedFactors 4 (x+1 ∷ x²+x+1 ∷ []) (1 ∷ 1 ∷ []) ≡ false
+  pub accepted9 : acceptedFactors 2 [] [] ≡ false
+  pub accepted10 : acceptedFactors 2 (x+1 ∷ (1 ∷ []) ∷ []) (1 ∷ 1 ∷ []) ≡ false
+  pub accepted11 : acceptedFactors 2 ([] ∷ []) (1 ∷ []) ≡ false
+  pub accepted12 : acceptedFactors 2 (x²+1 ∷ []) (1 ∷ []) ≡ false
+  pub accepted13 : acceptedFactors 2 (x+1 ∷ x+1 ∷ []) (1 ∷ 1 ∷ []) ≡ false
+  pub accepted14 : acceptedFactors 2 (x+1 ∷ x²+x+1 ∷ []) (1 ∷ 0 ∷ []) ≡ false
 
 pub refusals : Refusals
 unfolding computed
 refusals =
     record {
-      one = refl;
-      two = refl;
-      three = refl;
-      four = refl;
-      five = refl;
-      six = refl;
-      seven = refl;
-      eight = refl;
-      nine = refl;
-      ten = refl;
-      eleven = refl;
-      twelve = refl;
-      thirteen = refl;
-      fourteen = refl;
-      fifteen = refl;
-      sixteen = refl;
-      seventeen = refl;
-      freeSix = refl;
-      freeSixteen = refl;
-      freeZeros = refl;
-      continueFifteen = refl;
-      irreducibleSix = refl;
-      M = refl;
-      M-asked = refl;
-      M-in-3 = refl;
-      N = refl;
-      N-from-two = refl;
-      printedA = refl;
-      printedRefusal = refl;
-      readStop = refl;
-      readBeyond = refl;
+      file1 = refl;
+      file2 = refl;
+      file3 = refl;
+      file4 = refl;
+      file5 = refl;
+      file6 = refl;
+      file7 = refl;
+      file8 = refl;
+      file10 = refl;
+      file11 = refl;
+      file12 = refl;
+      file13 = refl;
+      file14 = refl;
+      file15 = refl;
+      file16 = refl;
+      file17 = refl;
+      periodFile10 = refl;
+      periodFile11 = refl;
+      periodFile12 = refl;
+      periodFile16 = refl;
+      periodFile17 = refl;
+      period6 = refl;
+      period7 = refl;
+      period8 = refl;
+      period10 = refl;
+      period11 = refl;
+      period12 = refl;
+      period16 = refl;
+      period17 = refl;
+      portion6 = refl;
+      portion7 = refl;
+      portion8 = refl;
+      portion10 = refl;
+      portion11 = refl;
+      portion12 = refl;
+      portion14 = refl;
+      portion15 = refl;
+      portion16 = refl;
+      portion17 = refl;
+      set6 = refl;
+      set7 = refl;
+      set8 = refl;
+      set9 = refl;
+      set10 = refl;
+      set11 = refl;
+      set12 = refl;
+      set13 = refl;
+      set14 = refl;
+      set15 = refl;
+      set16 = refl;
+      set17 = refl;
+      free6 = refl;
+      free7 = refl;
+      free8 = refl;
+      free16 = refl;
+      continue6 = refl;
+      continue7 = refl;
+      continue8 = refl;
+      continue10 = refl;
+      continue11 = refl;
+      continue15 = refl;
+      ask6 = refl;
+      ask10 = refl;
+      ask11 = refl;
+      read1 = refl;
+      read2 = refl;
+      read3 = refl;
+      read4 = refl;
+      read5 = refl;
+      accepted = refl;
+      accepted6 = refl;
+      accepted9 = refl;
+      accepted10 = refl;
+      accepted11 = refl;
+      accepted12 = refl;
+      accepted13 = refl;
+      accepted14 = refl;
     }

@@ -1,20 +1,23 @@
--- What the computed rows share: the number of a refusal, route files made of records, and inputs that nothing
--- refuses.
+-- What the computed rows share: the number of a refusal, route files made of records, and some inputs.
 --
---   numberIn r        == the number of a refusal; 0 of an answer
---   box, field, mode, factor, terms, term, stop, end == the bytes of one record of the route file
---   enough            == the least lengths that 16 accepts are 4,097 and 8,192
+--   numberIn r        == the number of a refusal; none of an answer
+--   box, field, mode, factor, record5, term, stop, end == the bytes of one record of the route file
+--   terms ts          == a record of kind 6 for each term
+--   caseA d cs        == case A of paper 01 as the file that box 7 sends in mode 2, with the factor of degree d and the
+--                        coefficients cs, and a stop before the terms
+--   anyChoice         == a choice for the free way; which one does not matter where it does not show
 -- Assumes nothing.
 use Prim.Native.Nat.{ℕ, _-_}
 use mathlib.Core.List.{List, [], _∷_, _++_}
+use mathlib.Core.Option.{Option, none, some}
 use lib.ListN.{length, replicate}
 use Rattle.meaning.specs.Polynomial.{Polynomial}
 use Rattle.meaning.specs.Result.{Result, refused, answered}
 use Rattle.meaning.specs.Free.{Choice}
 
-abbrev pub numberIn : {A : Type 0} → Result A → ℕ
-numberIn (refused n) = n
-numberIn (answered a) = 0
+abbrev pub numberIn : {A : Type 0} → Result A → Option ℕ
+numberIn (refused n) = some n
+numberIn (answered a) = none
 
 abbrev pub box : ℕ → List ℕ
 box n = 1 ∷ 0 ∷ 0 ∷ 0 ∷ n ∷ []
@@ -29,6 +32,10 @@ mode m = 3 ∷ m ∷ []
 abbrev pub factor : ℕ → ℕ → List ℕ → List ℕ
 factor d u cs = 4 ∷ d ∷ 0 ∷ u ∷ (cs ++ replicate (32 - length cs) 0)
 
+-- a record of 64 terms
+abbrev pub record5 : List ℕ → List ℕ
+record5 ts = 5 ∷ ts
+
 abbrev pub term : ℕ → List ℕ
 term t = 6 ∷ t ∷ []
 
@@ -42,14 +49,24 @@ stop = 7 ∷ 1 ∷ 2 ∷ 3 ∷ 4 ∷ 5 ∷ 6 ∷ 7 ∷ 8 ∷ []
 abbrev pub end : List ℕ
 end = 8 ∷ []
 
--- x + 1
 abbrev pub x+1 : Polynomial
 x+1 = 1 ∷ 1 ∷ []
 
--- x² + 1, which is (x + 1)² over GF(2)
+-- over GF(2) this is (x + 1)²
 abbrev pub x²+1 : Polynomial
 x²+1 = 1 ∷ 0 ∷ 1 ∷ []
 
--- a choice for the free way; which one does not matter where a row only shows figures or refusals
+abbrev pub x²+x+1 : Polynomial
+x²+x+1 = 1 ∷ 1 ∷ 1 ∷ []
+
+abbrev pub caseA : ℕ → List ℕ → List ℕ
+caseA d cs =
+    box 7
+    ++ (field 2
+    ++ (mode 2
+    ++ (factor d 6 cs
+    ++ (stop
+    ++ (terms (0 ∷ 1 ∷ 0 ∷ 1 ∷ 0 ∷ 0 ∷ 0 ∷ 0 ∷ 1 ∷ 0 ∷ 1 ∷ 1 ∷ 0 ∷ 1 ∷ 0 ∷ 1 ∷ 1 ∷ 0 ∷ []) ++ end)))))
+
 abbrev pub anyChoice : Choice
 anyChoice p ts = []

@@ -6,7 +6,7 @@
 --                          answer tells
 --   SetTold, FileTold == what the answers of a set and of a file tell beside their eight powers; `count` is
 --                        the number of powers
---   setTold, fileTold == what they should tell of the figures
+--   setFiguresTold, fileFiguresTold == what they should tell of the figures
 --   padded rs         == the powers as they stand in eight places: in order, then zeros
 --   setPadded, filePadded == the eight places after a result; all zeros where refused or where there are no
 --                          powers
@@ -81,8 +81,8 @@ unfoldable pub toldSet : SetOutcome → Result SetTold
 toldSet (SetOutcome.Rated d n) = answered (record { degree = d; count = n })
 toldSet (SetOutcome.Refused r) = refused (numberOf r)
 
-unfoldable pub setTold : SetFigures → SetTold
-setTold a = record { degree = a .degree; count = length (a .powers) }
+unfoldable pub setFiguresTold : SetFigures → SetTold
+setFiguresTold a = record { degree = a .degree; count = length (a .powers) }
 
 pub data FileTold : Type 0 where
   withPowers : (degree terms count : ℕ) → FileTold
@@ -100,8 +100,8 @@ labelTold (powers rs) d m = withPowers d m (length rs)
 labelTold unique d m = withOne d m
 labelTold several d m = withSome d m
 
-unfoldable pub fileTold : FileFigures → FileTold
-fileTold a = labelTold (a .label) (a .degree) (a .terms)
+unfoldable pub fileFiguresTold : FileFigures → FileTold
+fileFiguresTold a = labelTold (a .label) (a .degree) (a .terms)
 
 unfoldable pub toldRecord : RecordOutcome → Result ℕ
 toldRecord (RecordOutcome.Found k) = answered k

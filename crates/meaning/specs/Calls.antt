@@ -7,10 +7,11 @@
 --   PeriodCall          == rate_period         PortionCall     == rate_portion
 --   SetCall             == rate_set            FreeCall        == rate_free
 --   ContinueCall        == continue_sequence   FileCall        == rate_file
---   RecordCall          == record (the route reader)
+--   RecordCall          == record (the route reader)                ProgramCall == what the program prints
 --
--- `pick` names how the free way chooses among several polynomials: it depends on p and the terms alone, and
--- `chosen` says what holds of it. Everything else is an equation.
+-- `pick` is how the free way chooses a polynomial under `some`, where several may fit: it depends on p and the terms
+-- alone, and `chosen` says what holds of it. A contract names one such function of the program. Everything else is an
+-- equation.
 use Prim.Native.Nat.{ℕ}
 use mathlib.Core.Path.{_≡_}
 use mathlib.Core.Bool.{Bool}
@@ -30,11 +31,13 @@ use Rattle.meaning.specs.Result.{workAfter}
 use Rattle.meaning.specs.Period.{ratePeriod}
 use Rattle.meaning.specs.Portion.{ratePortion, rateSet}
 use Rattle.meaning.specs.Free.{Choice, rateFree, ChosenFits}
-use Rattle.meaning.specs.Continuation.{askIrreducible, continueSequence}
+use Rattle.meaning.specs.Continuation.{continueSequence}
+use Rattle.meaning.specs.Irreducibility.{askIrreducible}
 use Rattle.meaning.specs.Route.{RouteRecord, boxOf, byteOf, records, readRecord}
 use Rattle.meaning.specs.File.{rateFile, termsOf}
-use Rattle.meaning.specs.Answers.{toldIrreducible, toldFilling, toldPower, toldFree, toldSet, setTold}
-use Rattle.meaning.specs.Answers.{toldFile, fileTold, toldRecord, setPadded, filePadded}
+use Rattle.meaning.specs.Print.{printed}
+use Rattle.meaning.specs.Answers.{toldIrreducible, toldFilling, toldPower, toldFree, toldSet, setFiguresTold}
+use Rattle.meaning.specs.Answers.{toldFile, fileFiguresTold, toldRecord, setPadded, filePadded}
 
 pub record LentAfter {A : Type 0} (result : Result (Rated A)) (answer work answer′ work′ : List ℕ) : Type 0 where
   pub answerBytes : answer′ ≡ answerAfter result answer
@@ -58,7 +61,7 @@ pub record PortionCall (p : ℕ) (f : Polynomial) (v : ℕ) (ts answer work : Li
 pub record SetCall (p : ℕ) (fs : List Polynomial) (vs ts answer work : List ℕ) (r : SetRating)
     (answer′ work′ : List ℕ) : Type 0 where
   pub rating : toldSet (r .outcome)
-      ≡ mapResult setTold (figuresOf (rateSet p fs vs ts (length answer) (length work)))
+      ≡ mapResult setFiguresTold (figuresOf (rateSet p fs vs ts (length answer) (length work)))
   pub powers : r .powers ≡ setPadded (figuresOf (rateSet p fs vs ts (length answer) (length work)))
   pub lent : LentAfter (rateSet p fs vs ts (length answer) (length work)) answer work answer′ work′
 
@@ -82,7 +85,7 @@ pub record FileCall (pick : Choice) (file answer work : List ℕ) (r : FileRatin
     (answer′ work′ : List ℕ) : Type 0 where
   pub sender : r .sender ≡ boxOf file
   pub rating : toldFile (r .outcome)
-      ≡ mapResult fileTold (figuresOf (rateFile pick file (length answer) (length work)))
+      ≡ mapResult fileFiguresTold (figuresOf (rateFile pick file (length answer) (length work)))
   pub powers : r .powers ≡ filePadded (figuresOf (rateFile pick file (length answer) (length work)))
   pub chosen : (rs : List RouteRecord) → records file ≡ answered rs → ChosenFits pick (byteOf 2 rs) (termsOf rs)
   pub lent : LentAfter (rateFile pick file (length answer) (length work)) answer work answer′ work′
@@ -95,3 +98,8 @@ bodyAfter (answered r) = r .body
 pub record RecordCall (file : List ℕ) (n : ℕ) (r : RecordOutcome) (body : List ℕ) : Type 0 where
   pub found : toldRecord r ≡ mapResult (λ a. a .kind) (readRecord file n)
   pub part : body ≡ bodyAfter (readRecord file n)
+
+-- what the rating program prints for what it reads
+pub record ProgramCall (pick : Choice) (input output : List ℕ) : Type 0 where
+  pub lines : output ≡ printed pick input
+  pub chosen : (rs : List RouteRecord) → records input ≡ answered rs → ChosenFits pick (byteOf 2 rs) (termsOf rs)

@@ -1,20 +1,17 @@
--- The continuation way, and the question whether a polynomial is irreducible.
+-- The continuation way: the sequence that a polynomial and its starting terms define, in a lent buffer.
 --
 --   continueTable       == the refusals that the continuation meets, in order, for a buffer of `size` bytes
 --   filled F g start place buffer == the buffer with the continued sequence from the place to its end
 --   continueSequence p g start place buffer == the buffer afterwards, or the refusal
---   irreducibleTable    == the refusals that the question meets, in order
---   askIrreducible p f  == the answer to the question
 use Prim.Native.Nat.{ℕ, _-_}
-use mathlib.Core.Bool.{Bool}
 use mathlib.Core.List.{List, [], _∷_, _++_}
 use mathlib.Core.Option.{some}
 use lib.ListN.{length, take}
 use Rattle.meaning.specs.Field.{Field, prime}
-use Rattle.meaning.specs.Polynomial.{Polynomial, irreducible}
+use Rattle.meaning.specs.Polynomial.{Polynomial}
 use Rattle.meaning.specs.Sequence.{continuation, cut}
 use Rattle.meaning.specs.Result.{Result, Check, settle}
-use Rattle.meaning.specs.Conditions.{notPrime, placeOutOfRange, termOutOfField, factorDegreeOutOfRange}
+use Rattle.meaning.specs.Conditions.{notPrime, placeOutOfRange, termOutOfField}
 use Rattle.meaning.specs.Conditions.{continuationDegreeOutOfRange, notMonic, startUnlikeDegree}
 
 unfoldable pub continueTable : ℕ → Polynomial → List ℕ → ℕ → ℕ → List Check
@@ -33,13 +30,3 @@ filled F g start place buffer = take place buffer ++ cut (continuation F g start
 unfoldable pub continueSequence : ℕ → Polynomial → List ℕ → ℕ → List ℕ → Result (List ℕ)
 continueSequence p g start place buffer =
     settle (continueTable p g start place (length buffer)) (λ _. some (filled (prime p) g start place buffer))
-
-unfoldable pub irreducibleTable : ℕ → Polynomial → List Check
-irreducibleTable p f =
-    (6, λ _. notPrime p)
-    ∷ (10, λ _. factorDegreeOutOfRange (prime p) f)
-    ∷ (11, λ _. notMonic (prime p) f)
-    ∷ []
-
-unfoldable pub askIrreducible : ℕ → Polynomial → Result Bool
-askIrreducible p f = settle (irreducibleTable p f) (λ _. some (irreducible (prime p) f))

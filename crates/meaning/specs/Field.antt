@@ -3,7 +3,7 @@
 --   Field             == a finite field by its size, its characteristic, and the sum and product of its
 --                        elements, which are the numbers below its size; nothing here says that the laws hold
 --   prime p           == GF(p), the only field today; for p = 0 the remainder is the number itself
---   Prime n           == n is at least 2 and only 1 and n divide it, as a type
+--   PrimeNumber n     == n is at least 2 and only 1 and n divide it, in words
 --   isPrime n         == the same by trying every possible divisor
 --   primeInRange n    == n is a prime from 2 to 251 (the answer of the public call)
 --   isElement F a     == a is an element of F
@@ -27,7 +27,7 @@ pub record Field : Type 0 where
 unfoldable pub prime : ℕ → Field
 prime p = record { size = p; characteristic = p; add = λ a b. (a + b) % p; mul = λ a b. (a * b) % p }
 
-pub record Prime (n : ℕ) : Type 0 where
+pub record PrimeNumber (n : ℕ) : Type 0 where
   pub atLeastTwo : 2 ≤ n
   pub onlyTrivial : (d e : ℕ) → d * e ≡ n → (d ≡ 1) ⊎ (d ≡ n)
 

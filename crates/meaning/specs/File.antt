@@ -1,6 +1,6 @@
 -- The rating of a route file: what the file holds, handed to the way that its mode names.
 --
---   FileFactor          == a factor as a file writes it: degree, upper power and 32 coefficients
+--   WrittenFactor          == a factor as a file writes it: degree, upper power and 32 coefficients
 --   fileFactor body     == the factor of a body of 35 bytes
 --   polynomialOf f      == its polynomial: the coefficients below its degree, and then the leading 1, which
 --                          is implied
@@ -30,21 +30,21 @@ use Rattle.meaning.specs.Free.{Choice, FreeFigures, rateFree}
 use Rattle.meaning.specs.Route.{RouteRecord, Mode, periodMode, setMode, freeMode, modeOf, bodies}
 use Rattle.meaning.specs.Route.{byteOf, factorUpper, records}
 
-pub record FileFactor : Type 0 where
+pub record WrittenFactor : Type 0 where
   pub degree : ℕ
   pub upper : ℕ
   pub coefficients : List ℕ
 
-unfoldable pub fileFactor : List ℕ → FileFactor
+unfoldable pub fileFactor : List ℕ → WrittenFactor
 fileFactor body = record { degree = getD body 0 0; upper = factorUpper body; coefficients = drop 3 body }
 
-unfoldable pub polynomialOf : FileFactor → Polynomial
+unfoldable pub polynomialOf : WrittenFactor → Polynomial
 polynomialOf f = take (f .degree) (f .coefficients) ++ (1 ∷ [])
 
-unfoldable pub fileDegreeOutOfRange : Field → FileFactor → Bool
+unfoldable pub fileDegreeOutOfRange : Field → WrittenFactor → Bool
 fileDegreeOutOfRange F f = degreeOutOfRange F (f .degree)
 
-unfoldable pub fileNotMonic : Field → FileFactor → Bool
+unfoldable pub fileNotMonic : Field → WrittenFactor → Bool
 fileNotMonic F f =
     not (areElements F (take (f .degree) (f .coefficients)))
     || not (holdsForAll (λ c. eqb c 0) (drop (f .degree) (f .coefficients)))
@@ -63,17 +63,17 @@ pub record FileFigures : Type 0 where
   pub terms : ℕ
   pub label : Label
 
-unfoldable pub rated : ℕ → ℕ → Label → Polynomial → Rated FileFigures
-rated d m l g = record { figures = record { degree = d; terms = m; label = l }; polynomial = g }
+unfoldable pub fileAnswer : ℕ → ℕ → Label → Polynomial → Rated FileFigures
+fileAnswer d m l g = record { figures = record { degree = d; terms = m; label = l }; polynomial = g }
 
 unfoldable pub ofPeriod : ℕ → Result (Rated PowerFigures) → Result (Rated FileFigures)
 ofPeriod m (refused n) = refused n
 ofPeriod m (answered a) =
-    answered (rated (a .figures .degree) m (powers (a .figures .power ∷ [])) (a .polynomial))
+    answered (fileAnswer (a .figures .degree) m (powers (a .figures .power ∷ [])) (a .polynomial))
 
 unfoldable pub ofSet : ℕ → Result (Rated SetFigures) → Result (Rated FileFigures)
 ofSet m (refused n) = refused n
-ofSet m (answered a) = answered (rated (a .figures .degree) m (powers (a .figures .powers)) (a .polynomial))
+ofSet m (answered a) = answered (fileAnswer (a .figures .degree) m (powers (a .figures .powers)) (a .polynomial))
 
 unfoldable pub freeLabel : Bool → Label
 freeLabel true = unique
@@ -82,9 +82,9 @@ freeLabel false = several
 unfoldable pub ofFree : ℕ → Result (Rated FreeFigures) → Result (Rated FileFigures)
 ofFree m (refused n) = refused n
 ofFree m (answered a) =
-    answered (rated (a .figures .degree) m (freeLabel (a .figures .unique)) (a .polynomial))
+    answered (fileAnswer (a .figures .degree) m (freeLabel (a .figures .unique)) (a .polynomial))
 
-unfoldable pub rateMode : Choice → Mode → ℕ → List FileFactor → List ℕ → ℕ → ℕ → Result (Rated FileFigures)
+unfoldable pub rateMode : Choice → Mode → ℕ → List WrittenFactor → List ℕ → ℕ → ℕ → Result (Rated FileFigures)
 rateMode pick periodMode p fs ts answer work =
     ofPeriod (length ts)
     (periodAnswer p

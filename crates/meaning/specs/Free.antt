@@ -3,22 +3,24 @@
 --   fitsDegree F ts e  == some monic polynomial of degree e annihilates the known terms, by trying all of
 --                         them
 --   leastDegree F ts   == the least such degree, at most the number of terms (a polynomial of that degree has
---                         no places and fits). In words: LeastDegree F ts e
+--                         no places and fits). In words: IsLeastDegree F ts e
 --   Fits F ts e g      == g is monic over F, of degree e, and annihilates the known terms
---   LeastDegree F ts e == some polynomial fits with degree e, and none with a smaller one
---   FreeFigures        == the degree, and whether only one polynomial fits: `one` where twice the degree is
---                         at most the number of terms, else `some`
---   Choice             == how the program picks the polynomial: from p and the terms alone
---   rateFree pick p ts answer work == the answer of the free way; the polynomial is the program's choice
---   ChosenFits pick p ts == what holds of that choice wherever the call accepts p and the terms
+--   IsLeastDegree F ts e == some polynomial fits with degree e, and none with a smaller one
+--   isUnique ts e      == the word `one`: twice the degree is at most the number of terms, and only one polynomial
+--                         fits; else `some`
+--   FreeFigures        == the degree, and whether the word is `one`
+--   Choice             == how the program picks a polynomial under `some`: from p and the terms alone
+--   freePolynomial pick p ts e == the polynomial: under `one` the one that fits, under `some` the program's choice
+--   rateFree pick p ts answer work == the answer of the free way
+--   ChosenFits pick p ts == what holds of the choice wherever the call answers `some`
 use Prim.Native.Nat.{ℕ, _*_, _≤_}
 use mathlib.Core.Path.{_≡_}
-use mathlib.Core.Bool.{Bool}
+use mathlib.Core.Bool.{Bool, true, false}
 use mathlib.Core.List.{List, [], _∷_}
-use mathlib.Core.Option.{Option}
+use mathlib.Core.Option.{Option, some}
 use lib.ListN.{length}
 use lib.Dec.{leb, T}
-use Rattle.meaning.specs.Search.{least, mapOption, holdsForSome}
+use Rattle.meaning.specs.Search.{least, firstThat, mapOption, bind, holdsForSome}
 use Rattle.meaning.specs.Field.{Field, prime}
 use Rattle.meaning.specs.Polynomial.{Polynomial, degree, isMonicOver, monics}
 use Rattle.meaning.specs.Sequence.{annihilatesKnown}
@@ -36,10 +38,14 @@ pub record Fits (F : Field) (ts : List ℕ) (e : ℕ) (g : Polynomial) : Type 0 
   pub ofDegree : degree g ≡ e
   pub annihilates : T (annihilatesKnown F g ts)
 
-pub record LeastDegree (F : Field) (ts : List ℕ) (e : ℕ) : Type 0 where
+pub record IsLeastDegree (F : Field) (ts : List ℕ) (e : ℕ) : Type 0 where
   pub fitting : Polynomial
   pub fits : Fits F ts e fitting
   pub smallest : (d : ℕ) (g : Polynomial) → d ≤ length ts → Fits F ts d g → e ≤ d
+
+-- `one` where twice the degree is at most the number of terms
+unfoldable pub isUnique : List ℕ → ℕ → Bool
+isUnique ts e = leb (2 * e) (length ts)
 
 pub record FreeFigures : Type 0 where
   pub degree : ℕ
@@ -48,9 +54,17 @@ pub record FreeFigures : Type 0 where
 abbrev pub Choice : Type 0
 Choice = ℕ → List ℕ → Polynomial
 
-unfoldable pub freeRating : Choice → ℕ → List ℕ → ℕ → Rated FreeFigures
+unfoldable pub freePolynomial : Choice → ℕ → List ℕ → ℕ → Option Polynomial
+freePolynomial pick p ts e =
+    elim (isUnique ts e) [
+      | true ↦ firstThat (λ g. annihilatesKnown (prime p) g ts) (monics (prime p) e)
+      | false ↦ some (pick p ts)
+    ]
+
+unfoldable pub freeRating : Choice → ℕ → List ℕ → ℕ → Option (Rated FreeFigures)
 freeRating pick p ts e =
-    record { figures = record { degree = e; unique = leb (2 * e) (length ts) }; polynomial = pick p ts }
+    mapOption (λ g. record { figures = record { degree = e; unique = isUnique ts e }; polynomial = g })
+    (freePolynomial pick p ts e)
 
 unfoldable pub freeTable : ℕ → List ℕ → ℕ → ℕ → List Check
 freeTable p ts answer work =
@@ -62,10 +76,11 @@ freeTable p ts answer work =
 
 unfoldable pub rateFree : Choice → ℕ → List ℕ → ℕ → ℕ → Result (Rated FreeFigures)
 rateFree pick p ts answer work =
-    settle (freeTable p ts answer work) (λ _. mapOption (freeRating pick p ts) (leastDegree (prime p) ts))
+    settle (freeTable p ts answer work) (λ _. bind (leastDegree (prime p) ts) (freeRating pick p ts))
 
 abbrev pub ChosenFits : Choice → ℕ → List ℕ → Type 0
 ChosenFits pick p ts =
     (answer work : ℕ) (a : FreeFigures)
     → figuresOf (rateFree pick p ts answer work) ≡ answered a
+    → a .unique ≡ false
     → Fits (prime p) ts (a .degree) (pick p ts)

@@ -6,8 +6,8 @@
 --                         the others' upper powers annihilates the first D terms
 --   setPowers F l ts   == these powers in the order of the factors. In words: SetMeaning F l ts powers
 --   onward F l ts      == the endless continuation of the first D terms by the product of the upper powers
---   SetMeaning F l ts rs == the product of the factors to the powers rs is the minimal polynomial of that
---                          continuation
+--   SetMeaning F l ts rs == there is one power for each factor, and the product of the factors to these powers is the
+--                         minimal polynomial of that continuation
 --   PortionMeaning F f v ts r == r is the least power of f that annihilates that continuation, with one
 --                          factor
 --   Agrees F l ts      == all the terms agree with the continuation of the first D of them
@@ -50,8 +50,9 @@ setPowers F l ts = together (map (leastAt F l ts) (range 0 (length l)))
 unfoldable pub onward : Field → List (Polynomial × ℕ) → List ℕ → Sequence
 onward F l ts = continuation F (product F l) (take (totalDegree l) ts)
 
-abbrev pub SetMeaning : Field → List (Polynomial × ℕ) → List ℕ → List ℕ → Type 0
-SetMeaning F l ts rs = MinimalPolynomial F (product F (named (factorsOf l) rs)) (onward F l ts)
+pub record SetMeaning (F : Field) (l : List (Polynomial × ℕ)) (ts rs : List ℕ) : Type 0 where
+  pub onePerFactor : length rs ≡ length l
+  pub minimal : MinimalPolynomial F (product F (named (factorsOf l) rs)) (onward F l ts)
 
 abbrev pub PortionMeaning : Field → Polynomial → ℕ → List ℕ → ℕ → Type 0
 PortionMeaning F f v ts r = LeastPower F f (onward F ((f, v) ∷ []) ts) r

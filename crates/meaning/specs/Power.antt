@@ -1,12 +1,13 @@
 -- The answer of a rating with one factor: its power, the degree, the repeat bound, and the polynomial.
 --
 --   isX f              == f is the polynomial x
---   repeatBound F f r  == a number that the least period of what f^r annihilates does not exceed: 1 for r =
---                         0; 0 for f = x and r above 0; else p^t·(p^d − 1), d the degree of f and t least
+--   repeatBound F f r  == 1 for r = 0; 0 for f = x and r above 0; else p^t·(p^d − 1), d the degree of f and t least
 --                         with p^t at least r. None only where there is no such t, in no field
+--   BoundMeaning s b   == what a bound other than 0 says in words: b has at most 64 bits, and the least period of s does
+--                         not exceed it
 --   PowerFigures       == power, degree (the complexity) and repeat bound
 --   powerRating F f r  == the answer with the power r and the polynomial f^r
-use Prim.Native.Nat.{ℕ, zero, suc, _*_, _-_, _^_}
+use Prim.Native.Nat.{ℕ, zero, suc, _*_, _-_, _^_, _≤_, _<_}
 use mathlib.Core.Bool.{Bool, true, false}
 use mathlib.Core.List.{[], _∷_}
 use mathlib.Core.Option.{Option, none, some}
@@ -14,6 +15,7 @@ use lib.Dec.{leb}
 use Rattle.meaning.specs.Search.{least, mapOption}
 use Rattle.meaning.specs.Field.{Field}
 use Rattle.meaning.specs.Polynomial.{Polynomial, degree, power, same}
+use Rattle.meaning.specs.Sequence.{Sequence, LeastPeriod}
 use Rattle.meaning.specs.Result.{Rated}
 
 unfoldable pub isX : Polynomial → Bool
@@ -28,6 +30,12 @@ repeatBound F f (suc r) =
           mapOption (λ t. F .characteristic ^ t * (F .size ^ degree f - 1))
           (least (suc r) (λ t. leb (suc r) (F .characteristic ^ t)))
     ]
+
+pub record BoundMeaning (s : Sequence) (b : ℕ) : Type 0 where
+  pub leastPeriod : ℕ
+  pub isLeast : LeastPeriod s leastPeriod
+  pub notExceeded : leastPeriod ≤ b
+  pub bits64 : b < 2 ^ 64
 
 pub record PowerFigures : Type 0 where
   pub power : ℕ

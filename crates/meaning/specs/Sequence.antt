@@ -11,6 +11,7 @@
 --   annihilatesPeriod F g ts == the action of g is 0 at each place of the period ts, and so at every place
 --   cut s k m             == the stretch of m terms of s from place k on
 --   Period s n            == s repeats every n terms, n at least 1
+--   LeastPeriod s n       == n is the least number of terms after which s repeats
 --   continuation F g start == the endless sequence that the monic polynomial g continues the starting terms
 --                          to, as many as its degree; for degree 0 the zero sequence
 --   Continues F g start s == the same in words: s is a sequence of F, begins with start, and g annihilates it
@@ -60,6 +61,10 @@ cut s k (suc m) = s k ∷ cut s (suc k) m
 pub record Period (s : Sequence) (n : ℕ) : Type 0 where
   pub positive : 1 ≤ n
   pub repeats : (i : ℕ) → s (i + n) ≡ s i
+
+pub record LeastPeriod (s : Sequence) (n : ℕ) : Type 0 where
+  pub period : Period s n
+  pub least : (m : ℕ) → Period s m → n ≤ m
 
 -- the term after the window of the last deg g terms: with it the action of g there is 0
 unfoldable pub next : Field → Polynomial → List ℕ → ℕ
