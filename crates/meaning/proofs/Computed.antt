@@ -7,8 +7,8 @@ use Rattle.meaning.specs.Field.{prime, isPrime, largestPrime, primeInRan
 use Rattle.meaning.specs.Field.{multiple, negative}
 use Rattle.meaning.specs.Polynomial.{degree, leading, isMonic, isMonicOver, plus, scale, times, power}
 use Rattle.meaning.specs.Polynomial.{product, eachHead, monics, same, hasFactorOf, irreducible}
-use Rattle.meaning.specs.Sequence.{actAt, known, periodic, annihilatesKnown, annihilatesPeriod, cut}
-use Rattle.meaning.specs.Sequence.{next, continuation}
+use Rattle.meaning.specs.Sequence.{actAt, known, periodic, annihilatesKnown, annihilatesPeriod}
+use Rattle.meaning.specs.Sequence.{actOnKnown, actOnPeriod, cut, next, continuation}
 use Rattle.meaning.specs.Result.{mapResult, firstOf, valueOf, settle, figuresOf, written, cleared}
 use Rattle.meaning.specs.Result.{answerAfter, workAfter}
 use Rattle.meaning.specs.Conditions.{named, totalDegree, notPrime, countOutOfRange, placeOutOfRange}
@@ -54,9 +54,13 @@ unfoldable pub openPolynomial-2 : Unit {0}
 unfolding irreducible
 openPolynomial-2 = tt
 
-unfoldable pub openSequence : Unit {0}
-unfolding actAt known periodic annihilatesKnown annihilatesPeriod cut next continuation
-openSequence = tt
+unfoldable pub openSequence-1 : Unit {0}
+unfolding actAt known periodic annihilatesKnown annihilatesPeriod actOnKnown actOnPeriod cut next
+openSequence-1 = tt
+
+unfoldable pub openSequence-2 : Unit {0}
+unfolding continuation
+openSequence-2 = tt
 
 unfoldable pub openResult : Unit {0}
 unfolding mapResult firstOf valueOf settle figuresOf written cleared answerAfter workAfter
@@ -135,23 +139,23 @@ unfolding bufferAfter bodyAfter
 openCalls = tt
 
 unfoldable pub opened-1 : Unit {0}
-unfolding openSearch openField openPolynomial-1 openPolynomial-2 openSequence
+unfolding openSearch openField openPolynomial-1 openPolynomial-2 openSequence-1
 opened-1 = tt
 
 unfoldable pub opened-2 : Unit {0}
-unfolding openResult openConditions-1 openConditions-2 openConditions-3 openPower
+unfolding openSequence-2 openResult openConditions-1 openConditions-2 openConditions-3
 opened-2 = tt
 
 unfoldable pub opened-3 : Unit {0}
-unfolding openPeriod openPortion-1 openPortion-2 openFree openContinuation
+unfolding openPower openPeriod openPortion-1 openPortion-2 openFree
 opened-3 = tt
 
 unfoldable pub opened-4 : Unit {0}
-unfolding openIrreducibility openRoute-1 openRoute-2 openFile-1 openFile-2
+unfolding openContinuation openIrreducibility openRoute-1 openRoute-2 openFile-1
 opened-4 = tt
 
 unfoldable pub opened-5 : Unit {0}
-unfolding openPrint openAnswers-1 openAnswers-2 openCalls
+unfolding openFile-2 openPrint openAnswers-1 openAnswers-2 openCalls
 opened-5 = tt
 
 unfoldable pub computed : Unit {0}

@@ -9,6 +9,9 @@
 --   annihilatesKnown F g ts  == the action of g on the m terms ts is 0 at its m − deg g places; no places
 --                          count as annihilated
 --   annihilatesPeriod F g ts == the action of g is 0 at each place of the period ts, and so at every place
+--   actOnKnown F g ts     == the action of g on the m terms ts, as the list of its m − deg g places; empty where there is
+--                            none
+--   actOnPeriod F g ts    == the action of g on the period ts, as a period of as many terms
 --   cut s k m             == the stretch of m terms of s from place k on
 --   Period s n            == s repeats every n terms, n at least 1
 --   LeastPeriod s n       == n is the least number of terms after which s repeats
@@ -22,7 +25,7 @@ use Prim.Native.Nat.{ℕ, zero, suc, _+_, _-_, _%_, _≤_, _<_}
 use mathlib.Core.Path.{_≡_}
 use mathlib.Core.Logic.{_≢_}
 use mathlib.Core.Bool.{Bool}
-use mathlib.Core.List.{List, [], _∷_, _++_}
+use mathlib.Core.List.{List, [], _∷_, _++_, map}
 use lib.ListN.{length, getD, take, drop}
 use lib.Dec.{eqb, T}
 use Rattle.meaning.specs.Search.{range, holdsForAll}
@@ -53,6 +56,12 @@ annihilatesKnown F g ts = holdsForAll (λ k. eqb (actAt F g (known ts) k) 0) (ra
 
 unfoldable pub annihilatesPeriod : Field → Polynomial → List ℕ → Bool
 annihilatesPeriod F g ts = holdsForAll (λ k. eqb (actAt F g (periodic ts) k) 0) (range 0 (length ts))
+
+unfoldable pub actOnKnown : Field → Polynomial → List ℕ → List ℕ
+actOnKnown F g ts = map (actAt F g (known ts)) (range 0 (length ts - degree g))
+
+unfoldable pub actOnPeriod : Field → Polynomial → List ℕ → List ℕ
+actOnPeriod F g ts = map (actAt F g (periodic ts)) (range 0 (length ts))
 
 unfoldable pub cut : Sequence → ℕ → ℕ → List ℕ
 cut s k zero = []
