@@ -6,3 +6,4 @@ pub mod Spread
 pub mod Actions
 pub mod Monics
 pub mod Irreducibles
+pub mod Remainders

@@ -100,7 +100,7 @@ some-map t f l =
     member-some t (map f l) (f a) (Memᴰ·map f m) p)
 
 -- Each head before each list
-getD-mapped :
+pub getD-mapped :
     {A B : Type 0} (f : A → B) (l : List A) (i : ℕ) (a : A) (b : B)
     → i < length l
     → getD (map f l) i b ≡ f (getD l i a)
