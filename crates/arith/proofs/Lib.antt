@@ -1,0 +1,8 @@
+pub mod PrimeTest
+pub mod Represented
+pub mod Multiplier
+pub mod Numbers
+pub mod Inverse
+pub mod Dot
+pub mod Slices
+pub mod Writing

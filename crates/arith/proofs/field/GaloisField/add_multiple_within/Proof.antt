@@ -1,0 +1,89 @@
+-- `arith::GaloisField::add_multiple_within` meets its contract. The invariant: the first i numbers of a + c·b
+-- are written from x on. The measure is what is left of the n places. Assumes nothing.
+use Prim.Native.Nat.{_-_, _≤_}
+use native.Mathlib.Omega.{arith}
+use borrow.Author.Needs.{needs}
+use denote.Ref.{now}
+use Rattle.arith.specs.Represented.{fieldOf}
+use Rattle.arith.specs.Slices.{part, combined}
+use Rattle.arith.proofs.Writing.{Writing, writing-none, writing-end, combined-more}
+use Rattle.arith.proofs.field.GaloisField.add_multiple_within.Statement.{statement}
+use Rattle.arith.proofs.field.GaloisField.add_multiple_within.Tie as tie
+
+abbrev Inv-loop : tie.InvT-loop
+Inv-loop self w₀ x c y n i₀ w i =
+    (i ≤ n) × Writing w₀ x (combined (fieldOf self) (part w₀ x n) c (part w₀ y n)) w i
+
+abbrev μ-loop : tie.MeasureT-loop
+μ-loop self w₀ x c y n i₀ w i = n - i
+
+loop-holds : tie.Need-loop-holds Inv-loop μ-loop
+loop-holds c = (omega arith, writing-none _ (c .before .args .x) _ (omega arith))
+
+add-add-product : tie.Need-add-add-product Inv-loop μ-loop
+add-add-product c = search needs
+
+slice-read-add-product : tie.Need-slice-read-add-product Inv-loop μ-loop
+slice-read-add-product c = search needs
+
+add-add-product-2 : tie.Need-add-add-product-2 Inv-loop μ-loop
+add-add-product-2 c = search needs
+
+slice-read-add-product-2 : tie.Need-slice-read-add-product-2 Inv-loop μ-loop
+slice-read-add-product-2 c = search needs
+
+add-product-requires : tie.Need-add-product-requires Inv-loop μ-loop
+add-product-requires c κs = search needs
+
+add-w : tie.Need-add-w Inv-loop μ-loop
+add-w c = search needs
+
+slice-write-w : tie.Need-slice-write-w Inv-loop μ-loop
+slice-write-w c = search needs
+
+add-i : tie.Need-add-i Inv-loop μ-loop
+add-i c = search needs
+
+loop-less : tie.Need-loop-less Inv-loop μ-loop
+loop-less c = search needs
+
+loop-again : tie.Need-loop-again Inv-loop μ-loop
+loop-again c =
+    let b = c .before .before .before .before .before .before in
+    let a = b .args in
+    let r = b .pre .1 in
+    let l = c .before .before .before .before .loop in (
+      omega arith,
+      combined-more (fieldOf (a .self)) (now (a .w)) (a .x) (a .x) (a .y) (a .c) (a .n)
+          (r .first) (r .first) (r .second)
+          (λ e. omega arith) (r .apart)
+          (omega arith)
+          (l .inv .1)
+          (c .add-product .ensures),
+    )
+
+same-length : tie.Need-same-length Inv-loop μ-loop
+same-length c = search needs
+
+returns : tie.Need-returns Inv-loop μ-loop
+returns c = writing-end (c .before .loop .inv .1) (c .before .before .before .args .n) (omega arith)
+
+pub add-multiple-within-spec : {M : Type 1} → statement M
+add-multiple-within-spec =
+    tie.close
+    (tie.spec
+    Inv-loop
+    μ-loop
+    loop-holds
+    add-add-product
+    slice-read-add-product
+    add-add-product-2
+    slice-read-add-product-2
+    add-product-requires
+    add-w
+    slice-write-w
+    add-i
+    loop-less
+    loop-again
+    same-length
+    returns)

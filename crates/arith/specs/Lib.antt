@@ -1,0 +1,3 @@
+pub mod Represented
+pub mod Inverse
+pub mod Slices
