@@ -1,21 +1,24 @@
--- The contracts determine the answers: what an answer tells gives the answer back, so that no two answers
--- tell the same.
+-- What an answer tells determines it: no two answers tell the same. With the equations of the contracts, whatever meets a
+-- contract is one answer.
 --
---   refusalOf n   == the refusal with the number n
+--   refusalOf n   == the refusal with the number n, none for a number that is not 1 to 17
 --   …-determined  == two answers that tell the same are the same
+--   period-call-determined and its like == two runs of a call on the same input agree in the answer and in every byte
 -- Assumes nothing.
 use Prim.Native.Nat.{ℕ}
 use mathlib.Core.Path.{_≡_, refl, sym, ap, _∙_}
 use mathlib.Core.Bool.{Bool, true, false}
 use mathlib.Core.List.{List, [], _∷_}
-use lib.ListN.{getD}
+use mathlib.Core.Option.{Option, some}
 use Rattle.meaning.specs.declared.Refusal.{Refusal}
 use Rattle.meaning.specs.declared.Irreducibility.{Irreducibility}
 use Rattle.meaning.specs.declared.PowerRating.{PowerRating}
 use Rattle.meaning.specs.declared.SetOutcome.{SetOutcome}
+use Rattle.meaning.specs.declared.SetRating.{SetRating}
 use Rattle.meaning.specs.declared.FreeRating.{FreeRating}
 use Rattle.meaning.specs.declared.Filling.{Filling}
 use Rattle.meaning.specs.declared.FileOutcome.{FileOutcome}
+use Rattle.meaning.specs.declared.FileRating.{FileRating}
 use Rattle.meaning.specs.declared.RecordOutcome.{RecordOutcome}
 use Rattle.meaning.specs.declared.Refusal.the-variants.{FileTooLong, UnknownKind, FileCutShort}
 use Rattle.meaning.specs.declared.Refusal.the-variants.{RecordOutOfPlace, ModeUnsuited, NotPrime}
@@ -23,40 +26,43 @@ use Rattle.meaning.specs.declared.Refusal.the-variants.{CountOutOfRange,
 use Rattle.meaning.specs.declared.Refusal.the-variants.{DegreeOutOfRange, NotMonic, Reducible}
 use Rattle.meaning.specs.declared.Refusal.the-variants.{EqualFactors, UpperPowers, TooFewTerms}
 use Rattle.meaning.specs.declared.Refusal.the-variants.{LentTooShort, NotAnnihilated}
-use Rattle.meaning.specs.Result.{Result, refused, answered}
+use Rattle.meaning.specs.Search.{mapOption}
+use Rattle.meaning.specs.Route.{lookUp}
+use Rattle.meaning.specs.Result.{Result, refused, answered, Rated}
 use Rattle.meaning.specs.Power.{PowerFigures}
-use Rattle.meaning.specs.Free.{FreeFigures}
+use Rattle.meaning.specs.Free.{FreeFigures, Choice}
+use Rattle.meaning.specs.Calls.{LentAfter, IrreducibleCall, PeriodCall, PortionCall, SetCall}
+use Rattle.meaning.specs.Calls.{FreeCall, ContinueCall, FileCall, RecordCall}
 use Rattle.meaning.specs.Answers.{numberOf, toldIrreducible, toldFilling, toldPower, toldFree, SetTold}
 use Rattle.meaning.specs.Answers.{toldSet}
 use Rattle.meaning.specs.Answers.{FileTold, withPowers, withOne, withSome, toldFile, toldRecord}
 
-pub refusalOf : ℕ → Refusal
-refusalOf n =
-    getD
-    (FileTooLong
-    ∷ FileTooLong
-    ∷ UnknownKind
-    ∷ FileCutShort
-    ∷ RecordOutOfPlace
-    ∷ ModeUnsuited
-    ∷ NotPrime
-    ∷ CountOutOfRange
-    ∷ TermOutOfField
-    ∷ FactorCount
-    ∷ DegreeOutOfRange
-    ∷ NotMonic
-    ∷ Reducible
-    ∷ EqualFactors
-    ∷ UpperPowers
-    ∷ TooFewTerms
-    ∷ LentTooShort
-    ∷ NotAnnihilated
-    ∷ [])
-    n
-    FileTooLong
+pub refusals : List (ℕ × Refusal)
+refusals =
+    (1, FileTooLong)
+    ∷ (2, UnknownKind)
+    ∷ (3, FileCutShort)
+    ∷ (4, RecordOutOfPlace)
+    ∷ (5, ModeUnsuited)
+    ∷ (6, NotPrime)
+    ∷ (7, CountOutOfRange)
+    ∷ (8, TermOutOfField)
+    ∷ (9, FactorCount)
+    ∷ (10, DegreeOutOfRange)
+    ∷ (11, NotMonic)
+    ∷ (12, Reducible)
+    ∷ (13, EqualFactors)
+    ∷ (14, UpperPowers)
+    ∷ (15, TooFewTerms)
+    ∷ (16, LentTooShort)
+    ∷ (17, NotAnnihilated)
+    ∷ []
 
-pub refusal-number : (r : Refusal) → refusalOf (numberOf r) ≡ r
-unfolding refusalOf numberOf
+pub refusalOf : ℕ → Option Refusal
+refusalOf n = lookUp n refusals
+
+pub refusal-number : (r : Refusal) → refusalOf (numberOf r) ≡ some r
+unfolding refusalOf refusals lookUp numberOf
 refusal-number FileTooLong = refl
 refusal-number UnknownKind = refl
 refusal-number FileCutShort = refl
@@ -76,96 +82,181 @@ refusal-number LentTooShort = refl
 refusal-number NotAnnihilated = refl
 
 -- a map that another undoes takes no two things to one
-determined : {A B : Type 0} (f : A → B) (g : B → A) → ((a : A) → g (f a) ≡ a) → (a b : A) → f a ≡ f b → a ≡ b
-determined f g back a b e = sym (back a) ∙ ap g e ∙ back b
+some-same : {A : Type 0} (a b : A) → some a ≡ some b → a ≡ b
+some-same a b e = cc
 
-irreducibility : Result Bool → Irreducibility
-irreducibility (refused n) = Irreducibility.Refused (refusalOf n)
-irreducibility (answered b) = elim b [ true ↦ Irreducibility.Irreducible | false ↦ Irreducibility.HasFactors ]
+determined : {A B : Type 0} (f : A → B) (g : B → Option A) → ((a : A) → g (f a) ≡ some a) → (a b : A) → f a ≡ f b → a ≡ b
+determined f g back a b e = some-same a b (sym (back a) ∙ ap g e ∙ back b)
 
-irreducibility-told : (r : Irreducibility) → irreducibility (toldIrreducible r) ≡ r
+-- the answer that a refusal by number tells
+refusing : {A : Type 0} → (Refusal → A) → ℕ → Option A
+refusing f n = mapOption f (refusalOf n)
+
+refusing-number : {A : Type 0} (f : Refusal → A) (r : Refusal) → refusing f (numberOf r) ≡ some (f r)
+unfolding refusing mapOption
+refusing-number f r = ap (mapOption f) (refusal-number r)
+
+irreducibility : Result Bool → Option Irreducibility
+irreducibility (refused n) = refusing Irreducibility.Refused n
+irreducibility (answered b) = elim b [ true ↦ some Irreducibility.Irreducible | false ↦ some Irreducibility.HasFactors ]
+
+irreducibility-told : (r : Irreducibility) → irreducibility (toldIrreducible r) ≡ some r
 unfolding irreducibility toldIrreducible
 irreducibility-told Irreducibility.Irreducible = refl
 irreducibility-told Irreducibility.HasFactors = refl
-irreducibility-told (Irreducibility.Refused r) = ap Irreducibility.Refused (refusal-number r)
+irreducibility-told (Irreducibility.Refused r) = refusing-number Irreducibility.Refused r
 
 pub irreducible-determined : (r s : Irreducibility) → toldIrreducible r ≡ toldIrreducible s → r ≡ s
 irreducible-determined = determined toldIrreducible irreducibility irreducibility-told
 
-filling : Result (Unit {0}) → Filling
-filling (refused n) = Filling.Refused (refusalOf n)
-filling (answered u) = Filling.Filled
+filling : Result (Unit {0}) → Option Filling
+filling (refused n) = refusing Filling.Refused n
+filling (answered u) = some Filling.Filled
 
-filling-told : (r : Filling) → filling (toldFilling r) ≡ r
+filling-told : (r : Filling) → filling (toldFilling r) ≡ some r
 unfolding filling toldFilling
 filling-told Filling.Filled = refl
-filling-told (Filling.Refused r) = ap Filling.Refused (refusal-number r)
+filling-told (Filling.Refused r) = refusing-number Filling.Refused r
 
 pub filling-determined : (r s : Filling) → toldFilling r ≡ toldFilling s → r ≡ s
 filling-determined = determined toldFilling filling filling-told
 
-power : Result PowerFigures → PowerRating
-power (refused n) = PowerRating.Refused (refusalOf n)
-power (answered a) = PowerRating.Rated (a .power) (a .degree) (a .bound)
+power : Result PowerFigures → Option PowerRating
+power (refused n) = refusing PowerRating.Refused n
+power (answered a) = some (PowerRating.Rated (a .power) (a .degree) (a .bound))
 
-power-told : (r : PowerRating) → power (toldPower r) ≡ r
+power-told : (r : PowerRating) → power (toldPower r) ≡ some r
 unfolding power toldPower
 power-told (PowerRating.Rated r d b) = refl
-power-told (PowerRating.Refused r) = ap PowerRating.Refused (refusal-number r)
+power-told (PowerRating.Refused r) = refusing-number PowerRating.Refused r
 
 pub power-determined : (r s : PowerRating) → toldPower r ≡ toldPower s → r ≡ s
 power-determined = determined toldPower power power-told
 
-set : Result SetTold → SetOutcome
-set (refused n) = SetOutcome.Refused (refusalOf n)
-set (answered a) = SetOutcome.Rated (a .degree) (a .count)
+set : Result SetTold → Option SetOutcome
+set (refused n) = refusing SetOutcome.Refused n
+set (answered a) = some (SetOutcome.Rated (a .degree) (a .count))
 
-set-told : (r : SetOutcome) → set (toldSet r) ≡ r
+set-told : (r : SetOutcome) → set (toldSet r) ≡ some r
 unfolding set toldSet
 set-told (SetOutcome.Rated d n) = refl
-set-told (SetOutcome.Refused r) = ap SetOutcome.Refused (refusal-number r)
+set-told (SetOutcome.Refused r) = refusing-number SetOutcome.Refused r
 
 pub set-determined : (r s : SetOutcome) → toldSet r ≡ toldSet s → r ≡ s
 set-determined = determined toldSet set set-told
 
-free : Result FreeFigures → FreeRating
-free (refused n) = FreeRating.Refused (refusalOf n)
+free : Result FreeFigures → Option FreeRating
+free (refused n) = refusing FreeRating.Refused n
 free (answered a) =
-    elim (a .unique) [ true ↦ FreeRating.Unique (a .degree) | false ↦ FreeRating.Several (a .degree) ]
+    elim (a .unique) [ true ↦ some (FreeRating.Unique (a .degree)) | false ↦ some (FreeRating.Several (a .degree)) ]
 
-free-told : (r : FreeRating) → free (toldFree r) ≡ r
+free-told : (r : FreeRating) → free (toldFree r) ≡ some r
 unfolding free toldFree
 free-told (FreeRating.Unique d) = refl
 free-told (FreeRating.Several d) = refl
-free-told (FreeRating.Refused r) = ap FreeRating.Refused (refusal-number r)
+free-told (FreeRating.Refused r) = refusing-number FreeRating.Refused r
 
 pub free-determined : (r s : FreeRating) → toldFree r ≡ toldFree s → r ≡ s
 free-determined = determined toldFree free free-told
 
-file : Result FileTold → FileOutcome
-file (refused n) = FileOutcome.Refused (refusalOf n)
-file (answered (withPowers d m n)) = FileOutcome.Powers d m n
-file (answered (withOne d m)) = FileOutcome.Unique d m
-file (answered (withSome d m)) = FileOutcome.Several d m
+file : Result FileTold → Option FileOutcome
+file (refused n) = refusing FileOutcome.Refused n
+file (answered (withPowers d m n)) = some (FileOutcome.Powers d m n)
+file (answered (withOne d m)) = some (FileOutcome.Unique d m)
+file (answered (withSome d m)) = some (FileOutcome.Several d m)
 
-file-told : (r : FileOutcome) → file (toldFile r) ≡ r
+file-told : (r : FileOutcome) → file (toldFile r) ≡ some r
 unfolding file toldFile
 file-told (FileOutcome.Powers d m n) = refl
 file-told (FileOutcome.Unique d m) = refl
 file-told (FileOutcome.Several d m) = refl
-file-told (FileOutcome.Refused r) = ap FileOutcome.Refused (refusal-number r)
+file-told (FileOutcome.Refused r) = refusing-number FileOutcome.Refused r
 
 pub file-determined : (r s : FileOutcome) → toldFile r ≡ toldFile s → r ≡ s
 file-determined = determined toldFile file file-told
 
-found : Result ℕ → RecordOutcome
-found (refused n) = RecordOutcome.Refused (refusalOf n)
-found (answered k) = RecordOutcome.Found k
+found : Result ℕ → Option RecordOutcome
+found (refused n) = refusing RecordOutcome.Refused n
+found (answered k) = some (RecordOutcome.Found k)
 
-found-told : (r : RecordOutcome) → found (toldRecord r) ≡ r
+found-told : (r : RecordOutcome) → found (toldRecord r) ≡ some r
 unfolding found toldRecord
 found-told (RecordOutcome.Found k) = refl
-found-told (RecordOutcome.Refused r) = ap RecordOutcome.Refused (refusal-number r)
+found-told (RecordOutcome.Refused r) = refusing-number RecordOutcome.Refused r
 
 pub record-determined : (r s : RecordOutcome) → toldRecord r ≡ toldRecord s → r ≡ s
 record-determined = determined toldRecord found found-told
+
+-- The calls: two runs on the same input agree.
+pub irreducible-call-determined :
+    {p : ℕ} {f : List ℕ} {r s : Irreducibility} → IrreducibleCall p f r → IrreducibleCall p f s → r ≡ s
+irreducible-call-determined {r = r} {s = s} c d = irreducible-determined r s (c .answer ∙ sym (d .answer))
+
+-- the lent bytes after one result
+pub lent-determined :
+    {A : Type 0} {result : Result (Rated A)} {answer work a b w x : List ℕ}
+    → LentAfter result answer work a w
+    → LentAfter result answer work b x
+    → (a ≡ b) × (w ≡ x)
+lent-determined c d = (c .answerBytes ∙ sym (d .answerBytes), c .workBytes ∙ sym (d .workBytes))
+
+pub period-call-determined :
+    {p : ℕ} {f ts answer work a b w x : List ℕ} {r s : PowerRating}
+    → PeriodCall p f ts answer work r a w
+    → PeriodCall p f ts answer work s b x
+    → (r ≡ s) × ((a ≡ b) × (w ≡ x))
+period-call-determined {r = r} {s = s} c d =
+    (power-determined r s (c .rating ∙ sym (d .rating)), lent-determined (c .lent) (d .lent))
+
+pub portion-call-determined :
+    {p : ℕ} {f : List ℕ} {v : ℕ} {ts answer work a b w x : List ℕ} {r s : PowerRating}
+    → PortionCall p f v ts answer work r a w
+    → PortionCall p f v ts answer work s b x
+    → (r ≡ s) × ((a ≡ b) × (w ≡ x))
+portion-call-determined {r = r} {s = s} c d =
+    (power-determined r s (c .rating ∙ sym (d .rating)), lent-determined (c .lent) (d .lent))
+
+pub set-call-determined :
+    {p : ℕ} {fs : List (List ℕ)} {vs ts answer work a b w x : List ℕ} {r s : SetRating}
+    → SetCall p fs vs ts answer work r a w
+    → SetCall p fs vs ts answer work s b x
+    → (r ≡ s) × ((a ≡ b) × (w ≡ x))
+set-call-determined {r = r} {s = s} c d =
+    let outcomes = set-determined (r .outcome) (s .outcome) (c .rating ∙ sym (d .rating)) in
+    let places = c .powers ∙ sym (d .powers) in
+    (λ i. record { outcome = outcomes i; powers = places i }, lent-determined (c .lent) (d .lent))
+
+pub free-call-determined :
+    {pick : Choice} {p : ℕ} {ts answer work a b w x : List ℕ} {r s : FreeRating}
+    → FreeCall pick p ts answer work r a w
+    → FreeCall pick p ts answer work s b x
+    → (r ≡ s) × ((a ≡ b) × (w ≡ x))
+free-call-determined {r = r} {s = s} c d =
+    (free-determined r s (c .rating ∙ sym (d .rating)), lent-determined (c .lent) (d .lent))
+
+pub continue-call-determined :
+    {p : ℕ} {g start buffer : List ℕ} {place : ℕ} {b c : List ℕ} {r s : Filling}
+    → ContinueCall p g start buffer place r b
+    → ContinueCall p g start buffer place s c
+    → (r ≡ s) × (b ≡ c)
+continue-call-determined {r = r} {s = s} c d =
+    (filling-determined r s (c .filling ∙ sym (d .filling)), c .bufferBytes ∙ sym (d .bufferBytes))
+
+pub file-call-determined :
+    {pick : Choice} {input answer work a b w x : List ℕ} {r s : FileRating}
+    → FileCall pick input answer work r a w
+    → FileCall pick input answer work s b x
+    → (r ≡ s) × ((a ≡ b) × (w ≡ x))
+file-call-determined {r = r} {s = s} c d =
+    let senders = c .sender ∙ sym (d .sender) in
+    let outcomes = file-determined (r .outcome) (s .outcome) (c .rating ∙ sym (d .rating)) in
+    let places = c .powers ∙ sym (d .powers) in
+    (λ i. record { sender = senders i; outcome = outcomes i; powers = places i }, lent-determined (c .lent) (d .lent))
+
+pub record-call-determined :
+    {input : List ℕ} {n : ℕ} {r s : RecordOutcome} {a b : List ℕ}
+    → RecordCall input n r a
+    → RecordCall input n s b
+    → (r ≡ s) × (a ≡ b)
+record-call-determined {r = r} {s = s} c d =
+    (record-determined r s (c .found ∙ sym (d .found)), c .part ∙ sym (d .part))

@@ -5,7 +5,7 @@
 use Prim.Native.Nat.{ℕ}
 use mathlib.Core.Path.{_≡_, refl}
 use mathlib.Core.List.{List, [], _∷_, _++_}
-use lib.ListN.{replicate, length, take, drop}
+use lib.ListN.{replicate}
 use Rattle.meaning.specs.Result.{answerAfter, workAfter}
 use Rattle.meaning.specs.Period.{ratePeriod}
 use Rattle.meaning.specs.Portion.{ratePortion}

@@ -9,3 +9,4 @@ pub mod Orders
 pub mod Lines
 pub mod Lent
 pub mod Determined
+pub mod CallRows

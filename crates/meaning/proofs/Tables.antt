@@ -7,7 +7,7 @@ use mathlib.Core.List.{List, [], _∷_}
 use mathlib.Core.Option.{Option, none, some}
 use lib.Dec.{T}
 use Rattle.meaning.specs.Search.{least, holdsForAll, isNone}
-use Rattle.meaning.specs.Result.{Check, firstOf, Result, settle, valueOf}
+use Rattle.meaning.specs.Result.{Check, firstOf, settle, valueOf}
 
 -- a condition that does not hold is passed over
 pub firstOf-skip : (c : Check) (table : List Check) → (c .1) tt ≡ false → firstOf (c ∷ table) ≡ firstOf table

@@ -1,15 +1,15 @@
 -- Row D of paper 01: a period of zeros has power 0 and the polynomial 1, with every accepted factor.
 -- Assumes nothing.
-use Prim.Native.Nat.{ℕ, zero, suc, _+_, _*_, _%_, _≤_, _<_, zero-le, suc-le-suc}
+use Prim.Native.Nat.{ℕ, zero, suc, _≤_}
 use native.Mathlib.Nat.{zero-mod}
 use native.Mathlib.Omega.{arith}
 use mathlib.Core.Path.{_≡_, refl, sym, _∙_, ap}
-use mathlib.Core.Bool.{Bool, true, false, not, _||_, true≢false}
+use mathlib.Core.Bool.{Bool, true, false, not, true≢false}
 use mathlib.Core.List.{List, [], _∷_}
-use mathlib.Core.Option.{Option, none, some}
+use mathlib.Core.Option.{none, some}
 use lib.ListN.{length, getD, replicate, length-replicate}
-use lib.Dec.{T, eqb, ltb, leb}
-use borrow.Author.Tests.{eq-eqb, ne-eqb, le-ltb, lt-ltb, not-false}
+use lib.Dec.{T}
+use borrow.Author.Tests.{eq-eqb, ne-eqb, le-ltb, lt-ltb}
 use Rattle.meaning.specs.Search.{holdsForAll, holdsForSome, isNone, bind, mapOption}
 use Rattle.meaning.specs.Field.{prime, isElement, areElements, primeInRange, isPrime, largestPrime}
 use Rattle.meaning.specs.Polynomial.{Polynomial, power, degree}

@@ -33,8 +33,8 @@ use Rattle.meaning.specs.Portion.{ratePortion, rateSet}
 use Rattle.meaning.specs.Free.{Choice, rateFree, ChosenFits}
 use Rattle.meaning.specs.Continuation.{continueSequence}
 use Rattle.meaning.specs.Irreducibility.{askIrreducible}
-use Rattle.meaning.specs.Route.{RouteRecord, boxOf, byteOf, records, readRecord}
-use Rattle.meaning.specs.File.{rateFile, termsOf}
+use Rattle.meaning.specs.Route.{RouteRecord, boxOf, readRecord}
+use Rattle.meaning.specs.File.{rateFile, FileChosenFits}
 use Rattle.meaning.specs.Print.{printed}
 use Rattle.meaning.specs.Answers.{toldIrreducible, toldFilling, toldPower, toldFree, toldSet, setFiguresTold}
 use Rattle.meaning.specs.Answers.{toldFile, fileFiguresTold, toldRecord, setPadded, filePadded}
@@ -87,7 +87,7 @@ pub record FileCall (pick : Choice) (file answer work : List ℕ) (r : FileRatin
   pub rating : toldFile (r .outcome)
       ≡ mapResult fileFiguresTold (figuresOf (rateFile pick file (length answer) (length work)))
   pub powers : r .powers ≡ filePadded (figuresOf (rateFile pick file (length answer) (length work)))
-  pub chosen : (rs : List RouteRecord) → records file ≡ answered rs → ChosenFits pick (byteOf 2 rs) (termsOf rs)
+  pub chosen : FileChosenFits pick file
   pub lent : LentAfter (rateFile pick file (length answer) (length work)) answer work answer′ work′
 
 -- the body that the reader hands back: the empty part where the file is refused
@@ -102,4 +102,4 @@ pub record RecordCall (file : List ℕ) (n : ℕ) (r : RecordOutcome) (body : Li
 -- what the rating program prints for what it reads
 pub record ProgramCall (pick : Choice) (input output : List ℕ) : Type 0 where
   pub lines : output ≡ printed pick input
-  pub chosen : (rs : List RouteRecord) → records input ≡ answered rs → ChosenFits pick (byteOf 2 rs) (termsOf rs)
+  pub chosen : FileChosenFits pick input

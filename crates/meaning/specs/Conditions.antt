@@ -4,11 +4,11 @@
 --   named factors uppers == each factor with its upper power, in order; 0 for a factor without one; further
 --                          upper powers belong to no factor
 --   totalDegree l        == the sum of upper power × degree (D in paper 01)
-use Prim.Native.Nat.{ℕ, zero, suc, _+_, _*_, _-_, _^_, _/_}
+use Prim.Native.Nat.{ℕ, _+_, _*_, _-_, _^_, _/_}
 use mathlib.Core.Bool.{Bool, true, false, not, _||_}
-use mathlib.Core.List.{List, [], _∷_, map}
+use mathlib.Core.List.{List, [], _∷_}
 use lib.ListN.{length}
-use lib.Dec.{leb, ltb, eqb}
+use lib.Dec.{ltb, eqb}
 use Rattle.meaning.specs.Search.{holdsForSome}
 use Rattle.meaning.specs.Field.{Field, primeInRange, areElements}
 use Rattle.meaning.specs.Polynomial.{Polynomial, degree, isMonic, same, irreducible}

@@ -12,7 +12,9 @@
 --   FileFigures         == the degree (complexity), the number of terms given, and the label
 --   rateRecords pick rs answer work == the answer of the mode's way on what the records hold
 --   rateFile pick file answer work  == the answer for a file: the refusals 1 to 5, then those of its mode
+--   FileChosenFits pick file == what holds of the program's choice for a file in the free mode
 use Prim.Native.Nat.{ℕ}
+use mathlib.Core.Path.{_≡_}
 use mathlib.Core.Bool.{Bool, true, false, not, _||_}
 use mathlib.Core.List.{List, [], _∷_, _++_, map}
 use mathlib.Core.Option.{none, some}
@@ -26,7 +28,7 @@ use Rattle.meaning.specs.Conditions.{degreeOutOfRange}
 use Rattle.meaning.specs.Power.{PowerFigures}
 use Rattle.meaning.specs.Period.{periodAnswer}
 use Rattle.meaning.specs.Portion.{SetFigures, setAnswer}
-use Rattle.meaning.specs.Free.{Choice, FreeFigures, rateFree}
+use Rattle.meaning.specs.Free.{Choice, FreeFigures, rateFree, ChosenFits}
 use Rattle.meaning.specs.Route.{RouteRecord, Mode, periodMode, setMode, freeMode, modeOf, bodies}
 use Rattle.meaning.specs.Route.{byteOf, factorUpper, records}
 
@@ -115,3 +117,10 @@ rateRecords pick rs answer work =
 unfoldable pub rateFile : Choice → List ℕ → ℕ → ℕ → Result (Rated FileFigures)
 rateFile pick file answer work =
     elim (records file) [ refused n ↦ refused n | answered rs ↦ rateRecords pick rs answer work ]
+
+abbrev pub FileChosenFits : Choice → List ℕ → Type 0
+FileChosenFits pick file =
+    (rs : List RouteRecord)
+    → records file ≡ answered rs
+    → modeOf (byteOf 3 rs) ≡ some freeMode
+    → ChosenFits pick (byteOf 2 rs) (termsOf rs)

@@ -12,7 +12,7 @@
 --   Choice             == how the program picks a polynomial under `some`: from p and the terms alone
 --   freePolynomial pick p ts e == the polynomial: under `one` the one that fits, under `some` the program's choice
 --   rateFree pick p ts answer work == the answer of the free way
---   ChosenFits pick p ts == what holds of the choice wherever the call answers `some`
+--   ChosenFits pick p ts == what holds of the choice wherever 6, 7 and 8 accept p and the terms and the word is `some`
 use Prim.Native.Nat.{ℕ, _*_, _≤_}
 use mathlib.Core.Path.{_≡_}
 use mathlib.Core.Bool.{Bool, true, false}
@@ -24,7 +24,7 @@ use Rattle.meaning.specs.Search.{least, firstThat, mapOption, bind, hold
 use Rattle.meaning.specs.Field.{Field, prime}
 use Rattle.meaning.specs.Polynomial.{Polynomial, degree, isMonicOver, monics}
 use Rattle.meaning.specs.Sequence.{annihilatesKnown}
-use Rattle.meaning.specs.Result.{Result, answered, Check, settle, Rated, figuresOf}
+use Rattle.meaning.specs.Result.{Result, Check, settle, Rated}
 use Rattle.meaning.specs.Conditions.{notPrime, countOutOfRange, termOutOfField, lentTooShort}
 
 unfoldable pub fitsDegree : Field → List ℕ → ℕ → Bool
@@ -80,7 +80,10 @@ rateFree pick p ts answer work =
 
 abbrev pub ChosenFits : Choice → ℕ → List ℕ → Type 0
 ChosenFits pick p ts =
-    (answer work : ℕ) (a : FreeFigures)
-    → figuresOf (rateFree pick p ts answer work) ≡ answered a
-    → a .unique ≡ false
-    → Fits (prime p) ts (a .degree) (pick p ts)
+    notPrime p ≡ false
+    → countOutOfRange (length ts) ≡ false
+    → termOutOfField (prime p) ts ≡ false
+    → (e : ℕ)
+    → leastDegree (prime p) ts ≡ some e
+    → isUnique ts e ≡ false
+    → Fits (prime p) ts e (pick p ts)

@@ -16,7 +16,6 @@
 --                        them; it is asked of monic f of positive degree only
 --   NotAProduct F f   == paper 01's words for it: f is not a product of two polynomials of positive degree
 use Prim.Native.Nat.{ℕ, zero, suc, _-_, _<_}
-use mathlib.Core.Path.{_≡_}
 use mathlib.Core.Logic.{_≢_}
 use mathlib.Core.Bool.{Bool, true, false, not, _&&_}
 use mathlib.Core.List.{List, [], _∷_, _++_, map}

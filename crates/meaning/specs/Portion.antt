@@ -15,7 +15,7 @@
 --   factorTable, acceptedFactors p factors uppers == factors are accepted when 6 and 9 to 14 do not turn them
 --                          down
 --   rateSet p factors uppers ts answer work, ratePortion p f v ts answer work == the answers of the two ways
-use Prim.Native.Nat.{ℕ, zero, suc}
+use Prim.Native.Nat.{ℕ}
 use mathlib.Core.Path.{_≡_}
 use mathlib.Core.Bool.{Bool, not}
 use mathlib.Core.List.{List, [], _∷_, map}

@@ -10,7 +10,7 @@
 use Prim.Native.Nat.{ℕ, zero, suc, _*_, _-_, _^_, _≤_, _<_}
 use mathlib.Core.Bool.{Bool, true, false}
 use mathlib.Core.List.{[], _∷_}
-use mathlib.Core.Option.{Option, none, some}
+use mathlib.Core.Option.{Option, some}
 use lib.Dec.{leb}
 use Rattle.meaning.specs.Search.{least, mapOption}
 use Rattle.meaning.specs.Field.{Field}

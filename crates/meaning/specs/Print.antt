@@ -12,11 +12,10 @@
 use Prim.Native.Nat.{ℕ, zero, suc, _+_, _/_, _%_}
 use Prim.Native.Char.{code}
 use Prim.Native.String.{String}
-use mathlib.Core.Bool.{Bool, true, false}
+use mathlib.Core.Bool.{true, false}
 use mathlib.Core.List.{List, [], _∷_, _++_, map}
 use lib.Dec.{ltb}
 use Rattle.meaning.specs.Result.{Result, refused, answered, Rated}
-use Rattle.meaning.specs.Polynomial.{Polynomial}
 use Rattle.meaning.specs.Free.{Choice}
 use Rattle.meaning.specs.Route.{boxOf}
 use Rattle.meaning.specs.File.{Label, powers, unique, several, FileFigures, rateFile}

@@ -14,7 +14,7 @@
 --                        and the rest as it was
 --   answerAfter r b   == the answer bytes b after the result r: unchanged by a refusal
 --   workAfter r b     == the work bytes b after the result r: unchanged by every refusal but 17
-use Prim.Native.Nat.{ℕ, zero, suc}
+use Prim.Native.Nat.{ℕ}
 use mathlib.Core.Bool.{Bool, true, false}
 use mathlib.Core.List.{List, [], _∷_, _++_}
 use mathlib.Core.Option.{Option, none, some}

@@ -1,0 +1,239 @@
+-- Computed rows for the contracts: each is met by the right answer with the right bytes, accepted and refused, and not by
+-- the wrong raters that paper 01 names.
+--
+--   CallRows  == the table of answers that meet their contracts      call-rows  == every row holds
+--   WrongRaters == the table of wrong answers that do not            wrong-raters == every row holds
+-- Assumes nothing.
+use Prim.Native.Nat.{ℕ}
+use native.Mathlib.Omega.{arith}
+use mathlib.Core.Path.{_≡_, refl, sym, ap, subst, _∙_}
+use mathlib.Core.Bool.{Bool, true, false, true≢false}
+use mathlib.Core.List.{List, [], _∷_, _++_}
+use mathlib.Core.Option.{Option, none, some}
+use lib.ListN.{replicate, getD}
+use lib.Dec.{eqb}
+use borrow.Author.Tests.{eqb-false}
+use Rattle.meaning.specs.declared.Refusal.{Refusal}
+use Rattle.meaning.specs.declared.Irreducibility.{Irreducibility}
+use Rattle.meaning.specs.declared.PowerRating.{PowerRating}
+use Rattle.meaning.specs.declared.SetOutcome.{SetOutcome}
+use Rattle.meaning.specs.declared.FreeRating.{FreeRating}
+use Rattle.meaning.specs.declared.Filling.{Filling}
+use Rattle.meaning.specs.declared.FileOutcome.{FileOutcome}
+use Rattle.meaning.specs.declared.RecordOutcome.{RecordOutcome}
+use Rattle.meaning.specs.Result.{Result, refused, answered}
+use Rattle.meaning.specs.Power.{PowerFigures}
+use Rattle.meaning.specs.Free.{Choice, isUnique, Fits, ChosenFits}
+use Rattle.meaning.specs.Field.{prime}
+use Rattle.meaning.specs.Route.{RouteRecord, Mode, periodMode, setMode, freeMode, modeOf, byteOf}
+use Rattle.meaning.specs.File.{termsOf, FileChosenFits}
+use Rattle.meaning.specs.Calls.{PrimeCall, IrreducibleCall, PeriodCall, PortionCall, SetCall, FreeCall}
+use Rattle.meaning.specs.Calls.{ContinueCall, FileCall, RecordCall}
+use Rattle.meaning.proofs.Computed.{computed}
+use Rattle.meaning.proofs.Rows.{box, field, mode, factor, terms, end, x+1, x²+1, x²+x+1}
+
+-- lent bytes, two more than are asked for
+abbrev answer : List ℕ
+answer = replicate 4099 7
+
+abbrev work : List ℕ
+work = replicate 8194 9
+
+abbrev cleared : List ℕ
+cleared = replicate 8192 0 ++ (9 ∷ 9 ∷ [])
+
+-- x², a polynomial of row I
+abbrev square : Choice
+square p ts = 0 ∷ 0 ∷ 1 ∷ []
+
+-- row B as a file, and row I as a file
+abbrev fileB : List ℕ
+fileB = box 7 ++ (field 2 ++ (mode 1 ++ (factor 1 0 (1 ∷ []) ++ (terms (0 ∷ 0 ∷ 0 ∷ 1 ∷ []) ++ end))))
+
+abbrev fileI : List ℕ
+fileI = box 7 ++ (field 2 ++ (mode 3 ++ (terms (0 ∷ 1 ∷ []) ++ end)))
+
+abbrev eightZeros : List ℕ
+eightZeros = replicate 8 0
+
+pub record CallRows : Type 0 where
+  pub prime251 : PrimeCall 251 true
+  pub prime253 : PrimeCall 253 false
+  pub irreducible : IrreducibleCall 2 x²+x+1 Irreducibility.Irreducible
+  pub reducible : IrreducibleCall 2 x²+1 Irreducibility.HasFactors
+  pub irreducibleRefused : IrreducibleCall 4 x²+1 (Irreducibility.Refused Refusal.NotPrime)
+  pub periodB : PeriodCall 2 x+1 (0 ∷ 0 ∷ 0 ∷ 1 ∷ []) answer work
+      (PowerRating.Rated 4 4 4)
+      (1 ∷ 0 ∷ 0 ∷ 0 ∷ 1 ∷ replicate 4094 7)
+      cleared
+  pub periodF : PeriodCall 2 x²+x+1 (0 ∷ 0 ∷ 0 ∷ 1 ∷ []) answer work (PowerRating.Refused Refusal.NotAnnihilated) answer cleared
+  pub periodTwelve : PeriodCall 2 x²+1 (0 ∷ []) answer work (PowerRating.Refused Refusal.Reducible) answer work
+  pub portionG : PortionCall 2 x+1 2 (1 ∷ 0 ∷ []) answer work (PowerRating.Rated 2 2 2) (1 ∷ 0 ∷ 1 ∷ replicate 4096 7) cleared
+  pub portionL : PortionCall 2 x+1 1 (1 ∷ 0 ∷ []) answer work (PowerRating.Refused Refusal.NotAnnihilated) answer cleared
+  pub setK : SetCall 2 (x+1 ∷ x²+x+1 ∷ []) (1 ∷ 1 ∷ []) (0 ∷ 1 ∷ 1 ∷ []) answer work
+      (record { outcome = SetOutcome.Rated 2 2; powers = 0 ∷ 1 ∷ 0 ∷ 0 ∷ 0 ∷ 0 ∷ 0 ∷ 0 ∷ [] })
+      (1 ∷ 1 ∷ 1 ∷ replicate 4096 7)
+      cleared
+  pub setNine : SetCall 2 [] [] (0 ∷ []) answer work
+      (record { outcome = SetOutcome.Refused Refusal.FactorCount; powers = eightZeros })
+      answer
+      work
+  pub freeH : FreeCall square 2 (1 ∷ 0 ∷ []) answer work (FreeRating.Unique 1) (0 ∷ 1 ∷ replicate 4097 7) cleared
+  pub freeI : FreeCall square 2 (0 ∷ 1 ∷ []) answer work (FreeRating.Several 2) (0 ∷ 0 ∷ 1 ∷ replicate 4096 7) cleared
+  pub freeSixteen : FreeCall square 2 (0 ∷ 1 ∷ []) answer [] (FreeRating.Refused Refusal.LentTooShort) answer []
+  pub continueN : ContinueCall 2 x²+x+1 (0 ∷ 1 ∷ []) (9 ∷ 9 ∷ 9 ∷ 9 ∷ []) 1 Filling.Filled (9 ∷ 0 ∷ 1 ∷ 1 ∷ [])
+  pub continueSeven : ContinueCall 2 x²+x+1 (0 ∷ 1 ∷ []) (9 ∷ 9 ∷ []) 2 (Filling.Refused Refusal.CountOutOfRange) (9 ∷ 9 ∷ [])
+  pub ratedB : FileCall square fileB answer work
+      (record { sender = 7; outcome = FileOutcome.Powers 4 4 1; powers = 4 ∷ 0 ∷ 0 ∷ 0 ∷ 0 ∷ 0 ∷ 0 ∷ 0 ∷ [] })
+      (1 ∷ 0 ∷ 0 ∷ 0 ∷ 1 ∷ replicate 4094 7)
+      cleared
+  pub ratedI : FileCall square fileI answer work
+      (record { sender = 7; outcome = FileOutcome.Several 2 2; powers = eightZeros })
+      (0 ∷ 0 ∷ 1 ∷ replicate 4096 7)
+      cleared
+  pub ratedFour : FileCall square (box 7 ++ end) answer work
+      (record { sender = 7; outcome = FileOutcome.Refused Refusal.RecordOutOfPlace; powers = eightZeros })
+      answer
+      work
+  pub recordTwo : RecordCall fileB 2 (RecordOutcome.Found 3) (1 ∷ [])
+  pub recordRefused : RecordCall (box 7) 0 (RecordOutcome.Refused Refusal.FileCutShort) []
+
+is-refused : {A : Type 0} → Result A → Bool
+is-refused (refused n) = true
+is-refused (answered a) = false
+
+lit-distinct : _≡_ {A = ℕ} 1 3 → ⊥
+lit-distinct e = omega arith
+
+-- the choice x² fits row I, the only one of these calls that answers `some`
+some-number : (m n : ℕ) → _≡_ {A = Option ℕ} (some m) (some n) → m ≡ n
+some-number m n e = cc
+
+square-H : ChosenFits square 2 (1 ∷ 0 ∷ [])
+unfolding computed
+square-H h6 h7 h8 e found u =
+    absurd (true≢false (ap (λ (n : ℕ). isUnique (1 ∷ 0 ∷ []) n) (some-number 1 e found) ∙ u))
+
+square-I : ChosenFits square 2 (0 ∷ 1 ∷ [])
+unfolding computed
+square-I h6 h7 h8 e found u =
+    subst (λ (n : ℕ). Fits (prime 2) (0 ∷ 1 ∷ []) n (0 ∷ 0 ∷ 1 ∷ [])) (some-number 2 e found)
+    (record { monic = tt; ofDegree = refl; annihilates = tt })
+
+records-same : (rs ss : List RouteRecord) → answered rs ≡ answered ss → rs ≡ ss
+records-same rs ss e = cc
+
+mode-number : Option Mode → ℕ
+mode-number none = 0
+mode-number (some periodMode) = 1
+mode-number (some setMode) = 2
+mode-number (some freeMode) = 3
+
+-- a file in the period mode leaves no choice
+square-fileB : FileChosenFits square fileB
+unfolding computed mode-number
+square-fileB rs found free =
+    absurd
+    (lit-distinct
+    (ap (λ (ss : List RouteRecord). mode-number (modeOf (byteOf 3 ss))) (records-same _ rs found) ∙ ap mode-number free))
+
+square-fileI : FileChosenFits square fileI
+unfolding computed
+square-fileI rs found free =
+    subst (λ (ss : List RouteRecord). ChosenFits square (byteOf 2 ss) (termsOf ss)) (records-same _ rs found) square-I
+
+square-refused : FileChosenFits square (box 7 ++ end)
+unfolding computed is-refused
+square-refused rs found = absurd (true≢false (ap is-refused found))
+
+pub call-rows : CallRows
+unfolding computed
+call-rows =
+    record {
+      prime251 = record { answer = refl };
+      prime253 = record { answer = refl };
+      irreducible = record { answer = refl };
+      reducible = record { answer = refl };
+      irreducibleRefused = record { answer = refl };
+      periodB = record { rating = refl; lent = record { answerBytes = refl; workBytes = refl } };
+      periodF = record { rating = refl; lent = record { answerBytes = refl; workBytes = refl } };
+      periodTwelve = record { rating = refl; lent = record { answerBytes = refl; workBytes = refl } };
+      portionG = record { rating = refl; lent = record { answerBytes = refl; workBytes = refl } };
+      portionL = record { rating = refl; lent = record { answerBytes = refl; workBytes = refl } };
+      setK = record { rating = refl; powers = refl; lent = record { answerBytes = refl; workBytes = refl } };
+      setNine = record { rating = refl; powers = refl; lent = record { answerBytes = refl; workBytes = refl } };
+      freeH = record { rating = refl; chosen = square-H; lent = record { answerBytes = refl; workBytes = refl } };
+      freeI = record { rating = refl; chosen = square-I; lent = record { answerBytes = refl; workBytes = refl } };
+      freeSixteen = record { rating = refl; chosen = square-I; lent = record { answerBytes = refl; workBytes = refl } };
+      continueN = record { filling = refl; bufferBytes = refl };
+      continueSeven = record { filling = refl; bufferBytes = refl };
+      ratedB = record { sender = refl; rating = refl; powers = refl; chosen = square-fileB; lent = record { answerBytes = refl; workBytes = refl } };
+      ratedI = record { sender = refl; rating = refl; powers = refl; chosen = square-fileI; lent = record { answerBytes = refl; workBytes = refl } };
+      ratedFour = record { sender = refl; rating = refl; powers = refl; chosen = square-refused; lent = record { answerBytes = refl; workBytes = refl } };
+      recordTwo = record { found = refl; part = refl };
+      recordRefused = record { found = refl; part = refl };
+    }
+
+-- THE WRONG RATERS, on row A (a portion, with x³ + x + 1 and the upper power 6) and on row B (a period, with x + 1)
+
+abbrev termsA : List ℕ
+termsA = 0 ∷ 1 ∷ 0 ∷ 1 ∷ 0 ∷ 0 ∷ 0 ∷ 0 ∷ 1 ∷ 0 ∷ 1 ∷ 1 ∷ 0 ∷ 1 ∷ 0 ∷ 1 ∷ 1 ∷ 0 ∷ []
+
+-- what a wrong rater answers on row A or B; the bytes afterwards may be any
+abbrev AnswersA : PowerRating → Type 0
+AnswersA r = (answer′ work′ : List ℕ) → PortionCall 2 (1 ∷ 1 ∷ 0 ∷ 1 ∷ []) 6 termsA answer work r answer′ work′ → ⊥
+
+abbrev AnswersB : PowerRating → Type 0
+AnswersB r = (answer′ work′ : List ℕ) → PeriodCall 2 x+1 (0 ∷ 0 ∷ 0 ∷ 1 ∷ []) answer work r answer′ work′ → ⊥
+
+pub record WrongRaters : Type 0 where
+  -- finds the top digit of r − 1 = 11 (base 2) and invents the other
+  pub top-digit-only : AnswersA (PowerRating.Rated 3 9 28)
+  -- returns f^v
+  pub upper-power : AnswersA (PowerRating.Rated 6 18 56)
+  pub invented-power : AnswersB (PowerRating.Rated 3 3 4)
+  pub invented-bound : AnswersB (PowerRating.Rated 4 4 5)
+  pub seventeen-for-all : AnswersB (PowerRating.Refused Refusal.NotAnnihilated)
+  pub one-for-all : AnswersB (PowerRating.Rated 0 0 1)
+  pub refuses-all : AnswersB (PowerRating.Refused Refusal.NotPrime)
+  -- tells the right figures and writes nothing, or something else
+  pub nothing-written : (work′ : List ℕ)
+      → PeriodCall 2 x+1 (0 ∷ 0 ∷ 0 ∷ 1 ∷ []) answer work (PowerRating.Rated 4 4 4) answer work′
+      → ⊥
+  pub work-not-cleared : (answer′ : List ℕ)
+      → PeriodCall 2 x+1 (0 ∷ 0 ∷ 0 ∷ 1 ∷ []) answer work (PowerRating.Rated 4 4 4) answer′ work
+      → ⊥
+  pub refused-and-written : (answer′ work′ : List ℕ)
+      → answer′ ≡ 1 ∷ replicate 4098 7
+      → PeriodCall 2 x²+1 (0 ∷ []) answer work (PowerRating.Refused Refusal.Reducible) answer′ work′
+      → ⊥
+
+-- a figure of a result, 1000 where it is refused
+figure : (PowerFigures → ℕ) → Result PowerFigures → ℕ
+figure f (refused n) = 1000
+figure f (answered a) = f a
+
+power-of : Result PowerFigures → ℕ
+power-of r = figure (λ a. a .power) r
+
+bound-of : Result PowerFigures → ℕ
+bound-of r = figure (λ a. a .bound) r
+
+differ : (m n : ℕ) → m ≡ n → eqb m n ≡ false → ⊥
+differ m n e h = eqb-false m n h e
+
+pub wrong-raters : WrongRaters
+unfolding computed figure power-of bound-of
+wrong-raters =
+    record {
+      top-digit-only = λ a w c. differ 3 4 (ap power-of (c .rating)) refl;
+      upper-power = λ a w c. differ 6 4 (ap power-of (c .rating)) refl;
+      invented-power = λ a w c. differ 3 4 (ap power-of (c .rating)) refl;
+      invented-bound = λ a w c. differ 5 4 (ap bound-of (c .rating)) refl;
+      seventeen-for-all = λ a w c. differ 1000 4 (ap power-of (c .rating)) refl;
+      one-for-all = λ a w c. differ 0 4 (ap power-of (c .rating)) refl;
+      refuses-all = λ a w c. differ 1000 4 (ap power-of (c .rating)) refl;
+      nothing-written = λ w c. differ 7 1 (ap (λ (l : List ℕ). getD l 0 0) (c .lent .answerBytes)) refl;
+      work-not-cleared = λ a c. differ 9 0 (ap (λ (l : List ℕ). getD l 0 0) (c .lent .workBytes)) refl;
+      refused-and-written = λ a w e c. differ 1 7 (ap (λ (l : List ℕ). getD l 0 0) (sym e ∙ c .lent .answerBytes)) refl;
+    }
