@@ -7,3 +7,4 @@ pub mod Actions
 pub mod Monics
 pub mod Irreducibles
 pub mod Remainders
+pub mod Continuations
