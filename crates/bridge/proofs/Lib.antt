@@ -8,3 +8,4 @@ pub mod Monics
 pub mod Irreducibles
 pub mod Remainders
 pub mod Continuations
+pub mod Minimal
