@@ -9,3 +9,4 @@ pub mod Irreducibles
 pub mod Remainders
 pub mod Continuations
 pub mod Minimal
+pub mod KnownActions

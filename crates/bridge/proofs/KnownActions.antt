@@ -1,0 +1,584 @@
+-- The action of a list on known terms and on a period, as lists of numbers.
+--
+--   allZero ts     == every number of the list is 0; true on the empty list
+--   length-actOnKnown, getD-actOnKnown == it has m − deg g places; at place k stands the value of the action
+--   actOnKnown-cut == on a stretch of a sequence it is a stretch of the action on the sequence
+--   actOnKnown-take, actOnKnown-short == on the first n terms; where there are too few terms it is empty
+--   actOnKnown-elements, actOnKnown-one, actOnKnown-times == the values are elements of the field; 1 leaves
+--                     elements as they are; a product acts as its factors one after the other
+--   actOnKnown-power-add, actOnKnown-power-mul == so do powers
+--   annihilatesKnown-all == g annihilates the terms exactly where all of its action on them is 0
+--   known-power    == higher powers of what annihilates annihilate too
+--   actOnPeriod-…, annihilatesPeriod-all == the same for a period, with as many places as terms
+--   period-zeros, zeros-period == the action on a period is all 0 exactly where the list annihilates its
+--                     endless repetition
+--   strideOnKnown F g q ts, strideOnPeriod F g q ts == the action with the stride q on known terms, at their
+--                     m − q·deg g places, and on a period
+--   actOnKnown-stride, actOnPeriod-stride, prime-actOnKnown, prime-actOnPeriod == the power p^w acts with the
+--                     stride p^w
+--
+-- Subtraction is truncated, so that lists that are too short are no exception.
+-- Assumes nothing.
+use Prim.Native.Nat.{ℕ, zero, suc, _+_, _*_, _-_, _^_, _%_, _≤_, _<_, min}
+use mathlib.Core.Path.{_≡_, refl, sym, ap, subst, _∙_}
+use mathlib.Core.Bool.{Bool, true, false}
+use mathlib.Core.List.{List, [], _∷_, map}
+use native.Mathlib.Nat as ℕ
+use native.Mathlib.Omega.{arith}
+use lib.ListN.{length, getD, take, replicate, length-take, length-map, length-replicate, getD-replicate}
+use lib.Seq.{ext-getD, getD-take}
+use lib.Dec.{T, eqb, eqb→eq, eqb-refl}
+use Rattle.meaning.specs.Search.{range, holdsForAll}
+use Rattle.meaning.specs.Field.{Field, prime, areElements}
+use Rattle.meaning.specs.Polynomial.{Polynomial, degree, times, power}
+use Rattle.meaning.specs.Sequence.{Sequence, actAt, known, periodic, annihilatesKnown, annihilatesPeriod}
+use Rattle.meaning.specs.Sequence.{actOnKnown, actOnPeriod, AnnihilatesEndless, cut}
+use Rattle.algebra.proofs.Cut.{Periodic}
+use Rattle.bridge.proofs.Searches.{all-nil, all-cons, all-uncons}
+use Rattle.bridge.proofs.Interpretation.{IsField}
+use Rattle.bridge.proofs.Polynomials.{degree-times, degree-length, length-degree}
+use Rattle.bridge.proofs.Products.{power-nonempty, degree-power, power-add, power-mul, times-comm}
+use Rattle.bridge.proofs.Products.{power-zero-list, power-suc-list}
+use Rattle.bridge.proofs.Spread.{raise}
+use Rattle.bridge.proofs.Actions.{actAt-below, actAt-local, actAt-times, actAt-one, actAt-zeros}
+use Rattle.bridge.proofs.Actions.{actAt-cut, actStride, actAt-power-stride, prime-actAt-power}
+use Rattle.bridge.proofs.Actions.{actAt-periodic, length-cut, getD-cut, known-getD, cut-equal}
+use Rattle.bridge.proofs.Actions.{cut-known, cut-take, periodic-cut, periodic-getD, periodic-repeats}
+use Rattle.bridge.proofs.Actions.{cut-elements, known-inField, periodic-inField, period-endless}
+use Rattle.bridge.proofs.Actions.{endless-period}
+
+-- Lists of zeros
+unfoldable pub allZero : List ℕ → Bool
+allZero ts = holdsForAll (λ t. eqb t 0) ts
+
+pub allZero-nil : T (allZero [])
+unfolding allZero
+allZero-nil = all-nil (λ t. eqb t 0)
+
+pub allZero-getD : (ts : List ℕ) → T (allZero ts) → (i : ℕ) → getD ts i 0 ≡ 0
+unfolding allZero
+allZero-getD [] h i = refl
+allZero-getD (a ∷ ts) h zero = eqb→eq a 0 (all-uncons (λ t. eqb t 0) a ts h .0)
+allZero-getD (a ∷ ts) h (suc i) = allZero-getD ts (all-uncons (λ t. eqb t 0) a ts h .1) i
+
+pub getD-allZero : (ts : List ℕ) → ((i : ℕ) → i < length ts → getD ts i 0 ≡ 0) → T (allZero ts)
+unfolding allZero
+getD-allZero [] h = allZero-nil
+getD-allZero (a ∷ ts) h =
+    all-cons (λ t. eqb t 0) a ts
+    (subst (λ n. T (eqb n 0)) (sym (h 0 (omega arith))) (eqb-refl 0))
+    (getD-allZero ts (λ i l. h (suc i) (omega arith)))
+
+pub allZero-replicate : (ts : List ℕ) → T (allZero ts) → ts ≡ replicate (length ts) 0
+allZero-replicate ts h =
+    ext-getD 0 ts (replicate (length ts) 0) (sym (length-replicate (length ts) 0))
+    (λ i l. allZero-getD ts h i ∙ sym (getD-replicate (length ts) i 0 0 l))
+
+pub replicate-allZero : (n : ℕ) → T (allZero (replicate n 0))
+replicate-allZero n =
+    getD-allZero (replicate n 0)
+    (λ i l. getD-replicate n i 0 0 (subst (λ m. i < m) (length-replicate n 0) l))
+
+pub allZero-take : (n : ℕ) (ts : List ℕ) → T (allZero ts) → T (allZero (take n ts))
+allZero-take n ts h =
+    getD-allZero (take n ts)
+    (λ i l. getD-take n ts i 0 (omega (arith, length-take n ts)) ∙ allZero-getD ts h i)
+
+pub allZero-cut : (s : Sequence) (k m : ℕ) → ((i : ℕ) → i < m → s (k + i) ≡ 0) → T (allZero (cut s k m))
+allZero-cut s k m h =
+    getD-allZero (cut s k m) (λ i l. let b : i < m = rw length-cut at l in getD-cut s k m i b ∙ h i b)
+
+pub cut-allZero : (s : Sequence) (k m : ℕ) → T (allZero (cut s k m)) → (i : ℕ) → i < m → s (k + i) ≡ 0
+cut-allZero s k m h i l = sym (getD-cut s k m i l) ∙ allZero-getD (cut s k m) h i
+
+-- a list of values by places is a stretch
+pub map-range : (s : Sequence) (k m : ℕ) → map s (range k m) ≡ cut s k m
+unfolding range cut
+map-range s k zero = refl
+map-range s k (suc m) = ap (_∷_ (s k)) (map-range s (suc k) m)
+
+pub take-cut : (s : Sequence) (k m n : ℕ) → take n (cut s k m) ≡ cut s k (min n m)
+unfolding cut
+take-cut s k m zero = let e : 0 ≡ min 0 m = omega arith in ap (cut s k) e
+take-cut s k zero (suc n) = let e : 0 ≡ min (suc n) 0 = omega arith in ap (cut s k) e
+take-cut s k (suc m) (suc n) =
+    let e : suc (min n m) ≡ min (suc n) (suc m) = omega arith in
+    ap (_∷_ (s k)) (take-cut s (suc k) m n) ∙ ap (cut s k) e
+
+pub take-stretch : (n : ℕ) (ts : List ℕ) → take n ts ≡ cut (known ts) 0 (min n (length ts))
+take-stretch n ts = ap (take n) (sym (cut-known ts)) ∙ take-cut (known ts) 0 (length ts) n
+
+all-map : (s : Sequence) (l : List ℕ) → holdsForAll (λ k. eqb (s k) 0) l ≡ allZero (map s l)
+unfolding allZero holdsForAll
+all-map s [] = refl
+all-map s (k ∷ l) = go (eqb (s k) 0) refl (all-map s l)
+  where
+    go :
+        (b : Bool)
+        → eqb (s k) 0 ≡ b
+        → holdsForAll (λ k. eqb (s k) 0) l ≡ allZero (map s l)
+        → holdsForAll (λ k. eqb (s k) 0) (k ∷ l) ≡ allZero (s k ∷ map s l)
+    go true e h = rw (e, holdsForAll) h
+    go false e h = rw (e, holdsForAll)
+
+-- Known terms
+module _ (F : Field) where
+  pub actOnKnown-stretch :
+      (g : Polynomial) (ts : List ℕ)
+      → actOnKnown F g ts ≡ cut (actAt F g (known ts)) 0 (length ts - degree g)
+  unfolding actOnKnown
+  actOnKnown-stretch g ts = map-range (actAt F g (known ts)) 0 (length ts - degree g)
+
+  pub length-actOnKnown : (g : Polynomial) (ts : List ℕ) → length (actOnKnown F g ts) ≡ length ts - degree g
+  length-actOnKnown g ts = ap length (actOnKnown-stretch g ts) ∙ length-cut _ 0 (length ts - degree g)
+
+  pub getD-actOnKnown :
+      (g : Polynomial) (ts : List ℕ) (k : ℕ)
+      → k + degree g < length ts
+      → getD (actOnKnown F g ts) k 0 ≡ actAt F g (known ts) k
+  getD-actOnKnown g ts k l =
+      ap (λ l. getD l k 0) (actOnKnown-stretch g ts)
+      ∙ getD-cut (actAt F g (known ts)) 0 (length ts - degree g) k (omega arith)
+      ∙ ap (actAt F g (known ts)) (ℕ.zero-add k)
+
+  pub known-actOnKnown :
+      (g : Polynomial) (ts : List ℕ) (k : ℕ)
+      → k + degree g < length ts
+      → known (actOnKnown F g ts) k ≡ actAt F g (known ts) k
+  known-actOnKnown g ts k l = known-getD (actOnKnown F g ts) k ∙ getD-actOnKnown g ts k l
+
+  pub actOnKnown-cut :
+      (g : Polynomial) (s : Sequence) (k m : ℕ)
+      → actOnKnown F g (cut s k m) ≡ cut (actAt F g s) k (m - degree g)
+  actOnKnown-cut g s k m =
+      actOnKnown-stretch g (cut s k m)
+      ∙ ap (λ n. cut (actAt F g (known (cut s k m))) 0 (n - degree g)) (length-cut s k m)
+      ∙ cut-equal (actAt F g (known (cut s k m))) (actAt F g s) 0 k (m - degree g)
+      (λ i l.
+      ap (actAt F g (known (cut s k m))) (ℕ.zero-add i) ∙ actAt-cut F g s k m i (omega arith))
+
+  pub actOnKnown-take :
+      (g : Polynomial) (n : ℕ) (ts : List ℕ)
+      → actOnKnown F g (take n ts) ≡ take (n - degree g) (actOnKnown F g ts)
+  actOnKnown-take g n ts =
+      let e : min n (length ts) - degree g ≡ min (n - degree g) (length ts - degree g) = omega arith in
+      ap (actOnKnown F g) (take-stretch n ts)
+      ∙ actOnKnown-cut g (known ts) 0 (min n (length ts))
+      ∙ ap (cut (actAt F g (known ts)) 0) e
+      ∙ sym (take-cut (actAt F g (known ts)) 0 (length ts - degree g) (n - degree g))
+      ∙ ap (take (n - degree g)) (sym (actOnKnown-stretch g ts))
+
+  pub actOnKnown-short : (g : Polynomial) (ts : List ℕ) → length ts ≤ degree g → actOnKnown F g ts ≡ []
+  unfolding cut
+  actOnKnown-short g ts l =
+      let e : length ts - degree g ≡ 0 = omega arith in
+      actOnKnown-stretch g ts ∙ ap (cut (actAt F g (known ts)) 0) e
+
+  pub annihilatesKnown-all :
+      (g : Polynomial) (ts : List ℕ) → annihilatesKnown F g ts ≡ allZero (actOnKnown F g ts)
+  unfolding annihilatesKnown actOnKnown
+  annihilatesKnown-all g ts = all-map (actAt F g (known ts)) (range 0 (length ts - degree g))
+
+  pub known-zeros :
+      (g : Polynomial) (ts : List ℕ) → T (annihilatesKnown F g ts) → T (allZero (actOnKnown F g ts))
+  known-zeros g ts h = subst T (annihilatesKnown-all g ts) h
+
+  pub zeros-known :
+      (g : Polynomial) (ts : List ℕ) → T (allZero (actOnKnown F g ts)) → T (annihilatesKnown F g ts)
+  zeros-known g ts h = subst T (sym (annihilatesKnown-all g ts)) h
+
+  -- where there are too few terms there are no places
+  pub short-known : (g : Polynomial) (ts : List ℕ) → length ts ≤ degree g → T (annihilatesKnown F g ts)
+  short-known g ts l =
+      zeros-known g ts (subst (λ l. T (allZero l)) (sym (actOnKnown-short g ts l)) allZero-nil)
+
+  -- what annihilates terms annihilates the first of them
+  pub known-take :
+      (g : Polynomial) (n : ℕ) (ts : List ℕ)
+      → T (annihilatesKnown F g ts)
+      → T (annihilatesKnown F g (take n ts))
+  known-take g n ts h =
+      zeros-known g (take n ts)
+      (subst (λ l. T (allZero l)) (sym (actOnKnown-take g n ts))
+      (allZero-take (n - degree g) (actOnKnown F g ts) (known-zeros g ts h)))
+
+module _ {F : Field} (I : IsField F) where
+  pub actOnKnown-elements : (g : Polynomial) (ts : List ℕ) → T (areElements F (actOnKnown F g ts))
+  actOnKnown-elements g ts =
+      subst (λ l. T (areElements F l)) (sym (actOnKnown-stretch F g ts))
+      (cut-elements F (actAt F g (known ts)) 0 (length ts - degree g) (actAt-below I g (known ts)))
+
+  pub actOnKnown-zeros : (g : Polynomial) (ts : List ℕ) → T (allZero ts) → T (allZero (actOnKnown F g ts))
+  actOnKnown-zeros g ts h =
+      subst (λ l. T (allZero l)) (sym (actOnKnown-stretch F g ts))
+      (allZero-cut (actAt F g (known ts)) 0 (length ts - degree g)
+      (λ i _.
+      actAt-zeros I g (known ts) (0 + i)
+      (λ j _. known-getD ts (0 + i + j) ∙ allZero-getD ts h (0 + i + j))))
+
+  pub actOnKnown-one : (ts : List ℕ) → T (areElements F ts) → actOnKnown F (1 ∷ []) ts ≡ ts
+  unfolding degree
+  actOnKnown-one ts h =
+      actOnKnown-stretch F (1 ∷ []) ts
+      ∙ ap (cut (actAt F (1 ∷ []) (known ts)) 0) (omega arith)
+      ∙ cut-equal (actAt F (1 ∷ []) (known ts)) (known ts) 0 0 (length ts)
+      (λ i _. actAt-one I (known ts) (0 + i) (known-inField I ts h (0 + i)))
+      ∙ cut-known ts
+
+  -- Products and powers
+  pub actOnKnown-times :
+      (f g : Polynomial) (ts : List ℕ)
+      → 0 < length f
+      → 0 < length g
+      → actOnKnown F (times F f g) ts ≡ actOnKnown F f (actOnKnown F g ts)
+  actOnKnown-times f g ts a b =
+      actOnKnown-stretch F (times F f g) ts
+      ∙ ap (cut (actAt F (times F f g) (known ts)) 0) places
+      ∙ cut-equal (actAt F (times F f g) (known ts)) (actAt F f (actAt F g (known ts))) 0 0 _
+      (λ i _. actAt-times I f g (known ts) (0 + i))
+      ∙ sym (actOnKnown-cut F f (actAt F g (known ts)) 0 (length ts - degree g))
+      ∙ ap (actOnKnown F f) (sym (actOnKnown-stretch F g ts))
+    where
+      places : length ts - degree (times F f g) ≡ length ts - degree g - degree f
+      places = omega (arith, degree-times I f g a b)
+
+  pub actOnKnown-comm :
+      (f g : Polynomial) (ts : List ℕ)
+      → 0 < length f
+      → 0 < length g
+      → actOnKnown F f (actOnKnown F g ts) ≡ actOnKnown F g (actOnKnown F f ts)
+  actOnKnown-comm f g ts a b =
+      sym (actOnKnown-times f g ts a b)
+      ∙ ap (λ h. actOnKnown F h ts) (times-comm I f g a b)
+      ∙ actOnKnown-times g f ts b a
+
+  -- an annihilated part of a product
+  pub known-times :
+      (f g : Polynomial) (ts : List ℕ)
+      → 0 < length f
+      → 0 < length g
+      → T (annihilatesKnown F g ts)
+      → T (annihilatesKnown F (times F f g) ts)
+  known-times f g ts a b h =
+      zeros-known F (times F f g) ts
+      (subst (λ l. T (allZero l)) (sym (actOnKnown-times f g ts a b))
+      (actOnKnown-zeros f (actOnKnown F g ts) (known-zeros F g ts h)))
+
+  -- a product annihilates terms exactly where one factor annihilates what the other makes of them
+  pub annihilatesKnown-times :
+      (f g : Polynomial) (ts : List ℕ)
+      → 0 < length f
+      → 0 < length g
+      → annihilatesKnown F (times F f g) ts ≡ annihilatesKnown F f (actOnKnown F g ts)
+  annihilatesKnown-times f g ts a b =
+      annihilatesKnown-all F (times F f g) ts
+      ∙ ap allZero (actOnKnown-times f g ts a b)
+      ∙ sym (annihilatesKnown-all F f (actOnKnown F g ts))
+
+  module _ (f : Polynomial) (nonempty : 0 < length f) where
+    pub length-actOnKnown-power :
+        (n : ℕ) (ts : List ℕ) → length (actOnKnown F (power F f n) ts) ≡ length ts - n * degree f
+    length-actOnKnown-power n ts =
+        length-actOnKnown F (power F f n) ts ∙ ap (_-_ (length ts)) (degree-power I f n nonempty)
+
+    pub actOnKnown-power-zero : (ts : List ℕ) → T (areElements F ts) → actOnKnown F (power F f 0) ts ≡ ts
+    actOnKnown-power-zero ts h =
+        ap (λ g. actOnKnown F g ts) (power-zero-list F f) ∙ actOnKnown-one ts h
+
+    pub actOnKnown-power-suc :
+        (n : ℕ) (ts : List ℕ)
+        → actOnKnown F (power F f (suc n)) ts ≡ actOnKnown F f (actOnKnown F (power F f n) ts)
+    actOnKnown-power-suc n ts =
+        ap (λ g. actOnKnown F g ts) (power-suc-list F f n)
+        ∙ actOnKnown-times f (power F f n) ts nonempty (power-nonempty I f n nonempty)
+
+    pub actOnKnown-power-add :
+        (m n : ℕ) (ts : List ℕ)
+        → actOnKnown F (power F f (m + n)) ts ≡ actOnKnown F (power F f m) (actOnKnown F (power F f n) ts)
+    actOnKnown-power-add m n ts =
+        ap (λ g. actOnKnown F g ts) (power-add I f m n nonempty)
+        ∙ actOnKnown-times (power F f m) (power F f n) ts
+        (power-nonempty I f m nonempty) (power-nonempty I f n nonempty)
+
+    pub actOnKnown-power-mul :
+        (m n : ℕ) (ts : List ℕ)
+        → actOnKnown F (power F f (m * n)) ts ≡ actOnKnown F (power F (power F f m) n) ts
+    actOnKnown-power-mul m n ts = ap (λ g. actOnKnown F g ts) (power-mul I f m n nonempty)
+
+    pub annihilatesKnown-power-add :
+        (m n : ℕ) (ts : List ℕ)
+        → annihilatesKnown F (power F f (m + n)) ts
+        ≡ annihilatesKnown F (power F f m) (actOnKnown F (power F f n) ts)
+    annihilatesKnown-power-add m n ts =
+        ap (λ g. annihilatesKnown F g ts) (power-add I f m n nonempty)
+        ∙ annihilatesKnown-times (power F f m) (power F f n) ts
+        (power-nonempty I f m nonempty) (power-nonempty I f n nonempty)
+
+    -- higher powers of what annihilates annihilate too
+    pub known-power :
+        (m n : ℕ) (ts : List ℕ)
+        → m ≤ n
+        → T (annihilatesKnown F (power F f m) ts)
+        → T (annihilatesKnown F (power F f n) ts)
+    known-power m n ts l h =
+        subst (λ e. T (annihilatesKnown F (power F f e) ts)) (ℕ.sub-add-cancel l)
+        (subst (λ g. T (annihilatesKnown F g ts)) (sym (power-add I f (n - m) m nonempty))
+        (known-times (power F f (n - m)) (power F f m) ts
+        (power-nonempty I f (n - m) nonempty) (power-nonempty I f m nonempty) h))
+
+    -- a power for which there are too few terms
+    pub short-power :
+        (n : ℕ) (ts : List ℕ) → length ts ≤ n * degree f → T (annihilatesKnown F (power F f n) ts)
+    short-power n ts l = short-known F (power F f n) ts (omega (arith, degree-power I f n nonempty))
+
+    -- no power but 0 has more places than terms: it annihilates where all terms are 0
+    pub annihilatesKnown-power-zero :
+        (ts : List ℕ) → T (areElements F ts) → annihilatesKnown F (power F f 0) ts ≡ allZero ts
+    annihilatesKnown-power-zero ts h =
+        annihilatesKnown-all F (power F f 0) ts ∙ ap allZero (actOnKnown-power-zero ts h)
+
+-- Periods
+module _ (F : Field) where
+  pub actOnPeriod-stretch :
+      (g : Polynomial) (ts : List ℕ) → actOnPeriod F g ts ≡ cut (actAt F g (periodic ts)) 0 (length ts)
+  unfolding actOnPeriod
+  actOnPeriod-stretch g ts = map-range (actAt F g (periodic ts)) 0 (length ts)
+
+  pub length-actOnPeriod : (g : Polynomial) (ts : List ℕ) → length (actOnPeriod F g ts) ≡ length ts
+  length-actOnPeriod g ts = ap length (actOnPeriod-stretch g ts) ∙ length-cut _ 0 (length ts)
+
+  pub getD-actOnPeriod :
+      (g : Polynomial) (ts : List ℕ) (k : ℕ)
+      → k < length ts
+      → getD (actOnPeriod F g ts) k 0 ≡ actAt F g (periodic ts) k
+  getD-actOnPeriod g ts k l =
+      ap (λ l. getD l k 0) (actOnPeriod-stretch g ts)
+      ∙ getD-cut (actAt F g (periodic ts)) 0 (length ts) k l
+      ∙ ap (actAt F g (periodic ts)) (ℕ.zero-add k)
+
+  pub periodic-actOnPeriod :
+      (g : Polynomial) (ts : List ℕ) (k : ℕ)
+      → 0 < length ts
+      → periodic (actOnPeriod F g ts) k ≡ actAt F g (periodic ts) k
+  periodic-actOnPeriod g ts k l =
+      ap (λ l. periodic l k) (actOnPeriod-stretch g ts)
+      ∙ periodic-cut (actAt F g (periodic ts)) 0 (length ts) l
+      (actAt-periodic F g (periodic ts) (length ts) (periodic-repeats ts)) k
+      ∙ ap (actAt F g (periodic ts)) (ℕ.zero-add k)
+
+  pub actOnPeriod-cut :
+      (g : Polynomial) (s : Sequence) (k n : ℕ)
+      → 0 < n
+      → Periodic s n
+      → actOnPeriod F g (cut s k n) ≡ cut (actAt F g s) k n
+  actOnPeriod-cut g s k n l h =
+      actOnPeriod-stretch g (cut s k n)
+      ∙ ap (cut (actAt F g (periodic (cut s k n))) 0) (length-cut s k n)
+      ∙ cut-equal (actAt F g (periodic (cut s k n))) (actAt F g s) 0 k n
+      (λ i _.
+      actAt-local F g (periodic (cut s k n)) s (0 + i) (k + i)
+      (λ j _.
+      let e : k + (0 + i + j) ≡ k + i + j = omega arith in
+      periodic-cut s k n l h (0 + i + j) ∙ ap s e))
+
+  pub annihilatesPeriod-all :
+      (g : Polynomial) (ts : List ℕ) → annihilatesPeriod F g ts ≡ allZero (actOnPeriod F g ts)
+  unfolding annihilatesPeriod actOnPeriod
+  annihilatesPeriod-all g ts = all-map (actAt F g (periodic ts)) (range 0 (length ts))
+
+  pub period-zeros :
+      (g : Polynomial) (ts : List ℕ)
+      → AnnihilatesEndless F g (periodic ts)
+      → T (allZero (actOnPeriod F g ts))
+  period-zeros g ts h = subst T (annihilatesPeriod-all g ts) (endless-period F g ts h)
+
+  pub zeros-period :
+      (g : Polynomial) (ts : List ℕ)
+      → 0 < length ts
+      → T (allZero (actOnPeriod F g ts))
+      → AnnihilatesEndless F g (periodic ts)
+  zeros-period g ts l h = period-endless F g ts l (subst T (sym (annihilatesPeriod-all g ts)) h)
+
+  -- the first places are those of the action on known terms
+  pub actOnPeriod-known :
+      (g : Polynomial) (ts : List ℕ) → take (length ts - degree g) (actOnPeriod F g ts) ≡ actOnKnown F g ts
+  unfolding degree
+  actOnPeriod-known g ts =
+      ap (take (length ts - degree g)) (actOnPeriod-stretch g ts)
+      ∙ cut-take (actAt F g (periodic ts)) 0 (length ts - degree g) (length ts) (omega arith)
+      ∙ cut-equal (actAt F g (periodic ts)) (actAt F g (known ts)) 0 0 (length ts - degree g) same
+      ∙ sym (actOnKnown-stretch F g ts)
+    where
+      same :
+          (i : ℕ)
+          → i < length ts - degree g
+          → actAt F g (periodic ts) (0 + i) ≡ actAt F g (known ts) (0 + i)
+      same i l =
+          actAt-local F g (periodic ts) (known ts) (0 + i) (0 + i)
+          (λ j b. periodic-getD ts (0 + i + j) (omega arith) ∙ sym (known-getD ts (0 + i + j)))
+
+module _ {F : Field} (I : IsField F) where
+  pub actOnPeriod-elements : (g : Polynomial) (ts : List ℕ) → T (areElements F (actOnPeriod F g ts))
+  actOnPeriod-elements g ts =
+      subst (λ l. T (areElements F l)) (sym (actOnPeriod-stretch F g ts))
+      (cut-elements F (actAt F g (periodic ts)) 0 (length ts) (actAt-below I g (periodic ts)))
+
+  pub actOnPeriod-one : (ts : List ℕ) → T (areElements F ts) → actOnPeriod F (1 ∷ []) ts ≡ ts
+  actOnPeriod-one ts h =
+      actOnPeriod-stretch F (1 ∷ []) ts
+      ∙ cut-equal (actAt F (1 ∷ []) (periodic ts)) (known ts) 0 0 (length ts)
+      (λ i l.
+      actAt-one I (periodic ts) (0 + i) (periodic-inField I ts h (0 + i))
+      ∙ periodic-getD ts (0 + i) (omega arith)
+      ∙ sym (known-getD ts (0 + i)))
+      ∙ cut-known ts
+
+  pub actOnPeriod-times :
+      (f g : Polynomial) (ts : List ℕ) → actOnPeriod F (times F f g) ts ≡ actOnPeriod F f (actOnPeriod F g ts)
+  actOnPeriod-times f g ts =
+      actOnPeriod-stretch F (times F f g) ts
+      ∙ cut-equal (actAt F (times F f g) (periodic ts)) (actAt F f (periodic (actOnPeriod F g ts))) 0 0
+      (length ts) same
+      ∙ ap (cut (actAt F f (periodic (actOnPeriod F g ts))) 0) (sym (length-actOnPeriod F g ts))
+      ∙ sym (actOnPeriod-stretch F f (actOnPeriod F g ts))
+    where
+      same :
+          (i : ℕ)
+          → i < length ts
+          → actAt F (times F f g) (periodic ts) (0 + i) ≡ actAt F f (periodic (actOnPeriod F g ts)) (0 + i)
+      same i l =
+          actAt-times I f g (periodic ts) (0 + i)
+          ∙ actAt-local F f (actAt F g (periodic ts)) (periodic (actOnPeriod F g ts)) (0 + i) (0 + i)
+          (λ j _. sym (periodic-actOnPeriod F g ts (0 + i + j) (omega arith)))
+
+  pub actOnPeriod-zeros : (g : Polynomial) (ts : List ℕ) → T (allZero ts) → T (allZero (actOnPeriod F g ts))
+  unfolding periodic
+  actOnPeriod-zeros g ts h =
+      subst (λ l. T (allZero l)) (sym (actOnPeriod-stretch F g ts))
+      (allZero-cut (actAt F g (periodic ts)) 0 (length ts)
+      (λ i _.
+      actAt-zeros I g (periodic ts) (0 + i)
+      (λ j _. allZero-getD ts h ((0 + i + j) % length ts))))
+
+  module _ (f : Polynomial) where
+    pub actOnPeriod-power-zero : (ts : List ℕ) → T (areElements F ts) → actOnPeriod F (power F f 0) ts ≡ ts
+    actOnPeriod-power-zero ts h =
+        ap (λ g. actOnPeriod F g ts) (power-zero-list F f) ∙ actOnPeriod-one ts h
+
+    pub actOnPeriod-power-suc :
+        (n : ℕ) (ts : List ℕ)
+        → actOnPeriod F (power F f (suc n)) ts ≡ actOnPeriod F f (actOnPeriod F (power F f n) ts)
+    actOnPeriod-power-suc n ts =
+        ap (λ g. actOnPeriod F g ts) (power-suc-list F f n) ∙ actOnPeriod-times f (power F f n) ts
+
+    pub actOnPeriod-power-add :
+        (m n : ℕ) (ts : List ℕ)
+        → 0 < length f
+        → actOnPeriod F (power F f (m + n)) ts ≡ actOnPeriod F (power F f m) (actOnPeriod F (power F f n) ts)
+    actOnPeriod-power-add m n ts l =
+        ap (λ g. actOnPeriod F g ts) (power-add I f m n l)
+        ∙ actOnPeriod-times (power F f m) (power F f n) ts
+
+    pub period-power :
+        (m n : ℕ) (ts : List ℕ)
+        → 0 < length f
+        → m ≤ n
+        → T (annihilatesPeriod F (power F f m) ts)
+        → T (annihilatesPeriod F (power F f n) ts)
+    period-power m n ts l k h =
+        subst (λ e. T (annihilatesPeriod F (power F f e) ts)) (ℕ.sub-add-cancel k)
+        (subst T (sym (annihilatesPeriod-all F (power F f (n - m + m)) ts))
+        (subst (λ l. T (allZero l)) (sym (actOnPeriod-power-add (n - m) m ts l))
+        (actOnPeriod-zeros (power F f (n - m)) (actOnPeriod F (power F f m) ts)
+        (subst T (annihilatesPeriod-all F (power F f m) ts) h))))
+
+-- The actions with a stride
+unfoldable pub strideOnKnown : Field → Polynomial → ℕ → List ℕ → List ℕ
+strideOnKnown F g q ts = cut (actStride F g q (known ts)) 0 (length ts - q * degree g)
+
+unfoldable pub strideOnPeriod : Field → Polynomial → ℕ → List ℕ → List ℕ
+strideOnPeriod F g q ts = cut (actStride F g q (periodic ts)) 0 (length ts)
+
+module _ (F : Field) (g : Polynomial) (q : ℕ) (ts : List ℕ) where
+  pub length-strideOnKnown : length (strideOnKnown F g q ts) ≡ length ts - q * degree g
+  unfolding strideOnKnown
+  length-strideOnKnown = length-cut (actStride F g q (known ts)) 0 (length ts - q * degree g)
+
+  pub getD-strideOnKnown :
+      (k : ℕ)
+      → k + q * degree g < length ts
+      → getD (strideOnKnown F g q ts) k 0 ≡ actStride F g q (known ts) k
+  unfolding strideOnKnown
+  getD-strideOnKnown k l =
+      getD-cut (actStride F g q (known ts)) 0 (length ts - q * degree g) k (omega arith)
+      ∙ ap (actStride F g q (known ts)) (ℕ.zero-add k)
+
+  pub strideOnKnown-short : length ts ≤ q * degree g → strideOnKnown F g q ts ≡ []
+  unfolding strideOnKnown cut
+  strideOnKnown-short l =
+      let e : length ts - q * degree g ≡ 0 = omega arith in
+      ap (cut (actStride F g q (known ts)) 0) e
+
+  pub length-strideOnPeriod : length (strideOnPeriod F g q ts) ≡ length ts
+  unfolding strideOnPeriod
+  length-strideOnPeriod = length-cut (actStride F g q (periodic ts)) 0 (length ts)
+
+  pub getD-strideOnPeriod :
+      (k : ℕ) → k < length ts → getD (strideOnPeriod F g q ts) k 0 ≡ actStride F g q (periodic ts) k
+  unfolding strideOnPeriod
+  getD-strideOnPeriod k l =
+      getD-cut (actStride F g q (periodic ts)) 0 (length ts) k l
+      ∙ ap (actStride F g q (periodic ts)) (ℕ.zero-add k)
+
+module _ {F : Field} (I : IsField F) (w : ℕ) (f : Polynomial) (nonempty : 0 < length f) (ts : List ℕ) where
+  abbrev q : ℕ
+  q = F .characteristic ^ w
+
+  pub actOnKnown-stride : actOnKnown F (power F f q) ts ≡ strideOnKnown F (map (raise F q) f) q ts
+  unfolding strideOnKnown
+  actOnKnown-stride =
+      actOnKnown-stretch F (power F f q) ts
+      ∙ cut-equal (actAt F (power F f q) (known ts)) (actStride F (map (raise F q) f) q (known ts)) 0 0
+      (length ts - degree (power F f q))
+      (λ i _. actAt-power-stride I w f nonempty (known ts) (0 + i))
+      ∙ ap (λ d. cut (actStride F (map (raise F q) f) q (known ts)) 0 (length ts - d)) places
+    where
+      same-degree : degree f ≡ degree (map (raise F q) f)
+      same-degree =
+          sym (length-degree (map (raise F q) f) (length-map f (raise F q) ∙ degree-length f nonempty))
+
+      places : degree (power F f q) ≡ q * degree (map (raise F q) f)
+      places = degree-power I f q nonempty ∙ ap (_*_ q) same-degree
+
+  pub actOnPeriod-stride : actOnPeriod F (power F f q) ts ≡ strideOnPeriod F (map (raise F q) f) q ts
+  unfolding strideOnPeriod
+  actOnPeriod-stride =
+      actOnPeriod-stretch F (power F f q) ts
+      ∙ cut-equal (actAt F (power F f q) (periodic ts)) (actStride F (map (raise F q) f) q (periodic ts)) 0 0
+      (length ts)
+      (λ i _. actAt-power-stride I w f nonempty (periodic ts) (0 + i))
+
+-- the numbers of the list stay in GF(p)
+module _
+    (p : ℕ) (I : IsField (prime p)) (w : ℕ) (f : Polynomial) (nonempty : 0 < length f)
+    (elements : T (areElements (prime p) f)) (ts : List ℕ)
+  where
+    pub prime-actOnKnown :
+        actOnKnown (prime p) (power (prime p) f (p ^ w)) ts ≡ strideOnKnown (prime p) f (p ^ w) ts
+    unfolding strideOnKnown
+    prime-actOnKnown =
+        actOnKnown-stretch (prime p) (power (prime p) f (p ^ w)) ts
+        ∙ cut-equal (actAt (prime p) (power (prime p) f (p ^ w)) (known ts))
+        (actStride (prime p) f (p ^ w) (known ts)) 0 0 (length ts - degree (power (prime p) f (p ^ w)))
+        (λ i _. prime-actAt-power p I w f nonempty elements (known ts) (0 + i))
+        ∙ ap (λ d. cut (actStride (prime p) f (p ^ w) (known ts)) 0 (length ts - d))
+        (degree-power I f (p ^ w) nonempty)
+
+    pub prime-actOnPeriod :
+        actOnPeriod (prime p) (power (prime p) f (p ^ w)) ts ≡ strideOnPeriod (prime p) f (p ^ w) ts
+    unfolding strideOnPeriod
+    prime-actOnPeriod =
+        actOnPeriod-stretch (prime p) (power (prime p) f (p ^ w)) ts
+        ∙ cut-equal (actAt (prime p) (power (prime p) f (p ^ w)) (periodic ts))
+        (actStride (prime p) f (p ^ w) (periodic ts)) 0 0 (length ts)
+        (λ i _. prime-actAt-power p I w f nonempty elements (periodic ts) (0 + i))
