@@ -10,7 +10,8 @@
 --   irreducible-half, half-irreducible == irreducible: no monic list of positive degree, at most half that of
 --                        f, divides f; `irreducible-search` is that with a test for divisors, as an equation
 --   divisor-constant  == x divides what a divisor with the constant term 0 divides, so that no other
---                        divisor with the constant term 0 need be tried: `irreducible-trial`
+--                        divisor with the constant term 0 need be tried: `irreducible-trial`,
+--                        `constant-reducible`
 --   irreducible-constant == an irreducible list other than x has a constant term other than 0, so that
 --                        `irreducible-x` tells x by its constant term
 --   Factors F fs      == monic irreducible lists of positive degree, no two of them equal
@@ -431,6 +432,13 @@ module _ {F : Field} (I : IsField F) where
     where
       tail-elements : T (areElements F g)
       tail-elements = elements-uncons F c g (monic-elements F (c ∷ g) m) .1
+
+  pub constant-reducible :
+      (f : Polynomial) → T (isMonicOver F f) → 2 ≤ degree f → getD f 0 0 ≡ 0 → ¬ T (irreducible F f)
+  constant-reducible f m l z =
+      divisor-reducible (0 ∷ 1 ∷ []) f x-monic (omega (arith, degree-cons 0 (1 ∷ [])))
+      (omega (arith, degree-cons 0 (1 ∷ [])))
+      (constant-divisor f m (omega arith) z)
 
   pub linear-irreducible : (f : Polynomial) → degree f ≡ 1 → T (irreducible F f)
   linear-irreducible f e = half-irreducible f (λ g m l k _. omega arith)
