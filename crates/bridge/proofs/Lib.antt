@@ -10,3 +10,4 @@ pub mod Remainders
 pub mod Continuations
 pub mod Minimal
 pub mod KnownActions
+pub mod Fitting
