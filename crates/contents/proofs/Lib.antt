@@ -1,0 +1,4 @@
+pub mod Numbers
+pub mod Modes
+pub mod Stores
+pub mod Terms

@@ -1,0 +1,4 @@
+pub mod Stages
+pub mod Walks
+pub mod Steps
+pub mod Readings

@@ -1,0 +1,93 @@
+-- The records of a file are those by their lengths, under the verdict of the walk and of the mode; so is the
+-- record that the reader finds.
+-- Assumes nothing.
+use Prim.Native.Nat.{ℕ, _<_, _≤_}
+use mathlib.Core.Path.{_≡_, refl, sym, ap, _∙_}
+use mathlib.Core.Bool.{Bool, true, false}
+use mathlib.Core.List.{List}
+use native.Mathlib.Decide.{decLt}
+use native.Mathlib.Nat.{add-zero}
+use native.Mathlib.Omega.{arith}
+use borrow.Author.Tests.{lt-ltb, le-ltb}
+use lib.ListN.{length, getD, drop}
+use lib.Seq.{getD-drop}
+use Rattle.meaning.specs.Result.{Result, refused, answered, mapResult}
+use Rattle.meaning.specs.Route.{RouteRecord, atStart, walk, modeUnsuited, suited, records, endRecord, readRecord}
+use Rattle.framing.specs.Framing.{recordsFrom}
+use Rattle.route.specs.Walking.{verdictOf}
+use Rattle.route.proofs.Walks.{AnswersOnly, walk-framed}
+
+-- of such a result the verdict is all that is left
+answer-known : {A : Type 0} (x : Result A) (a : A) → AnswersOnly x a → x ≡ mapResult (λ _. a) (verdictOf x)
+unfolding verdictOf mapResult
+answer-known (refused n) a e = refl
+answer-known (answered b) a e = e
+
+suited-only : (x : Result (List RouteRecord)) (rs : List RouteRecord)
+    → AnswersOnly x rs → AnswersOnly (suited x) rs
+unfolding suited mapResult
+suited-only (refused n) rs h = refl
+suited-only (answered qs) rs h = go (modeUnsuited qs) refl
+  where
+    go : (t : Bool) → modeUnsuited qs ≡ t → AnswersOnly (suited (answered qs)) rs
+    go true e = rw (e, suited)
+    go false e = rw (e, suited) h
+
+module _ (file : List ℕ) where
+  walk-only : AnswersOnly (walk file 0 atStart) (recordsFrom file 0)
+  unfolding recordsFrom
+  walk-only = walk-framed file 0 atStart
+
+  records-long : 16384 < length file → records file ≡ refused 1
+  unfolding records
+  records-long h = rw (lt-ltb _ _ h, records)
+
+  records-short : length file ≤ 16384 → records file ≡ suited (walk file 0 atStart)
+  unfolding records
+  records-short h = rw (le-ltb _ _ h, records)
+
+  records-only : AnswersOnly (records file) (recordsFrom file 0)
+  unfolding mapResult
+  records-only = go (decLt 16384 (length file))
+    where
+      go : Dec (16384 < length file) → AnswersOnly (records file) (recordsFrom file 0)
+      go (yes h) = rw (records-long h)
+      go (no h) = rw (records-short (omega arith)) (suited-only _ _ walk-only)
+
+  -- the records of an accepted file
+  pub records-known : {v : Result (Unit {0})} → v ≡ verdictOf (records file)
+      → records file ≡ mapResult (λ _. recordsFrom file 0) v
+  records-known told = rw told (answer-known _ _ records-only)
+
+  pub verdict-long : 16384 < length file → refused 1 ≡ verdictOf (records file)
+  unfolding verdictOf mapResult
+  verdict-long h = sym (ap verdictOf (records-long h))
+
+  module _ (short : length file ≤ 16384) {v : Result (Unit {0})}
+      (walked : v ≡ verdictOf (walk file 0 atStart)) where
+    records-walked : records file ≡ suited (mapResult (λ _. recordsFrom file 0) v)
+    records-walked = records-short short ∙ ap suited (rw walked (answer-known _ _ walk-only))
+
+    pub verdict-refused : {n : ℕ} → v ≡ refused n → refused n ≡ verdictOf (records file)
+    unfolding verdictOf mapResult suited
+    verdict-refused e = rw (records-walked, e)
+
+    module _ (e : v ≡ answered tt) where
+      pub verdict-unsuited : modeUnsuited (recordsFrom file 0) ≡ true → refused 5 ≡ verdictOf (records file)
+      unfolding verdictOf mapResult suited
+      verdict-unsuited t = rw (records-walked, e, t, suited)
+
+      pub verdict-suited : modeUnsuited (recordsFrom file 0) ≡ false → answered tt ≡ verdictOf (records file)
+      unfolding verdictOf mapResult suited
+      verdict-suited t = rw (records-walked, e, t, suited)
+
+  -- what the reader finds, where v is the verdict
+  module _ (n : ℕ) {v : Result (Unit {0})} (told : v ≡ verdictOf (records file)) where
+    pub read-refused : {k : ℕ} → v ≡ refused k → readRecord file n ≡ refused k
+    unfolding readRecord mapResult
+    read-refused e = rw (records-known told, e, readRecord)
+
+    pub read-found : v ≡ answered tt → (at : ℕ) → recordsFrom file at ≡ drop n (recordsFrom file 0)
+        → readRecord file n ≡ answered (getD (recordsFrom file at) 0 endRecord)
+    unfolding readRecord mapResult
+    read-found e at p = rw (records-known told, e, readRecord, p, getD-drop, add-zero)

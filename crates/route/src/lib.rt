@@ -1,0 +1,64 @@
+// The route file: the refusals 1 to 5, and the reader by record number. Every function answers for every file
+// of any length, and none changes a lent byte.
+mod walk;
+
+use contents::mode_unsuited;
+use framing::body_at;
+use framing::kind_at;
+use framing::place_of;
+use meaning::RecordOutcome;
+use meaning::Refusal;
+use walk::walk_file;
+ghost use mathlib.Core.Path.{_≡_};
+ghost use Rattle.meaning.specs.Answers.{toldRecord};
+ghost use Rattle.meaning.specs.Calls.{bodyAfter};
+ghost use Rattle.meaning.specs.Result.{mapResult};
+ghost use Rattle.meaning.specs.Route.{records, readRecord};
+ghost use Rattle.route.specs.Walking.{verdictOf, toldVerdict};
+pub use walk::Verdict;
+
+// The longest file that is looked at.
+const MOST_BYTES: usize = 16384;
+
+// Whether the file is accepted by 1 to 5.
+pub fn verdict(file: &[u8]) -> Verdict
+    ensures { λ r. ⌜ toldVerdict r ≡ verdictOf (records (now (file .entry))) ⌝ }
+{
+    if MOST_BYTES < file.len() {
+        return Verdict::Refused(Refusal::FileTooLong);
+    }
+    match walk_file(file) {
+        Verdict::Refused(r) => Verdict::Refused(r),
+        Verdict::Accepted => {
+            if mode_unsuited(file) {
+                Verdict::Refused(Refusal::ModeUnsuited)
+            } else {
+                Verdict::Accepted
+            }
+        }
+    }
+}
+
+// The kind of record n, counted from 0, or the refusal of the file; beyond the last record that of the end
+// record.
+pub fn record_outcome(file: &[u8], n: usize) -> RecordOutcome
+    ensures { λ r. ⌜ toldRecord r ≡ mapResult (λ a. a .kind) (readRecord (now (file .entry)) n) ⌝ }
+{
+    match verdict(file) {
+        Verdict::Refused(r) => RecordOutcome::Refused(r),
+        Verdict::Accepted => RecordOutcome::Found {
+            kind: kind_at(file, place_of(file, n)),
+        },
+    }
+}
+
+// The body of record n as a part of the file; the empty part where the file is refused, and beyond the last
+// record.
+pub fn record_body(file: &[u8], n: usize) -> &[u8]
+    ensures { λ r. ⌜ now r ≡ bodyAfter (readRecord (now (file .entry)) n) ⌝ }
+{
+    match verdict(file) {
+        Verdict::Refused(_) => &file[0..0],
+        Verdict::Accepted => body_at(file, place_of(file, n)),
+    }
+}
