@@ -9,6 +9,9 @@
 --   actOnKnown-power-add, actOnKnown-power-mul == so do powers
 --   annihilatesKnown-all == g annihilates the terms exactly where all of its action on them is 0
 --   known-power    == higher powers of what annihilates annihilate too
+--   known-vanish   == terms that a monic list annihilates, the first of them 0 as many as its degree, are 0
+--   known-part     == Lemma 5 of document 001: if h·g annihilates the terms, and g the first deg h + deg g of
+--                     them, then g annihilates them all
 --   actOnPeriod-…, annihilatesPeriod-all == the same for a period, with as many places as terms
 --   period-zeros, zeros-period == the action on a period is all 0 exactly where the list annihilates its
 --                     endless repetition
@@ -20,32 +23,38 @@
 -- Subtraction is truncated, so that lists that are too short are no exception.
 -- Assumes nothing.
 use Prim.Native.Nat.{ℕ, zero, suc, _+_, _*_, _-_, _^_, _%_, _≤_, _<_, min}
-use mathlib.Core.Path.{_≡_, refl, sym, ap, subst, _∙_}
+use mathlib.Core.Path.{_≡_, refl, sym, ap, ap₂, subst, _∙_}
 use mathlib.Core.Bool.{Bool, true, false}
 use mathlib.Core.List.{List, [], _∷_, map}
 use native.Mathlib.Nat as ℕ
+use native.Mathlib.Decide.{decLe}
 use native.Mathlib.Omega.{arith}
 use lib.ListN.{length, getD, take, replicate, length-take, length-map, length-replicate, getD-replicate}
 use lib.Seq.{ext-getD, getD-take}
 use lib.Dec.{T, eqb, eqb→eq, eqb-refl}
 use Rattle.meaning.specs.Search.{range, holdsForAll}
 use Rattle.meaning.specs.Field.{Field, prime, areElements}
-use Rattle.meaning.specs.Polynomial.{Polynomial, degree, times, power}
+use Rattle.meaning.specs.Polynomial.{Polynomial, degree, isMonicOver, times, power}
 use Rattle.meaning.specs.Sequence.{Sequence, actAt, known, periodic, annihilatesKnown, annihilatesPeriod}
 use Rattle.meaning.specs.Sequence.{actOnKnown, actOnPeriod, AnnihilatesEndless, cut}
+use Rattle.algebra.proofs.Action.{act, Agree}
+use Rattle.algebra.proofs.Continuation.{monic-zeros}
 use Rattle.algebra.proofs.Cut.{Periodic}
 use Rattle.bridge.proofs.Searches.{all-nil, all-cons, all-uncons}
-use Rattle.bridge.proofs.Interpretation.{IsField}
-use Rattle.bridge.proofs.Polynomials.{degree-times, degree-length, length-degree}
-use Rattle.bridge.proofs.Products.{power-nonempty, degree-power, power-add, power-mul, times-comm}
-use Rattle.bridge.proofs.Products.{power-zero-list, power-suc-list}
+use Rattle.bridge.proofs.Interpretation.{number-mul-zero, number-add-zero, size-positive, IsField}
+use Rattle.bridge.proofs.Interpretation.{element-zero-only}
+use Rattle.bridge.proofs.Polynomials.{poly, monic-poly, monic-nonempty, getD-below, degree-times}
+use Rattle.bridge.proofs.Polynomials.{degree-length, length-degree}
+use Rattle.bridge.proofs.Products.{power-monic, power-nonempty, degree-power, power-add, power-mul}
+use Rattle.bridge.proofs.Products.{times-comm, power-zero-list, power-suc-list}
 use Rattle.bridge.proofs.Spread.{raise}
-use Rattle.bridge.proofs.Actions.{actAt-below, actAt-local, actAt-times, actAt-one, actAt-zeros}
-use Rattle.bridge.proofs.Actions.{actAt-cut, actStride, actAt-power-stride, prime-actAt-power}
-use Rattle.bridge.proofs.Actions.{actAt-periodic, length-cut, getD-cut, known-getD, cut-equal}
-use Rattle.bridge.proofs.Actions.{cut-known, cut-take, periodic-cut, periodic-getD, periodic-repeats}
-use Rattle.bridge.proofs.Actions.{cut-elements, known-inField, periodic-inField, period-endless}
-use Rattle.bridge.proofs.Actions.{endless-period}
+use Rattle.bridge.proofs.Actions.{actStride-nil, actStride-cons, actStride-below, sequence, actAt-zero}
+use Rattle.bridge.proofs.Actions.{known-places, actAt-below, actAt-local, actAt-times, actAt-one}
+use Rattle.bridge.proofs.Actions.{actAt-zeros, actAt-cut, actStride, actAt-power-stride}
+use Rattle.bridge.proofs.Actions.{prime-actAt-power, actAt-periodic, length-cut, getD-cut, known-getD}
+use Rattle.bridge.proofs.Actions.{cut-equal, cut-known, cut-take, periodic-cut, periodic-getD}
+use Rattle.bridge.proofs.Actions.{periodic-repeats, cut-elements, known-inField, periodic-inField}
+use Rattle.bridge.proofs.Actions.{period-endless, endless-period}
 
 -- Lists of zeros
 unfoldable pub allZero : List ℕ → Bool
@@ -337,6 +346,78 @@ module _ {F : Field} (I : IsField F) where
     annihilatesKnown-power-zero ts h =
         annihilatesKnown-all F (power F f 0) ts ∙ ap allZero (actOnKnown-power-zero ts h)
 
+-- Lemma 5
+module _ {F : Field} (I : IsField F) where
+  pub known-vanish :
+      (h : Polynomial) (ts : List ℕ)
+      → T (isMonicOver F h)
+      → T (areElements F ts)
+      → T (annihilatesKnown F h ts)
+      → T (allZero (take (degree h) ts))
+      → T (allZero ts)
+  known-vanish h ts m e z first = getD-allZero ts (λ i l. zero-at i l)
+    where
+      term-zero : (i : ℕ) → getD ts i 0 ≡ 0 → sequence I (known ts) i ≡ I .ring .0#
+      term-zero i y = ap (I .element) (known-getD ts i ∙ y) ∙ I .element-zero
+
+      begins : Agree (degree h) (sequence I (known ts)) (λ _. I .ring .0#)
+      begins i l =
+          term-zero i (sym (getD-take (degree h) ts i 0 l) ∙ allZero-getD (take (degree h) ts) first i)
+
+      vanishes : Agree (length ts - degree h) (act (poly I h) (sequence I (known ts))) (λ _. I .ring .0#)
+      vanishes i l = actAt-zero I h (known ts) i (known-places F h ts z i (omega arith))
+
+      zero-at : (i : ℕ) → i < length ts → getD ts i 0 ≡ 0
+      zero-at i l =
+          element-zero-only I (getD-below I ts e i)
+          (ap (I .element) (sym (known-getD ts i))
+          ∙ monic-zeros (monic-poly I h m) (sequence I (known ts)) begins (length ts - degree h) vanishes i
+          (omega arith))
+
+  pub known-part :
+      (h g : Polynomial) (ts : List ℕ)
+      → T (isMonicOver F h)
+      → 0 < length g
+      → T (annihilatesKnown F (times F h g) ts)
+      → T (annihilatesKnown F g (take (degree h + degree g) ts))
+      → T (annihilatesKnown F g ts)
+  known-part h g ts m l z first =
+      zeros-known F g ts
+      (known-vanish h (actOnKnown F g ts) m (actOnKnown-elements I g ts)
+      (subst T (annihilatesKnown-times I h g ts (monic-nonempty F h m) l) z)
+      (subst (λ l. T (allZero l)) begins (known-zeros F g (take (degree h + degree g) ts) first)))
+    where
+      begins : actOnKnown F g (take (degree h + degree g) ts) ≡ take (degree h) (actOnKnown F g ts)
+      begins =
+          let e : degree h + degree g - degree g ≡ degree h = omega arith in
+          actOnKnown-take F g (degree h + degree g) ts ∙ ap (λ n. take n (actOnKnown F g ts)) e
+
+  -- of the powers of one list
+  pub known-power-part :
+      (f : Polynomial) (i n : ℕ) (ts : List ℕ)
+      → T (isMonicOver F f)
+      → T (annihilatesKnown F (power F f n) ts)
+      → T (annihilatesKnown F (power F f i) (take (n * degree f) ts))
+      → T (annihilatesKnown F (power F f i) ts)
+  known-power-part f i n ts m z first = elim (decLe i n) [
+    | yes l ↦
+        let e : n - i + i ≡ n = ℕ.sub-add-cancel l in
+        known-part (power F f (n - i)) (power F f i) ts (power-monic I f (n - i) m)
+        (power-nonempty I f i nonempty)
+        (subst (λ g. T (annihilatesKnown F g ts)) (ap (power F f) (sym e) ∙ power-add I f (n - i) i nonempty) z)
+        (subst (λ k. T (annihilatesKnown F (power F f i) (take k ts))) (sym (degrees l)) first)
+    | no l ↦ known-power I f nonempty n i ts (omega arith) z
+  ]
+    where
+      nonempty : 0 < length f
+      nonempty = monic-nonempty F f m
+
+      degrees : i ≤ n → degree (power F f (n - i)) + degree (power F f i) ≡ n * degree f
+      degrees l =
+          ap₂ _+_ (degree-power I f (n - i) nonempty) (degree-power I f i nonempty)
+          ∙ sym (ℕ.add-mul (n - i) i (degree f))
+          ∙ ap (λ k. k * degree f) (ℕ.sub-add-cancel l)
+
 -- Periods
 module _ (F : Field) where
   pub actOnPeriod-stretch :
@@ -529,6 +610,35 @@ module _ (F : Field) (g : Polynomial) (q : ℕ) (ts : List ℕ) where
   getD-strideOnPeriod k l =
       getD-cut (actStride F g q (periodic ts)) 0 (length ts) k l
       ∙ ap (actStride F g q (periodic ts)) (ℕ.zero-add k)
+
+module _ {F : Field} (I : IsField F) where
+  actStride-zeros :
+      (g : Polynomial) (q : ℕ) (s : Sequence) (k : ℕ) → ((i : ℕ) → s i ≡ 0) → actStride F g q s k ≡ 0
+  actStride-zeros [] q s k h = actStride-nil F q s k
+  actStride-zeros (c ∷ g) q s k h =
+      actStride-cons F c g q s k
+      ∙ ap₂ (F .add) (ap ((F .mul) c) (h k) ∙ number-mul-zero I c) (actStride-zeros g q s (k + q) h)
+      ∙ number-add-zero I (size-positive I)
+
+  pub strideOnKnown-elements :
+      (g : Polynomial) (q : ℕ) (ts : List ℕ) → T (areElements F (strideOnKnown F g q ts))
+  unfolding strideOnKnown
+  strideOnKnown-elements g q ts =
+      cut-elements F (actStride F g q (known ts)) 0 (length ts - q * degree g)
+      (actStride-below I g q (known ts))
+
+  pub strideOnKnown-zeros :
+      (g : Polynomial) (q : ℕ) (ts : List ℕ) → T (allZero ts) → T (allZero (strideOnKnown F g q ts))
+  unfolding strideOnKnown
+  strideOnKnown-zeros g q ts h =
+      allZero-cut (actStride F g q (known ts)) 0 (length ts - q * degree g)
+      (λ i _. actStride-zeros g q (known ts) (0 + i) (λ j. known-getD ts j ∙ allZero-getD ts h j))
+
+  pub strideOnPeriod-elements :
+      (g : Polynomial) (q : ℕ) (ts : List ℕ) → T (areElements F (strideOnPeriod F g q ts))
+  unfolding strideOnPeriod
+  strideOnPeriod-elements g q ts =
+      cut-elements F (actStride F g q (periodic ts)) 0 (length ts) (actStride-below I g q (periodic ts))
 
 module _ {F : Field} (I : IsField F) (w : ℕ) (f : Polynomial) (nonempty : 0 < length f) (ts : List ℕ) where
   abbrev q : ℕ

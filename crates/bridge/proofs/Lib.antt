@@ -11,3 +11,4 @@ pub mod Continuations
 pub mod Minimal
 pub mod KnownActions
 pub mod Fitting
+pub mod PowerSearch
