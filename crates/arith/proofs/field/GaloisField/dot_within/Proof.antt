@@ -4,7 +4,7 @@ use mathlib.Core.Path.{_∙_}
 use borrow.Author.Needs.{needs}
 use denote.Ref.{now}
 use Rattle.arith.specs.Represented.{fieldOf}
-use Rattle.arith.proofs.Dot.{act-parts}
+use Rattle.arith.proofs.Dot.{actAt-parts}
 use Rattle.arith.proofs.field.GaloisField.dot_within.Statement.{statement}
 use Rattle.arith.proofs.field.GaloisField.dot_within.Tie as tie
 
@@ -38,7 +38,7 @@ dot-requires c κs = search needs
 returns : tie.Need-returns
 returns c =
     let a = c .before .before .before .before .args in
-    c .dot .ensures ∙ act-parts (fieldOf (a .self)) (now (a .w)) (a .x) (a .y) (a .n)
+    c .dot .ensures ∙ actAt-parts (fieldOf (a .self)) (now (a .w)) (a .x) (a .y) (a .n)
 
 pub dot-within-spec : {M : Type 1} → statement M
 dot-within-spec =
