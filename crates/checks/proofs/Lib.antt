@@ -1,0 +1,5 @@
+pub mod Tests
+pub mod Powers
+pub mod Largest
+pub mod Coefficients
+pub mod FileFactor
