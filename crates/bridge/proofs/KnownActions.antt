@@ -11,14 +11,14 @@
 --   known-power    == higher powers of what annihilates annihilate too
 --   known-vanish   == terms that a monic list annihilates, the first of them 0 as many as its degree, are 0
 --   known-part     == Lemma 5 of document 001: if h·g annihilates the terms, and g the first deg h + deg g of
---                     them, then g annihilates them all
+--                     them, then g annihilates them all; `endless-part` is that for an endless sequence
 --   actOnPeriod-…, annihilatesPeriod-all == the same for a period, with as many places as terms
 --   period-zeros, zeros-period == the action on a period is all 0 exactly where the list annihilates its
 --                     endless repetition
 --   strideOnKnown F g q ts, strideOnPeriod F g q ts == the action with the stride q on known terms, at their
 --                     m − q·deg g places, and on a period
 --   actOnKnown-stride, actOnPeriod-stride, prime-actOnKnown, prime-actOnPeriod == the power p^w acts with the
---                     stride p^w
+--                     stride p^w; `prime-actOnKnown-add` does so once more after other powers
 --
 -- Subtraction is truncated, so that lists that are too short are no exception.
 -- Assumes nothing.
@@ -37,24 +37,26 @@ use Rattle.meaning.specs.Field.{Field, prime, areElements}
 use Rattle.meaning.specs.Polynomial.{Polynomial, degree, isMonicOver, times, power}
 use Rattle.meaning.specs.Sequence.{Sequence, actAt, known, periodic, annihilatesKnown, annihilatesPeriod}
 use Rattle.meaning.specs.Sequence.{actOnKnown, actOnPeriod, AnnihilatesEndless, cut}
-use Rattle.algebra.proofs.Action.{act, Agree}
+use Rattle.algebra.proofs.Action.{act, Agree, Kills}
+use Rattle.algebra.proofs.Annihilator.{kills-part}
 use Rattle.algebra.proofs.Continuation.{monic-zeros}
 use Rattle.algebra.proofs.Cut.{Periodic}
 use Rattle.bridge.proofs.Searches.{all-nil, all-cons, all-uncons}
 use Rattle.bridge.proofs.Interpretation.{number-mul-zero, number-add-zero, size-positive, IsField}
 use Rattle.bridge.proofs.Interpretation.{element-zero-only}
-use Rattle.bridge.proofs.Polynomials.{poly, monic-poly, monic-nonempty, getD-below, degree-times}
-use Rattle.bridge.proofs.Polynomials.{degree-length, length-degree}
+use Rattle.bridge.proofs.Polynomials.{poly-times, poly, monic-poly, monic-nonempty, getD-below}
+use Rattle.bridge.proofs.Polynomials.{degree-times, degree-length, length-degree}
 use Rattle.bridge.proofs.Products.{power-monic, power-nonempty, degree-power, power-add, power-mul}
 use Rattle.bridge.proofs.Products.{times-comm, power-zero-list, power-suc-list}
 use Rattle.bridge.proofs.Spread.{raise}
-use Rattle.bridge.proofs.Actions.{actStride-nil, actStride-cons, actStride-below, sequence, actAt-zero}
-use Rattle.bridge.proofs.Actions.{known-places, actAt-below, actAt-local, actAt-times, actAt-one}
-use Rattle.bridge.proofs.Actions.{actAt-zeros, actAt-cut, actStride, actAt-power-stride}
-use Rattle.bridge.proofs.Actions.{prime-actAt-power, actAt-periodic, length-cut, getD-cut, known-getD}
-use Rattle.bridge.proofs.Actions.{cut-equal, cut-known, cut-take, periodic-cut, periodic-getD}
-use Rattle.bridge.proofs.Actions.{periodic-repeats, cut-elements, known-inField, periodic-inField}
-use Rattle.bridge.proofs.Actions.{period-endless, endless-period}
+use Rattle.bridge.proofs.Actions.{endless-kills, kills-endless, known-stretch, actStride-nil}
+use Rattle.bridge.proofs.Actions.{actStride-cons, actStride-below, sequence, actAt-zero, known-places}
+use Rattle.bridge.proofs.Actions.{actAt-below, actAt-local, actAt-times, actAt-one, actAt-zeros}
+use Rattle.bridge.proofs.Actions.{actAt-cut, actStride, actAt-power-stride, prime-actAt-power}
+use Rattle.bridge.proofs.Actions.{actAt-periodic, length-cut, getD-cut, known-getD, cut-equal}
+use Rattle.bridge.proofs.Actions.{cut-known, cut-take, periodic-cut, periodic-getD, periodic-repeats}
+use Rattle.bridge.proofs.Actions.{cut-elements, known-inField, periodic-inField, period-endless}
+use Rattle.bridge.proofs.Actions.{endless-period}
 
 -- Lists of zeros
 unfoldable pub allZero : List ℕ → Bool
@@ -392,6 +394,23 @@ module _ {F : Field} (I : IsField F) where
           let e : degree h + degree g - degree g ≡ degree h = omega arith in
           actOnKnown-take F g (degree h + degree g) ts ∙ ap (λ n. take n (actOnKnown F g ts)) e
 
+  pub endless-part :
+      (h g : Polynomial) (s : Sequence)
+      → T (isMonicOver F h)
+      → T (isMonicOver F g)
+      → AnnihilatesEndless F (times F h g) s
+      → T (annihilatesKnown F g (cut s 0 (degree h + degree g)))
+      → AnnihilatesEndless F g s
+  endless-part h g s m n z first =
+      kills-endless I g s
+      (kills-part (monic-poly I g n) (monic-poly I h m)
+      (subst (Kills (sequence I s)) (poly-times I h g) (endless-kills I (times F h g) s z))
+      (λ i _. refl)
+      (λ j l. actAt-zero I g s j (ap (actAt F g s) (sym (ℕ.zero-add j)) ∙ first-place j (omega arith))))
+    where
+      first-place : (j : ℕ) → j + degree g < degree h + degree g → actAt F g s (0 + j) ≡ 0
+      first-place = known-stretch F g s 0 (degree h + degree g) first
+
   -- of the powers of one list
   pub known-power-part :
       (f : Polynomial) (i n : ℕ) (ts : List ℕ)
@@ -404,7 +423,8 @@ module _ {F : Field} (I : IsField F) where
         let e : n - i + i ≡ n = ℕ.sub-add-cancel l in
         known-part (power F f (n - i)) (power F f i) ts (power-monic I f (n - i) m)
         (power-nonempty I f i nonempty)
-        (subst (λ g. T (annihilatesKnown F g ts)) (ap (power F f) (sym e) ∙ power-add I f (n - i) i nonempty) z)
+        (subst (λ g. T (annihilatesKnown F g ts))
+        (ap (power F f) (sym e) ∙ power-add I f (n - i) i nonempty) z)
         (subst (λ k. T (annihilatesKnown F (power F f i) (take k ts))) (sym (degrees l)) first)
     | no l ↦ known-power I f nonempty n i ts (omega arith) z
   ]
@@ -692,3 +712,16 @@ module _
         ∙ cut-equal (actAt (prime p) (power (prime p) f (p ^ w)) (periodic ts))
         (actStride (prime p) f (p ^ w) (periodic ts)) 0 0 (length ts)
         (λ i _. prime-actAt-power p I w f nonempty elements (periodic ts) (0 + i))
+
+-- one more power p^w after others
+pub prime-actOnKnown-add :
+    (p : ℕ) (I : IsField (prime p)) (w : ℕ) (f : Polynomial)
+    → 0 < length f
+    → T (areElements (prime p) f)
+    → (n : ℕ) (ts : List ℕ)
+    → strideOnKnown (prime p) f (p ^ w) (actOnKnown (prime p) (power (prime p) f n) ts)
+    ≡ actOnKnown (prime p) (power (prime p) f (n + p ^ w)) ts
+prime-actOnKnown-add p I w f l h n ts =
+    sym (prime-actOnKnown p I w f l h (actOnKnown (prime p) (power (prime p) f n) ts))
+    ∙ sym (actOnKnown-power-add I f l (p ^ w) n ts)
+    ∙ ap (λ e. actOnKnown (prime p) (power (prime p) f e) ts) (ℕ.add-comm (p ^ w) n)

@@ -12,3 +12,4 @@ pub mod Minimal
 pub mod KnownActions
 pub mod Fitting
 pub mod PowerSearch
+pub mod Portions

@@ -305,7 +305,8 @@ module _ {F : Field} (I : IsField F) (f : Polynomial) (monic : T (isMonicOver F 
     unfolding digitsFound digits
     digits-same zero x = refl
     digits-same (suc l) x =
-        ap₂ _+_ (ap (λ n. n * p ^ l) top) (ap (digitsFound step p (degree f) l) left ∙ digits-same l (rest l x))
+        ap₂ _+_ (ap (λ n. n * p ^ l) top)
+        (ap (digitsFound step p (degree f) l) left ∙ digits-same l (rest l x))
       where
         top : digitFound step (p - 1) (p ^ l) (x .0) ≡ digit decided acted (pred p) (p ^ l) x
         top = ap (λ c. digitFound step c (p ^ l) (x .0)) (sub-one p) ∙ digit-same (pred p) l x
