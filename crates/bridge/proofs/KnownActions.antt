@@ -713,6 +713,18 @@ module _
         (actStride (prime p) f (p ^ w) (periodic ts)) 0 0 (length ts)
         (λ i _. prime-actAt-power p I w f nonempty elements (periodic ts) (0 + i))
 
+    pub prime-annihilatesKnown :
+        annihilatesKnown (prime p) (power (prime p) f (p ^ w)) ts
+        ≡ allZero (strideOnKnown (prime p) f (p ^ w) ts)
+    prime-annihilatesKnown =
+        annihilatesKnown-all (prime p) (power (prime p) f (p ^ w)) ts ∙ ap allZero prime-actOnKnown
+
+    pub prime-annihilatesPeriod :
+        annihilatesPeriod (prime p) (power (prime p) f (p ^ w)) ts
+        ≡ allZero (strideOnPeriod (prime p) f (p ^ w) ts)
+    prime-annihilatesPeriod =
+        annihilatesPeriod-all (prime p) (power (prime p) f (p ^ w)) ts ∙ ap allZero prime-actOnPeriod
+
 -- one more power p^w after others
 pub prime-actOnKnown-add :
     (p : ℕ) (I : IsField (prime p)) (w : ℕ) (f : Polynomial)

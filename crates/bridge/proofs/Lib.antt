@@ -13,3 +13,4 @@ pub mod KnownActions
 pub mod Fitting
 pub mod PowerSearch
 pub mod Portions
+pub mod Periods
