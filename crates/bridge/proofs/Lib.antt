@@ -14,3 +14,4 @@ pub mod Fitting
 pub mod PowerSearch
 pub mod Portions
 pub mod Periods
+pub mod RepeatBounds
