@@ -15,3 +15,6 @@ pub mod PowerSearch
 pub mod Portions
 pub mod Periods
 pub mod RepeatBounds
+pub mod Padding
+pub mod MasseySteps
+pub mod MasseyAnswer
