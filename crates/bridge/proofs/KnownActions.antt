@@ -620,6 +620,10 @@ module _ (F : Field) (g : Polynomial) (q : ℕ) (ts : List ℕ) where
       let e : length ts - q * degree g ≡ 0 = omega arith in
       ap (cut (actStride F g q (known ts)) 0) e
 
+  -- a try for which there are too few terms leaves nothing
+  pub strideOnKnown-none : length ts ≤ q * degree g → T (allZero (strideOnKnown F g q ts))
+  strideOnKnown-none l = subst (λ l. T (allZero l)) (sym (strideOnKnown-short l)) allZero-nil
+
   pub length-strideOnPeriod : length (strideOnPeriod F g q ts) ≡ length ts
   unfolding strideOnPeriod
   length-strideOnPeriod = length-cut (actStride F g q (periodic ts)) 0 (length ts)

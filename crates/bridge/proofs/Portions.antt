@@ -12,13 +12,13 @@
 --   leastAt-exists, setPowers-exists == it is always found
 --   onward-continues, onward-unique == `onward` is the one sequence of the field that begins with the first D
 --                     terms and that the product to the upper powers annihilates; `onward-cut` for a stretch
---   onward-part    == a product with a lower power of one factor annihilates `onward` exactly where it
---                     annihilates the first D terms (Lemma 5)
+--   part-onward, onward-part == a product with a lower power of one factor annihilates `onward` exactly where
+--                     it annihilates the first D terms (Lemma 5)
 --   setPowers-minimal == the product of the powers that `setPowers` finds is the minimal polynomial
 --   portion-least, portion-minimal == with one factor, its power is the least that annihilates
 --   agrees-annihilated, annihilated-agrees == the terms agree with `onward` exactly where the product to the
 --                     upper powers annihilates them all
---   nothing-continues == where it does not, no sequence of the field that it annihilates begins with them
+--   nothing-continues == where it does not, no sequence that it annihilates begins with them
 --
 -- The factors are not empty, or monic, or irreducible and different (`Factors`), as each law says. The factor
 -- x is allowed.
@@ -442,7 +442,7 @@ module _ {F : Field} (I : IsField F) (l : List (Polynomial × ℕ)) (monics : Mo
         subst (λ w. T (annihilatesKnown F (product F l) w)) e
         (endless-known F (product F l) (onward F l ts) 0 (length ts) (onward-continues .annihilated))
 
--- what begins with the terms and is annihilated: there is nothing of the kind where the terms are not
+-- where the terms are not annihilated, no sequence that is begins with them
 pub nothing-continues :
     (F : Field) (g : Polynomial) (ts : List ℕ)
     → ¬ T (annihilatesKnown F g ts)
