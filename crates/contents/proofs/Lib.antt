@@ -2,3 +2,4 @@ pub mod Numbers
 pub mod Modes
 pub mod Stores
 pub mod Terms
+pub mod Factors

@@ -8,11 +8,11 @@ use framing::next_place;
 use framing::part;
 ghost use mathlib.Core.Path.{_≡_};
 ghost use Prim.Native.Nat.{_<_, _≤_};
-ghost use lib.ListN.{length};
+ghost use lib.ListN.{length, getD};
 ghost use lib.Seq.{sets};
 ghost use Rattle.meaning.specs.Route.{number, byteOf, boxOf, factorUpper, modeUnsuited};
 ghost use Rattle.framing.specs.Framing.{recordsFrom};
-ghost use Rattle.contents.specs.Contents.{TermsAt, Gathered};
+ghost use Rattle.contents.specs.Contents.{TermsAt, Gathered, LaidFactor};
 
 // The number of up to four bytes, the most significant first.
 pub fn number_of(bytes: &[u8]) -> u64
@@ -45,12 +45,18 @@ pub fn box_of(file: &[u8]) -> u64
     number_of(part(file, 1, 4))
 }
 
+// The first byte; 0 where there is none. That of the body of a factor is its degree.
+pub fn first_byte(bytes: &[u8]) -> u8
+    ensures { λ r. ⌜ r ≡ getD (now (bytes .entry)) 0 0 ⌝ }
+{
+    if 0 < bytes.len() { bytes[0] } else { 0 }
+}
+
 // The one byte of the first record of the kind; 0 where there is none.
 pub fn byte_of(file: &[u8], kind: u8) -> u8
     ensures { λ r. ⌜ r ≡ byteOf kind (recordsFrom (now (file .entry)) 0) ⌝ }
 {
-    let body = body_of(file, kind, 0);
-    if 0 < body.len() { body[0] } else { 0 }
+    first_byte(body_of(file, kind, 0))
 }
 
 // The upper power that the body of a factor names.
@@ -131,4 +137,18 @@ pub fn gather_terms(file: &[u8], terms: &mut [u8]) -> usize
         at = next_place(file, at);
     }
     count
+}
+
+// The length of the polynomial that the body of a factor names. Its coefficients, with the leading 1, are
+// written to the lent bytes from the place `at` on, as far as they fit, and nothing after them.
+pub fn lay_factor(body: &[u8], to: &mut [u8], at: usize) -> usize
+    requires { ⌜ at ≤ length (now to) ⌝ }
+    ensures { λ r. ⌜ LaidFactor (now (body .entry)) at (now (to .entry)) r (now (to .exit)) ⌝ }
+{
+    let degree = first_byte(body);
+    let low = part(body, 3, degree as usize);
+    lay(low, to, at);
+    let one = [1u8; 1];
+    lay(&one, to, at + low.len());
+    low.len() + 1
 }

@@ -2,3 +2,4 @@ pub mod Stages
 pub mod Walks
 pub mod Steps
 pub mod Readings
+pub mod Accepted

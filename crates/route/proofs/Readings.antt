@@ -15,28 +15,29 @@ use Rattle.meaning.specs.Result.{Result, refused, answered, mapResult}
 use Rattle.meaning.specs.Route.{RouteRecord, atStart, walk, modeUnsuited, suited, records, endRecord, readRecord}
 use Rattle.framing.specs.Framing.{recordsFrom}
 use Rattle.route.specs.Walking.{verdictOf}
-use Rattle.route.proofs.Walks.{AnswersOnly, walk-framed}
+use Rattle.route.proofs.Walks.{AnswersWhole, walk-framed}
 
 -- of such a result the verdict is all that is left
-answer-known : {A : Type 0} (x : Result A) (a : A) → AnswersOnly x a → x ≡ mapResult (λ _. a) (verdictOf x)
+answer-known : (x : Result (List RouteRecord)) (rs : List RouteRecord) → AnswersWhole x rs
+    → x ≡ mapResult (λ _. rs) (verdictOf x)
 unfolding verdictOf mapResult
-answer-known (refused n) a e = refl
-answer-known (answered b) a e = e
+answer-known (refused n) rs h = refl
+answer-known (answered qs) rs h = ap answered (h .0)
 
-suited-only : (x : Result (List RouteRecord)) (rs : List RouteRecord)
-    → AnswersOnly x rs → AnswersOnly (suited x) rs
-unfolding suited mapResult
-suited-only (refused n) rs h = refl
-suited-only (answered qs) rs h = go (modeUnsuited qs) refl
+suited-whole : (x : Result (List RouteRecord)) (rs : List RouteRecord) → AnswersWhole x rs
+    → AnswersWhole (suited x) rs
+unfolding suited
+suited-whole (refused n) rs h = tt
+suited-whole (answered qs) rs h = go (modeUnsuited qs) refl
   where
-    go : (t : Bool) → modeUnsuited qs ≡ t → AnswersOnly (suited (answered qs)) rs
-    go true e = rw (e, suited)
+    go : (t : Bool) → modeUnsuited qs ≡ t → AnswersWhole (suited (answered qs)) rs
+    go true e = rw (e, suited) tt
     go false e = rw (e, suited) h
 
 module _ (file : List ℕ) where
-  walk-only : AnswersOnly (walk file 0 atStart) (recordsFrom file 0)
+  walk-whole : AnswersWhole (walk file 0 atStart) (recordsFrom file 0)
   unfolding recordsFrom
-  walk-only = walk-framed file 0 atStart
+  walk-whole = walk-framed file 0 atStart
 
   records-long : 16384 < length file → records file ≡ refused 1
   unfolding records
@@ -46,18 +47,17 @@ module _ (file : List ℕ) where
   unfolding records
   records-short h = rw (le-ltb _ _ h, records)
 
-  records-only : AnswersOnly (records file) (recordsFrom file 0)
-  unfolding mapResult
-  records-only = go (decLt 16384 (length file))
+  pub records-whole : AnswersWhole (records file) (recordsFrom file 0)
+  records-whole = go (decLt 16384 (length file))
     where
-      go : Dec (16384 < length file) → AnswersOnly (records file) (recordsFrom file 0)
-      go (yes h) = rw (records-long h)
-      go (no h) = rw (records-short (omega arith)) (suited-only _ _ walk-only)
+      go : Dec (16384 < length file) → AnswersWhole (records file) (recordsFrom file 0)
+      go (yes h) = rw (records-long h) tt
+      go (no h) = rw (records-short (omega arith)) (suited-whole _ _ walk-whole)
 
   -- the records of an accepted file
   pub records-known : {v : Result (Unit {0})} → v ≡ verdictOf (records file)
       → records file ≡ mapResult (λ _. recordsFrom file 0) v
-  records-known told = rw told (answer-known _ _ records-only)
+  records-known told = rw told (answer-known _ _ records-whole)
 
   pub verdict-long : 16384 < length file → refused 1 ≡ verdictOf (records file)
   unfolding verdictOf mapResult
@@ -66,7 +66,7 @@ module _ (file : List ℕ) where
   module _ (short : length file ≤ 16384) {v : Result (Unit {0})}
       (walked : v ≡ verdictOf (walk file 0 atStart)) where
     records-walked : records file ≡ suited (mapResult (λ _. recordsFrom file 0) v)
-    records-walked = records-short short ∙ ap suited (rw walked (answer-known _ _ walk-only))
+    records-walked = records-short short ∙ ap suited (rw walked (answer-known _ _ walk-whole))
 
     pub verdict-refused : {n : ℕ} → v ≡ refused n → refused n ≡ verdictOf (records file)
     unfolding verdictOf mapResult suited

@@ -1,16 +1,19 @@
 -- Laws of the walk over lists: what each test makes of it, and that an accepted walk answers the records by
--- their lengths.
+-- their lengths, of which none is cut.
 --
---   AnswersOnly x a   == where the result x is an answer, it is a
+--   Whole rs          == the bodies of the records have the lengths of their kinds
+--   AnswersWhole x rs == where the result x is an answer, it is the records rs, and they are whole
 -- Assumes nothing.
 use Prim.Native.Nat.{ℕ, zero, suc}
-use mathlib.Core.Path.{_≡_, refl, ap}
+use mathlib.Core.Path.{_≡_, refl, sym, ap, _∙_}
 use mathlib.Core.Bool.{Bool, true, false}
 use mathlib.Core.List.{List, [], _∷_}
 use mathlib.Core.Option.{Option, none, some}
+use borrow.Author.Tests.{ltb-false}
 use lib.Dec.{ltb}
 use lib.ListN.{length, take, drop}
-use Rattle.meaning.specs.Result.{Result, refused, answered, mapResult}
+use lib.Seq.{length-take-le}
+use Rattle.meaning.specs.Result.{Result, refused, answered}
 use Rattle.meaning.specs.Route.{RouteRecord, Stage, atStart, afterBox, afterField, inFactors, inTerms, afterEnd, lookUp, bodyLengths, admitted, before, stopped, walk}
 use Rattle.framing.specs.Framing.{orElse, bodyLength, framed}
 
@@ -44,58 +47,67 @@ module _ (kind : ℕ) (rest : List ℕ) (stage : Stage) where
       unfolding walk
       walk-good a = rw (e, t, a, walk)
 
-abbrev pub AnswersOnly : {A : Type 0} → Result A → A → Type 0
-AnswersOnly x a = x ≡ mapResult (λ _. a) x
+abbrev pub Whole : List RouteRecord → Type 0
+Whole [] = Unit {0}
+Whole (r ∷ rs) = (length (r .body) ≡ bodyLength (r .kind)) × Whole rs
 
-module _ (rs : List RouteRecord) where
-  only-refused : {n : ℕ} (x : Result (List RouteRecord)) → x ≡ refused n → AnswersOnly x rs
-  unfolding mapResult
-  only-refused x e = rw (e, mapResult)
+abbrev pub AnswersWhole : Result (List RouteRecord) → List RouteRecord → Type 0
+AnswersWhole (refused n) rs = Unit {0}
+AnswersWhole (answered qs) rs = (qs ≡ rs) × Whole qs
 
-  only-before : (r : RouteRecord) (x : Result (List RouteRecord))
-      → AnswersOnly x rs → AnswersOnly (before r x) (r ∷ rs)
-  unfolding before mapResult
-  only-before r (refused n) h = refl
-  only-before r (answered qs) h = ap (before r) h
+whole-refused : (rs : List RouteRecord) {n : ℕ} (x : Result (List RouteRecord)) → x ≡ refused n
+    → AnswersWhole x rs
+whole-refused rs x e = rw e tt
 
-only-stopped : (stage : Stage) → AnswersOnly (stopped stage) []
-unfolding stopped mapResult
-only-stopped atStart = refl
-only-stopped afterBox = refl
-only-stopped afterField = refl
-only-stopped inFactors = refl
-only-stopped inTerms = refl
-only-stopped afterEnd = refl
+whole-before : (rs : List RouteRecord) (r : RouteRecord) → length (r .body) ≡ bodyLength (r .kind)
+    → (x : Result (List RouteRecord)) → AnswersWhole x rs → AnswersWhole (before r x) (r ∷ rs)
+unfolding before
+whole-before rs r e (refused n) h = tt
+whole-before rs r e (answered qs) h = (ap (_∷_ r) (h .0), (e, h .1))
+
+whole-stopped : (stage : Stage) → AnswersWhole (stopped stage) []
+unfolding stopped
+whole-stopped atStart = tt
+whole-stopped afterBox = tt
+whole-stopped afterField = tt
+whole-stopped inFactors = tt
+whole-stopped inTerms = tt
+whole-stopped afterEnd = (refl, tt)
 
 -- one record, and then what the rest answers
 module _ (kind : ℕ) (rest : List ℕ) (stage : Stage)
-    (recur : (n : ℕ) (after : Stage) → AnswersOnly (walk rest n after) (framed rest n)) where
+    (recur : (n : ℕ) (after : Stage) → AnswersWhole (walk rest n after) (framed rest n)) where
   abbrev Framed : Type 0
-  Framed = AnswersOnly (walk (kind ∷ rest) 0 stage) (framed (kind ∷ rest) 0)
+  Framed = AnswersWhole (walk (kind ∷ rest) 0 stage) (framed (kind ∷ rest) 0)
 
-  framed-known : {n : ℕ} → lookUp kind bodyLengths ≡ some n
-      → framed (kind ∷ rest) 0 ≡ record { kind = kind; body = take n rest } ∷ framed rest n
-  unfolding framed bodyLength orElse
-  framed-known e = rw (e, orElse)
+  module _ {n : ℕ} (e : lookUp kind bodyLengths ≡ some n) where
+    length-found : bodyLength kind ≡ n
+    unfolding bodyLength orElse
+    length-found = rw (e, orElse)
 
-  only-placed : {n : ℕ} → lookUp kind bodyLengths ≡ some n → ltb (length rest) n ≡ false
-      → (o : Option Stage) → lookUp kind (admitted stage) ≡ o → Framed
-  only-placed e t none a = only-refused _ _ (walk-misplaced kind rest stage e t a)
-  only-placed {n} e t (some after) a =
-      rw (walk-good kind rest stage e t a, framed-known e) (only-before _ _ _ (recur n after))
+    framed-found : framed (kind ∷ rest) 0 ≡ record { kind = kind; body = take n rest } ∷ framed rest n
+    unfolding framed
+    framed-found = rw length-found
 
-  only-whole : {n : ℕ} → lookUp kind bodyLengths ≡ some n → (t : Bool) → ltb (length rest) n ≡ t → Framed
-  only-whole e true t = only-refused _ _ (walk-cut kind rest stage e t)
-  only-whole e false t = only-placed e t (lookUp kind (admitted stage)) refl
+    whole-placed : ltb (length rest) n ≡ false → (o : Option Stage) → lookUp kind (admitted stage) ≡ o
+        → Framed
+    whole-placed t none a = whole-refused _ _ (walk-misplaced kind rest stage e t a)
+    whole-placed t (some after) a =
+        let l = length-take-le n rest (ltb-false _ _ t) ∙ sym length-found in
+        rw (walk-good kind rest stage e t a, framed-found) (whole-before _ _ l _ (recur n after))
 
-  only-record : (o : Option ℕ) → lookUp kind bodyLengths ≡ o → Framed
-  only-record none e = only-refused _ _ (walk-unknown kind rest stage e)
-  only-record (some n) e = only-whole e (ltb (length rest) n) refl
+    whole-fitting : (t : Bool) → ltb (length rest) n ≡ t → Framed
+    whole-fitting true t = whole-refused _ _ (walk-cut kind rest stage e t)
+    whole-fitting false t = whole-placed t (lookUp kind (admitted stage)) refl
+
+  whole-record : (o : Option ℕ) → lookUp kind bodyLengths ≡ o → Framed
+  whole-record none e = whole-refused _ _ (walk-unknown kind rest stage e)
+  whole-record (some n) e = whole-fitting e (ltb (length rest) n) refl
 
 pub walk-framed : (bytes : List ℕ) (skip : ℕ) (stage : Stage)
-    → AnswersOnly (walk bytes skip stage) (framed bytes skip)
+    → AnswersWhole (walk bytes skip stage) (framed bytes skip)
 unfolding walk framed
-walk-framed [] skip stage = only-stopped stage
+walk-framed [] skip stage = whole-stopped stage
 walk-framed (b ∷ rest) (suc k) stage = walk-framed rest k stage
 walk-framed (kind ∷ rest) zero stage =
-    only-record kind rest stage (walk-framed rest) (lookUp kind bodyLengths) refl
+    whole-record kind rest stage (walk-framed rest) (lookUp kind bodyLengths) refl

@@ -6,12 +6,13 @@ use contents::mode_unsuited;
 use framing::body_at;
 use framing::kind_at;
 use framing::place_of;
+use meaning::FoundRecord;
 use meaning::RecordOutcome;
 use meaning::Refusal;
 use walk::walk_file;
 ghost use mathlib.Core.Path.{_≡_};
 ghost use Rattle.meaning.specs.Answers.{toldRecord};
-ghost use Rattle.meaning.specs.Calls.{bodyAfter};
+ghost use Rattle.meaning.specs.Calls.{bodyAfter, RecordCall};
 ghost use Rattle.meaning.specs.Result.{mapResult};
 ghost use Rattle.meaning.specs.Route.{records, readRecord};
 ghost use Rattle.route.specs.Walking.{verdictOf, toldVerdict};
@@ -61,4 +62,13 @@ pub fn record_body(file: &[u8], n: usize) -> &[u8]
         Verdict::Refused(_) => &file[0..0],
         Verdict::Accepted => body_at(file, place_of(file, n)),
     }
+}
+
+// Record n, counted from 0: its kind or the refusal of the file, and its body as a part of the file.
+pub fn record<'a>(file: &'a [u8], n: usize) -> FoundRecord<'a>
+    ensures { λ r. ⌜ RecordCall (now (file .entry)) n (r .outcome) (now (r .body)) ⌝ }
+{
+    let outcome = record_outcome(file, n);
+    let body = record_body(file, n);
+    FoundRecord { outcome, body }
 }
