@@ -1,0 +1,338 @@
+-- Demand 3: the same polynomial wherever the stretch is cut, however long it is, and whichever way rates it.
+-- Assumes nothing.
+use Prim.Native.Nat.{ℕ, suc, _+_, _*_, _≤_, _<_}
+use native.Mathlib.Nat.{zero-add, le-trans, mul-pos, add-zero}
+use native.Mathlib.Omega.{arith}
+use mathlib.Core.Path.{_≡_, refl, sym, ap, subst, fun-ext, _∙_}
+use mathlib.Core.Logic.{_≢_}
+use mathlib.Core.Bool.{true, false, true≢false}
+use mathlib.Core.List.{List, [], _∷_}
+use mathlib.Core.Option.{some}
+use lib.ListN.{length, getD, take}
+use lib.Seq.{take-at}
+use lib.Dec.{T, eqb, ltb}
+use Rattle.meaning.specs.declared.PowerRating.{PowerRating}
+use Rattle.meaning.specs.declared.SetRating.{SetRating}
+use Rattle.meaning.specs.declared.FreeRating.{FreeRating}
+use Rattle.meaning.specs.Search.{holdsForSome}
+use Rattle.meaning.specs.Polynomial.{Polynomial, degree, power, product}
+use Rattle.meaning.specs.Sequence.{Sequence, InField, AnnihilatesEndless, cut, periodic, Period, MinimalPolynomial}
+use Rattle.meaning.specs.Sequence.{annihilatesKnown}
+use Rattle.meaning.specs.Result.{Result, answered, Rated, mapResult, figuresOf, written, answerAfter}
+use Rattle.meaning.specs.Conditions.{named, totalDegree, acceptedLent, upperPowersOutOfRange, factorCountOutOfRange}
+use Rattle.meaning.specs.Power.{PowerFigures, isX, repeatBound}
+use Rattle.meaning.specs.Period.{ratePeriod}
+use Rattle.meaning.specs.Portion.{acceptedFactors, factorTable, factorsOf, setPowers, setRating, onward}
+use Rattle.meaning.specs.Portion.{ratePortion}
+use Rattle.meaning.specs.Free.{Choice, FreeFigures}
+use Rattle.meaning.specs.Answers.{SetTold, toldPower, toldSet, toldFree, setFiguresTold}
+use Rattle.meaning.specs.Calls.{PeriodCall, PortionCall, SetCall, FreeCall, LentAfter}
+use Rattle.theorems.specs.Promises.{GF, AcceptedTerms, Returns, CutAnywhere}
+use Rattle.bridge.proofs.Interpretation.{IsField}
+use Rattle.bridge.proofs.Polynomials.{monic-nonempty}
+use Rattle.bridge.proofs.Products.{MonicFactors, monics-nonempty, factorsOf-named, length-factorsOf, product-elements}
+use Rattle.bridge.proofs.Products.{product-single}
+use Rattle.bridge.proofs.Irreducibles.{Factors, factors-monics, accepted-prime, accepted-uppers, accepted-different}
+use Rattle.bridge.proofs.Searches.{or-false, false-T, some-head}
+use Rattle.bridge.proofs.Actions.{length-cut, cut-elements, endless-known, periodic-cut, actAt-shift}
+use Rattle.bridge.proofs.Minimal.{minimal-unique, leastPower-exists}
+use Rattle.bridge.proofs.Periods.{least-periodPower, periodPower-minimal}
+use Rattle.bridge.proofs.Fitting.{stretch-answer, accepts-free}
+use Rattle.bridge.proofs.Portions.{setPowers-exists, setPowers-minimal, onward-cut, portion-found, portion-minimal}
+use Rattle.bridge.proofs.RepeatBounds.{repeatBound-exists}
+use Rattle.theorems.proofs.Minimality.{accepted-field, named-factors, one-factor}
+use Rattle.theorems.proofs.Accepted.{set-answer, accepted-count, portion-answer, period-answer, rating-of}
+use Rattle.theorems.proofs.Accepted.{rating-degree, rating-polynomial}
+use Rattle.theorems.proofs.Cutting.{shifted, shifted-minimal, product-constant}
+
+whole : (h : Polynomial) → 0 < length h → length h ≡ suc (degree h)
+unfolding degree
+whole h l = omega arith
+
+-- What a call returns, from the bytes that it leaves.
+pub returned :
+    (g h : Polynomial) (answer answer′ : List ℕ)
+    → 0 < length h
+    → h ≡ g
+    → answer′ ≡ written h answer
+    → Returns g (degree h) answer′
+unfolding written
+returned g h answer answer′ l e b =
+    record {
+      degree-told = ap degree e;
+      coefficients = ap (take (suc (degree h))) b ∙ take-at h _ (suc (degree h)) (whole h l) ∙ e;
+    }
+
+-- acceptance depends on the upper powers of the factors alone
+same-table :
+    (p : ℕ) (fs : List Polynomial) (vs ws : List ℕ)
+    → named fs vs ≡ named fs ws
+    → acceptedFactors p fs vs ≡ acceptedFactors p fs ws
+unfolding acceptedFactors factorTable
+same-table p fs vs ws e = rw e
+
+named-one : (f : Polynomial) (vs : List ℕ) → named (f ∷ []) vs ≡ (f, getD vs 0 0) ∷ []
+unfolding named
+named-one f [] = refl
+named-one f (v ∷ vs) = refl
+
+one-total : (f : Polynomial) (v : ℕ) → totalDegree ((f, v) ∷ []) ≡ v * degree f
+unfolding totalDegree
+one-total f v = add-zero (v * degree f)
+
+-- The total degree of accepted factors is positive: there is one, with an upper power and a degree above 0.
+nonzero-upper :
+    (f : Polynomial) (v : ℕ) (l : List (Polynomial × ℕ)) → upperPowersOutOfRange ((f, v) ∷ l) ≡ false → v ≢ 0
+unfolding upperPowersOutOfRange
+nonzero-upper f v l h e =
+    let z = or-false (holdsForSome (λ (g : Polynomial × ℕ). eqb (g .1) 0) ((f, v) ∷ l)) (ltb 4096 (totalDegree ((f, v) ∷ l))) h in
+    false-T (z .0)
+    (some-head (λ (g : Polynomial × ℕ). eqb (g .1) 0) (f, v) l (subst (λ n. T (eqb n 0)) (sym e) tt))
+
+positive :
+    (p : ℕ) (fs : List Polynomial) (vs : List ℕ) → T (acceptedFactors p fs vs) → 1 ≤ totalDegree (named fs vs)
+unfolding named totalDegree factorCountOutOfRange
+positive p [] vs h = absurd (true≢false (accepted-count p [] vs h))
+positive p (f ∷ fs) [] h = absurd (nonzero-upper f 0 (named fs []) (accepted-uppers p (f ∷ fs) [] h) refl)
+positive p (f ∷ fs) (v ∷ vs) h =
+    let u = nonzero-upper f v (named fs vs) (accepted-uppers p (f ∷ fs) (v ∷ vs) h) in
+    let d = accepted-different p (f ∷ fs) (v ∷ vs) h .positive 0 (omega arith) in
+    omega (arith, mul-pos {m = v} {n = degree f} (omega arith) d)
+
+module _
+    (p : ℕ) (fs : List Polynomial) (vs : List ℕ) (s : Sequence)
+    (accepted : T (acceptedFactors p fs vs)) (noneX : holdsForSome isX fs ≡ false)
+    (inField : InField (GF p) s)
+    (annihilated : AnnihilatesEndless (GF p) (product (GF p) (named fs vs)) s)
+  where
+    abbrev l : List (Polynomial × ℕ)
+    l = named fs vs
+
+    I : IsField (GF p)
+    I = accepted-field p fs vs accepted
+
+    factors : Factors (GF p) (factorsOf l)
+    factors = named-factors p fs vs accepted
+
+    monics : MonicFactors (GF p) l
+    monics = factors-monics I l factors
+
+    constant : getD (product (GF p) l) 0 0 ≢ 0
+    constant =
+        product-constant I l factors monics (length-factorsOf l)
+        (ap (holdsForSome isX) (factorsOf-named fs vs) ∙ noneX)
+
+    -- the continuation of a stretch is the sequence from its place on
+    continued : (k m : ℕ) → totalDegree l ≤ m → onward (GF p) l (cut s k m) ≡ shifted s k
+    continued k m e = fun-ext (onward-cut I l monics s k m inField annihilated e)
+
+    -- the powers of a stretch and their product
+    powers : (k m : ℕ) → (rs : List ℕ) × (setPowers (GF p) l (cut s k m) ≡ some rs)
+    powers k m = setPowers-exists I l (monics-nonempty (GF p) l monics) (cut s k m)
+
+    rated : (k m : ℕ) → Polynomial
+    rated k m = product (GF p) (named (factorsOf l) (powers k m .0))
+
+    enough : (k m : ℕ) → totalDegree l ≤ m → totalDegree l ≤ length (cut s k m)
+    enough k m e = subst (λ n. totalDegree l ≤ n) (sym (length-cut s k m)) e
+
+    rated-minimal : (k m : ℕ) → totalDegree l ≤ m → MinimalPolynomial (GF p) (rated k m) (shifted s k)
+    unfolding rated
+    rated-minimal k m e =
+        subst (MinimalPolynomial (GF p) (rated k m)) (continued k m e)
+        (setPowers-minimal I l factors (cut s k m) (cut-elements (GF p) s k m inField) (enough k m e)
+        (powers k m .1) .minimal)
+
+    -- g is the polynomial of the first D terms
+    g : Polynomial
+    g = rated 0 (totalDegree l)
+
+    shifted-zero : shifted s 0 ≡ s
+    shifted-zero = fun-ext (λ i. ap s (zero-add i))
+
+    minimal : MinimalPolynomial (GF p) g s
+    unfolding g
+    minimal =
+        subst (MinimalPolynomial (GF p) g) shifted-zero (rated-minimal 0 (totalDegree l) (omega arith))
+
+    minimal-from : (k : ℕ) → MinimalPolynomial (GF p) g (shifted s k)
+    minimal-from k =
+        shifted-minimal I (product (GF p) l) s annihilated (product-elements I l) constant g minimal k
+
+    -- whatever is minimal from some place on is g
+    same-as-g : (h : Polynomial) (k : ℕ) → MinimalPolynomial (GF p) h (shifted s k) → h ≡ g
+    same-as-g h k x = minimal-unique I h g (shifted s k) x (minimal-from k)
+
+    one-accepted : (f : Polynomial) (v : ℕ) → fs ≡ f ∷ [] → named fs vs ≡ (f, v) ∷ [] → T (acceptedFactors p (f ∷ []) (v ∷ []))
+    unfolding named
+    one-accepted f v e one =
+        subst T (same-table p (f ∷ []) vs (v ∷ []) (ap (λ (gs : List Polynomial). named gs vs) (sym e) ∙ one))
+        (subst (λ (gs : List Polynomial). T (acceptedFactors p gs vs)) e accepted)
+
+    -- THE SET WAY
+    total-positive : 1 ≤ totalDegree l
+    total-positive = positive p fs vs accepted
+
+    terms : (k m : ℕ) → 1 ≤ m → m ≤ 4096 → AcceptedTerms p (cut s k m)
+    terms k m few many =
+        record {
+          some = omega (arith, length-cut s k m);
+          notMany = omega (arith, length-cut s k m);
+          inField = cut-elements (GF p) s k m inField;
+        }
+
+    known-annihilated : (k m : ℕ) → T (annihilatesKnown (GF p) (product (GF p) l) (cut s k m))
+    known-annihilated k m = endless-known (GF p) (product (GF p) l) s k m annihilated
+
+    set-way :
+        (k m : ℕ)
+        → totalDegree l ≤ m
+        → m ≤ 4096
+        → (answer work : List ℕ)
+        → T (acceptedLent (length answer) (length work))
+        → (r : SetRating) (answer′ work′ : List ℕ)
+        → SetCall p fs vs (cut s k m) answer work r answer′ work′
+        → (a : SetTold) × (toldSet (r .outcome) ≡ answered a) × Returns g (a .degree) answer′
+    unfolding figuresOf mapResult answerAfter setRating setFiguresTold rated
+    set-way k m e few answer work lent r answer′ work′ c =
+        let result =
+        set-answer p fs vs (cut s k m) (length answer) (length work) accepted
+        (terms k m (le-trans total-positive e) few)
+        lent (enough k m e) (known-annihilated k m) (powers k m .0) (powers k m .1) in (
+          _,
+          c .rating ∙ ap (λ x. mapResult setFiguresTold (figuresOf x)) result,
+          returned g (rated k m) answer answer′ (monic-nonempty (GF p) (rated k m) (rated-minimal k m e .monic))
+              (same-as-g (rated k m) k (rated-minimal k m e))
+              (c .lent .answerBytes ∙ ap (λ x. answerAfter x answer) result),
+        )
+
+    characteristic-two : 1 < GF p .characteristic
+    characteristic-two = I .characteristic .prime .large
+
+    bound-of : (f : Polynomial) (r : ℕ) → (b : ℕ) × (repeatBound (GF p) f r ≡ some b)
+    bound-of f r = repeatBound-exists (GF p) f r characteristic-two
+
+    -- what an answer with a power of f returns, where that power is minimal from some place on
+    power-returns :
+        (f : Polynomial) (r b k : ℕ)
+        → MinimalPolynomial (GF p) (power (GF p) f r) (shifted s k)
+        → (result : Result (Rated PowerFigures))
+        → result ≡ answered (rating-of p f r b)
+        → (told : PowerRating) (answer work answer′ work′ : List ℕ)
+        → toldPower told ≡ figuresOf result
+        → LentAfter result answer work answer′ work′
+        → (a : PowerFigures) × (toldPower told ≡ answered a) × Returns g (a .degree) answer′
+    unfolding figuresOf mapResult answerAfter
+    power-returns f r b k x result e told answer work answer′ work′ c lent = (
+      rating-of p f r b .figures,
+      c ∙ ap figuresOf e,
+      subst (λ d. Returns g d answer′) (rating-degree p f r b)
+          (returned g (power (GF p) f r) answer answer′ (monic-nonempty (GF p) (power (GF p) f r) (x .monic))
+          (same-as-g (power (GF p) f r) k x)
+          (lent .answerBytes ∙ ap (λ y. answerAfter y answer) e ∙ ap (λ h. written h answer) (rating-polynomial p f r b))),
+    )
+
+    -- THE PORTION WAY
+    portion-way :
+        (f : Polynomial) (v : ℕ)
+        → fs ≡ f ∷ []
+        → named fs vs ≡ (f, v) ∷ []
+        → (k m : ℕ)
+        → totalDegree (named fs vs) ≤ m
+        → m ≤ 4096
+        → (answer work : List ℕ)
+        → T (acceptedLent (length answer) (length work))
+        → (r : PowerRating) (answer′ work′ : List ℕ)
+        → PortionCall p f v (cut s k m) answer work r answer′ work′
+        → (a : PowerFigures) × (toldPower r ≡ answered a) × Returns g (a .degree) answer′
+    portion-way f v e one k m d few answer work lent told answer′ work′ c =
+        let h = subst (λ (n : List (Polynomial × ℕ)). T (annihilatesKnown (GF p) (product (GF p) n) (cut s k m))) one (known-annihilated k m) in
+        let t = terms k m (le-trans total-positive d) few in
+        let x = one-factor p f (v ∷ []) (one-accepted f v e one) in
+        let size : v * degree f ≤ length (cut s k m) =
+        subst (λ n. n ≤ length (cut s k m)) (ap totalDegree one ∙ one-total f v) (enough k m d) in
+        let found = portion-found I f (x .monic) v (cut s k m) (t .inField) size in
+        let bound = bound-of f (found .0) in
+        power-returns f (found .0) (bound .0) k
+        (subst (MinimalPolynomial (GF p) (power (GF p) f (found .0)))
+        (ap (λ (n : List (Polynomial × ℕ)). onward (GF p) n (cut s k m)) (sym one) ∙ continued k m d)
+        (portion-minimal I f (x .monic) v (cut s k m) (t .inField) size (x .positive) (x .irreducibility) (found .1)))
+        (ratePortion p f v (cut s k m) (length answer) (length work))
+        (portion-answer p f v (cut s k m) (length answer) (length work) (found .0) (bound .0) (one-accepted f v e one) t lent
+        (subst (λ (n : List (Polynomial × ℕ)). totalDegree n ≤ length (cut s k m)) one (enough k m d)) h (found .1) (bound .1))
+        told answer work answer′ work′ (c .rating) (c .lent)
+
+    -- THE PERIOD WAY
+    period-way :
+        (f : Polynomial)
+        → fs ≡ f ∷ []
+        → (k n : ℕ)
+        → Period s n
+        → n ≤ 4096
+        → (answer work : List ℕ)
+        → T (acceptedLent (length answer) (length work))
+        → (r : PowerRating) (answer′ work′ : List ℕ)
+        → PeriodCall p f (cut s k n) answer work r answer′ work′
+        → (a : PowerFigures) × (toldPower r ≡ answered a) × Returns g (a .degree) answer′
+    period-way f e k n period few answer work lent told answer′ work′ c =
+        let one : T (acceptedFactors p (f ∷ []) vs) =
+        subst (λ (gs : List Polynomial). T (acceptedFactors p gs vs)) e accepted in
+        let x = one-factor p f vs one in
+        let t = terms k n (period .positive) few in
+        let same : periodic (cut s k n) ≡ shifted s k = fun-ext (periodic-cut s k n (period .positive) (period .repeats)) in
+        let v = getD vs 0 0 in
+        let whole : AnnihilatesEndless (GF p) (power (GF p) f v) s =
+        subst (λ (h : Polynomial). AnnihilatesEndless (GF p) h s)
+        (ap (λ (gs : List Polynomial). product (GF p) (named gs vs)) e
+        ∙ ap (product (GF p)) (named-one f vs)
+        ∙ product-single I f v (monic-nonempty (GF p) f (x .monic)))
+        annihilated in
+        let least =
+        leastPower-exists I f (periodic (cut s k n)) v (x .monic)
+        (subst (AnnihilatesEndless (GF p) (power (GF p) f v)) (sym same)
+        (λ j. actAt-shift (GF p) (power (GF p) f v) s k j ∙ whole (k + j))) in
+        let found =
+        least-periodPower I f (x .monic) (x .positive) (x .irreducibility) (cut s k n) (t .some) (least .2) in
+        let bound = bound-of f (least .0) in
+        power-returns f (least .0) (bound .0) k
+        (subst (MinimalPolynomial (GF p) (power (GF p) f (least .0))) same
+        (periodPower-minimal I f (x .monic) (x .positive) (x .irreducibility) (cut s k n) (t .some) found))
+        (ratePeriod p f (cut s k n) (length answer) (length work))
+        (period-answer p f (cut s k n) (length answer) (length work) (least .0) (bound .0) vs one t lent found (bound .1))
+        told answer work answer′ work′ (c .rating) (c .lent)
+
+    -- THE FREE WAY
+    free-way :
+        (k m : ℕ)
+        → 2 * degree g ≤ m
+        → 1 ≤ m
+        → m ≤ 4096
+        → (answer work : List ℕ)
+        → T (acceptedLent (length answer) (length work))
+        → (pick : Choice) (r : FreeRating) (answer′ work′ : List ℕ)
+        → FreeCall pick p (cut s k m) answer work r answer′ work′
+        → (a : FreeFigures) × (toldFree r ≡ answered a) × Returns g (a .degree) answer′
+    unfolding figuresOf mapResult answerAfter
+    free-way k m twice least few answer work lent pick told answer′ work′ c =
+        let t = terms k m least few in
+        let result =
+        stretch-answer p (product (GF p) l) g s annihilated (product-elements I l) constant minimal k m twice
+        (length answer) (length work) pick
+        (accepts-free p (cut s k m) (length answer) (length work) (accepted-prime p fs vs accepted) (t .some) (t .notMany)
+        (t .inField) lent) in (
+          record { degree = degree g; unique = true },
+          c .rating ∙ ap figuresOf result,
+          returned g g answer answer′ (monic-nonempty (GF p) g (minimal .monic)) refl
+              (c .lent .answerBytes ∙ ap (λ y. answerAfter y answer) result),
+        )
+
+    pub cut-anywhere : CutAnywhere p fs vs s
+    cut-anywhere =
+        record {
+          g = g;
+          minimal = minimal;
+          set-way = set-way;
+          portion-way = portion-way;
+          period-way = period-way;
+          free-way = free-way;
+        }
