@@ -1,0 +1,4 @@
+pub mod Word
+pub mod Trial
+pub mod Binary
+pub mod Lanes
