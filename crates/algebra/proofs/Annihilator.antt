@@ -23,7 +23,7 @@ use native.Mathlib.Nat as ℕ
 use native.Mathlib.Omega.{arith}
 use Rattle.algebra.proofs.Ring.{Ring, Field}
 use Rattle.algebra.proofs.Solver.{solve, _:=_, _:+_, _:*_, :-_, :1}
-use Rattle.algebra.proofs.Ideal.{Ideal, Divides, Coprime, Generator, coprime-member}
+use Rattle.algebra.proofs.Ideal.{Ideal, Divides, Coprime, Generator, coprime-whole}
 use Rattle.algebra.proofs.Polynomial.{Polynomial, Below, polynomials, constant}
 use Rattle.algebra.proofs.Monic.{
   Monic,
@@ -105,11 +105,7 @@ module _ {K : Type 0} {R : Ring K} {D : Discrete K} where
       → Kills s h
       → (i : ℕ)
       → s i ≡ 0#
-  coprime-kills {s} {g} {h} p y z =
-      kills-one s .0 (coprime-member (polynomials R D) (kills-ideal s) p (times-one g y) (times-one h z))
-    where
-      times-one : (f : Polynomial R D) → Kills s f → Kills s (f ⊠ 1ₚ)
-      times-one f = subst (Kills s) (sym (polynomials R D .mul-one f))
+  coprime-kills {s} p y z = kills-one s .0 (coprime-whole (polynomials R D) (kills-ideal s) p y z)
 
   -- Lemma 5 of document 001, and its converse.
   pub kills-part :

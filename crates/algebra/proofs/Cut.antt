@@ -14,7 +14,7 @@
 -- with a period may be cut anywhere.
 -- Assumes nothing.
 use mathlib.Core.Path.{_≡_, refl, sym, ap, ap₂, _∙_}
-use mathlib.Core.Logic.{_↔_}
+use mathlib.Core.Logic.{inl, inr, _↔_}
 use Prim.Native.Nat.{ℕ, zero, suc, _+_, _*_, _/_, _%_, _<_}
 use native.Mathlib.Nat as ℕ
 use native.Mathlib.Omega.{arith}
@@ -49,6 +49,8 @@ use Rattle.algebra.proofs.Action.{
   Kills,
 }
 use Rattle.algebra.proofs.Annihilator.{kills-ideal, Minimal}
+use Rattle.algebra.proofs.Division.{x-divides-constant}
+use Rattle.algebra.proofs.Irreducible.{irreducible-atom, irreducible-x}
 use Rattle.algebra.proofs.Derivative.{unity}
 
 -- In any ring, x is coprime to x^n − 1 for n above 0.
@@ -83,54 +85,13 @@ module _ {K : Type 0} {R : Ring K} {D : Discrete K} where
 
 -- Where x does not divide some annihilator.
 module _ {K : Type 0} {R : Ring K} {D : Discrete K} (F : Field R) where
-  open Ring R using (0#, 1#, _⊗_, add-zero)
-  open Ring (polynomials R D) using (0# as 0ₚ, 1# as 1ₚ, _⊕_ as _⊞_, _⊗_ as _⊠_, ⊖_ as ⊟_)
-  open Field F using (inverse)
-
-  infixl 60 _⊞_
-  infixl 70 _⊗_ _⊠_
-  infix 80 ⊟_
-  coefficient-cons-zero : (a : K) (f : Polynomial R D) → coefficient (constant R D a ⊞ X R D ⊠ f) 0 ≡ a
-  coefficient-cons-zero a f =
-      coefficient-add (constant R D a) (X R D ⊠ f) 0
-      ∙ ap₂ (R ._⊕_) (coefficient-constant-zero R D a) (coefficient-x-mul-zero f)
-      ∙ add-zero a
-
-  constant-unit : (a : K) → ¬ (a ≡ 0#) → constant R D (inverse a) ⊠ constant R D a ≡ 1ₚ
-  constant-unit a h =
-      sym (constant-polynomial-hom R D .mul (inverse a) a)
-      ∙ ap (constant R D) (inverse-mul F a h)
-      ∙ constant-polynomial-hom R D .one
+  open Ring R using (0#)
 
   pub coprime-x : (f : Polynomial R D) → ¬ (coefficient f 0 ≡ 0#) → Coprime (polynomials R D) (X R D) f
-  coprime-x =
-      polynomial-induction
-      R
-      D
-      (λ f. ¬ (coefficient f 0 ≡ 0#) → Coprime (polynomials R D) (X R D) f)
-      (λ h. absurd (h (coefficient-zero R D 0)))
-      (λ a f _ h. step a f (λ z. h (coefficient-cons-zero a f ∙ z)))
-    where
-      step :
-          (a : K) (f : Polynomial R D)
-          → ¬ (a ≡ 0#)
-          → Coprime (polynomials R D) (X R D) (constant R D a ⊞ X R D ⊠ f)
-      step a f h =
-          record {
-            left = ⊟ (constant R D (inverse a) ⊠ f);
-            right = constant R D (inverse a);
-            bezout =
-                solve
-                (polynomials R D)
-                4
-                (λ x a b f. :- (b :* f) :* x :+ b :* (a :+ x :* f) := b :* a)
-                refl
-                (X R D)
-                (constant R D a)
-                (constant R D (inverse a))
-                f
-                ∙ constant-unit a h;
-          }
+  coprime-x f h = elim (irreducible-atom F (irreducible-x (F .one-nonzero)) f) [
+    | inl d ↦ absurd (h (x-divides-constant d))
+    | inr p ↦ p
+  ]
 
 -- The same annihilators and the same minimal polynomial from any place on.
 module _
@@ -181,9 +142,28 @@ module _ {K : Type 0} {s : ℕ → K} (n : ℕ) (periodic : Periodic s n) where
   pub periodic-remainder : (i : ℕ) → s (i % n) ≡ s i
   periodic-remainder i = sym (periodic-multiple (i % n) (i / n)) ∙ ap s (ℕ.mod-add-div' i n)
 
-  -- What holds at the places of one period holds everywhere.
-  pub periodic-all : (a : K) → 0 < n → ((i : ℕ) → i < n → s i ≡ a) → (i : ℕ) → s i ≡ a
-  periodic-all a l h i = sym (periodic-remainder i) ∙ h (i % n) (ℕ.mod-lt i l)
+-- Sequences with the same period and the same terms at its places are equal.
+pub periodic-equal :
+    {K : Type 0} {s t : ℕ → K} (n : ℕ)
+    → 0 < n
+    → Periodic s n
+    → Periodic t n
+    → Agree n s t
+    → (i : ℕ)
+    → s i ≡ t i
+periodic-equal n l h k a i =
+    sym (periodic-remainder n h i) ∙ a (i % n) (ℕ.mod-lt i l) ∙ periodic-remainder n k i
+
+-- What holds at the places of one period holds everywhere.
+pub periodic-all :
+    {K : Type 0} {s : ℕ → K} (n : ℕ)
+    → Periodic s n
+    → (a : K)
+    → 0 < n
+    → ((i : ℕ) → i < n → s i ≡ a)
+    → (i : ℕ)
+    → s i ≡ a
+periodic-all n h a l = periodic-equal n l h (λ _. refl)
 
 module _ {K : Type 0} {R : Ring K} {D : Discrete K} where
   open Ring R using (0#, 1#, _⊕_, ⊖_)

@@ -37,7 +37,7 @@ use Rattle.algebra.proofs.Multiple.{
   hom-numeral,
 }
 use Rattle.algebra.proofs.Power.{power, power-zero, power-suc-left}
-use Rattle.algebra.proofs.Ideal.{Divides, Coprime, divides-trans, divides-product, coprime-member}
+use Rattle.algebra.proofs.Ideal.{Divides, Coprime, divides-trans, divides-product, coprime-whole}
 use Rattle.algebra.proofs.Ideal.{multiples-ideal}
 use Rattle.algebra.proofs.Series.{coefficient-list}
 use Rattle.algebra.proofs.Polynomial.{
@@ -150,13 +150,13 @@ module _ {K : Type 0} {R : Ring K} {d : K → K} (δ : Derivation R d) where
       }
 
   pub derivation-squarefree : {t : K} → Coprime R t (d t) → Squarefree R t
-  derivation-squarefree {t} p f e =
-      coprime-member
+  derivation-squarefree p f e =
+      coprime-whole
       R
       (multiples-ideal R f)
       p
-      (divides-trans R (divides-product R f f) (divides-trans R e (divides-product R t 1#)))
-      (divides-trans R (divides-derivation e) (divides-product R (d t) 1#))
+      (divides-trans R (divides-product R f f) e)
+      (divides-derivation e)
 
   -- The derivative of x^n − 1, where that of x is 1.
   module _ {x : K} (x-one : d x ≡ 1#) where

@@ -42,7 +42,8 @@ use Rattle.algebra.proofs.Polynomial.{
   coefficient-constant-suc,
   coefficient-constant-zero,
   coefficient-x-mul-zero,
-  coefficient-x-mul-suc,
+  coefficient-cons-zero,
+  coefficient-cons-suc,
   constant,
   constant-polynomial-hom,
   scale,
@@ -54,6 +55,7 @@ use Rattle.algebra.proofs.Monic.{
   Degree,
   Monic,
   Nontrivial,
+  below-step,
   below-add,
   below-neg,
   below-scale,
@@ -109,40 +111,33 @@ module _ {K : Type 0} {R : Ring K} {D : Discrete K} where
     pub equation : f ≡ quotient ⊠ g ⊞ remainder
     pub small : Below remainder n
 
-  below-next : (a : K) {r : Polynomial R D} {n : ℕ} → Below r n → Below (constant R D a ⊞ X R D ⊠ r) (suc n)
-  below-next a {r} {n} b =
-      record { above = elim [ zero ↦ λ l. absurd (ℕ.not-suc-le-zero l) | suc i ↦ at-suc i ] }
-    where
-      at-suc : (i : ℕ) → suc n ≤ suc i → coefficient (constant R D a ⊞ X R D ⊠ r) (suc i) ≡ 0#
-      at-suc i l =
-          coefficient-add (constant R D a) (X R D ⊠ r) (suc i)
-          ∙ ap₂
-          _⊕_
-          (coefficient-constant-suc R D a i)
-          (coefficient-x-mul-suc r i ∙ b .above i (ℕ.le-of-suc-le-suc l))
-          ∙ add-zero 0#
+  pub below-cons :
+      (a : K) {r : Polynomial R D} {n : ℕ} → Below r n → Below (constant R D a ⊞ X R D ⊠ r) (suc n)
+  below-cons a {r} {n} b = record {
+    above = elim [
+      | zero ↦ λ l. absurd (ℕ.not-suc-le-zero l)
+      | suc i ↦ λ l. coefficient-cons-suc a r i ∙ b .above i (ℕ.le-of-suc-le-suc l)
+    ];
+  }
 
   reduce-top :
       {g t : Polynomial R D} {n : ℕ}
       → Monic g n
       → Below t (suc n)
       → Below (t ⊞ ⊟ (scale (coefficient t n) g)) n
-  reduce-top {g} {t} {n} m b = record { above = λ i l. go i (ℕ.eq-or-lt-of-le l) }
-    where
-      top : coefficient (t ⊞ ⊟ (scale (coefficient t n) g)) n ≡ 0#
-      top =
-          coefficient-add t (⊟ (scale (coefficient t n) g)) n
-          ∙ ap
-          (_⊕_ (coefficient t n))
-          (
-          coefficient-neg (scale (coefficient t n) g) n
-          ∙ ap ⊖_ (coefficient-scale _ g n ∙ ap (_⊗_ (coefficient t n)) (m .leading) ∙ mul-one _)
-          )
-          ∙ add-neg (coefficient t n)
-
-      go : (i : ℕ) → (n ≡ i) ⊎ (n < i) → coefficient (t ⊞ ⊟ (scale (coefficient t n) g)) i ≡ 0#
-      go i (inl e) = ap (coefficient (t ⊞ ⊟ (scale (coefficient t n) g))) (sym e) ∙ top
-      go i (inr l) = below-add b (below-neg (below-scale (coefficient t n) (m .below))) .above i l
+  reduce-top {g} {t} {n} m b =
+      below-step
+      (below-add b (below-neg (below-scale (coefficient t n) (m .below))))
+      (
+      coefficient-add t (⊟ (scale (coefficient t n) g)) n
+      ∙ ap
+      (_⊕_ (coefficient t n))
+      (
+      coefficient-neg (scale (coefficient t n) g) n
+      ∙ ap ⊖_ (coefficient-scale _ g n ∙ ap (_⊗_ (coefficient t n)) (m .leading) ∙ mul-one _)
+      )
+      ∙ add-neg (coefficient t n)
+      )
 
   pub divide : {g : Polynomial R D} {n : ℕ} → Monic g n → (f : Polynomial R D) → Division g f n
   divide {g} {n} m = polynomial-induction R D (λ f. Division g f n) base step
@@ -165,7 +160,7 @@ module _ {K : Type 0} {R : Ring K} {D : Discrete K} where
             equation =
                 ap (λ u. constant R D a ⊞ X R D ⊠ u) (d .equation)
                 ∙ divide-step (polynomials R D) (constant R D a) (X R D) (d .quotient) g (d .remainder) _;
-            small = reduce-top m (below-next a (d .small));
+            small = reduce-top m (below-cons a (d .small));
           }
 
   -- Uniqueness: a multiple of g below the degree of g is 0.
@@ -325,12 +320,6 @@ module _ {K : Type 0} {R : Ring K} {D : Discrete K} where
 
   infixl 60 _⊕_ _⊞_
   infixl 70 _⊠_
-  coefficient-next : (a : K) (f : Polynomial R D) → coefficient (constant R D a ⊞ X R D ⊠ f) 0 ≡ a
-  coefficient-next a f =
-      coefficient-add (constant R D a) (X R D ⊠ f) 0
-      ∙ ap₂ _⊕_ (coefficient-constant-zero R D a) (coefficient-x-mul-zero f)
-      ∙ add-zero a
-
   pub divide-x :
       (f : Polynomial R D)
       → (g : Polynomial R D) × (f ≡ constant R D (coefficient f 0) ⊞ X R D ⊠ g)
@@ -348,7 +337,7 @@ module _ {K : Type 0} {R : Ring K} {D : Discrete K} where
           (a : K) (f : Polynomial R D)
           → constant R D a ⊞ X R D ⊠ f
           ≡ constant R D (coefficient (constant R D a ⊞ X R D ⊠ f) 0) ⊞ X R D ⊠ f
-      at-next a f = ap (λ c. constant R D c ⊞ X R D ⊠ f) (sym (coefficient-next a f))
+      at-next a f = ap (λ c. constant R D c ⊞ X R D ⊠ f) (sym (coefficient-cons-zero a f))
 
   pub x-divides : (f : Polynomial R D) → coefficient f 0 ≡ 0# → Divides (polynomials R D) (X R D) f
   x-divides f z =

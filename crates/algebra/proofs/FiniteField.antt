@@ -33,11 +33,8 @@ use Rattle.algebra.proofs.Polynomial.{
   polynomial-discrete,
   polynomial-induction,
   coefficient,
-  coefficient-add,
-  coefficient-constant-zero,
-  coefficient-constant-suc,
-  coefficient-x-mul-zero,
-  coefficient-x-mul-suc,
+  coefficient-cons-zero,
+  coefficient-cons-suc,
   constant,
   constant-polynomial-hom,
   X,
@@ -45,7 +42,7 @@ use Rattle.algebra.proofs.Polynomial.{
   below-zero,
 }
 use Rattle.algebra.proofs.Monic.{Monic, below-of-zero, below-add, below-neg, monic-one, monic-degree}
-use Rattle.algebra.proofs.Division.{divide, divides-below, divisor-degree}
+use Rattle.algebra.proofs.Division.{divide, divide-x, below-cons, divides-below, divisor-degree}
 use Rattle.algebra.proofs.Derivative.{unity}
 use Rattle.algebra.proofs.Irreducible.{Irreducible, irreducible-atom}
 use Rattle.algebra.proofs.Residues.{Residues, PrimeIdeal, atom-prime, residue-power}
@@ -88,56 +85,36 @@ module _ {K : Type 0} (R : Ring K) (D : Discrete K) where
   attach : K × Polynomial R D → Polynomial R D
   attach e = constant R D (e .0) ⊞ X R D ⊠ e .1
 
-  attach-first : (a : K) (f : Polynomial R D) → coefficient (attach (a, f)) 0 ≡ a
-  unfolding attach
-  attach-first a f =
-      coefficient-add (constant R D a) (X R D ⊠ f) 0
-      ∙ ap₂ _⊕_ (coefficient-constant-zero R D a) (coefficient-x-mul-zero f)
-      ∙ add-zero a
-
-  attach-rest : (a : K) (f : Polynomial R D) (n : ℕ) → coefficient (attach (a, f)) (suc n) ≡ coefficient f n
-  unfolding attach
-  attach-rest a f n =
-      coefficient-add (constant R D a) (X R D ⊠ f) (suc n)
-      ∙ ap₂ _⊕_ (coefficient-constant-suc R D a n) (coefficient-x-mul-suc f n)
-      ∙ zero-add R (coefficient f n)
-
   detach : (f : Polynomial R D) → (e : K × Polynomial R D) × (attach e ≡ f)
   unfolding attach
-  detach =
-      polynomial-induction R D (λ f. (e : K × Polynomial R D) × (attach e ≡ f))
-      ((0#, 0ₚ), zero)
-      (λ a f _. ((a, f), refl))
-    where
-      zero : constant R D 0# ⊞ X R D ⊠ 0ₚ ≡ 0ₚ
-      zero =
-          rw (constant-polynomial-hom R D .zero)
-          (solve (polynomials R D) 1 (λ x. :0 :+ x :* :0 := :0) refl (X R D))
+  detach f = let (g, e) = divide-x f in ((coefficient f 0, g), sym e)
 
   attach-injective : (e e′ : K × Polynomial R D) → attach e ≡ attach e′ → e ≡ e′
+  unfolding attach
   attach-injective e e′ p = λ i. (first i, rest i)
     where
       first : e .0 ≡ e′ .0
-      first = sym (attach-first (e .0) (e .1)) ∙ ap (λ f. coefficient f 0) p ∙ attach-first (e′ .0) (e′ .1)
+      first =
+          sym (coefficient-cons-zero (e .0) (e .1))
+          ∙ ap (λ f. coefficient f 0) p
+          ∙ coefficient-cons-zero (e′ .0) (e′ .1)
 
       rest : e .1 ≡ e′ .1
       rest =
           polynomial-ext
           (
           λ n.
-          sym (attach-rest (e .0) (e .1) n)
+          sym (coefficient-cons-suc (e .0) (e .1) n)
           ∙ ap (λ f. coefficient f (suc n)) p
-          ∙ attach-rest (e′ .0) (e′ .1) n
+          ∙ coefficient-cons-suc (e′ .0) (e′ .1) n
           )
 
   attach-below : (a : K) {f : Polynomial R D} {n : ℕ} → Below f n ↔ Below (attach (a, f)) (suc n)
+  unfolding attach
   attach-below a {f} {n} = (
-    λ b. record { above = elim [ zero ↦ λ l. absurd (ℕ.not-suc-le-zero l) | suc i ↦ at-suc b i ] },
-    λ b. record { above = λ i l. sym (attach-rest a f i) ∙ b .above (suc i) (suc-le-suc l) },
+    below-cons a,
+    λ b. record { above = λ i l. sym (coefficient-cons-suc a f i) ∙ b .above (suc i) (suc-le-suc l) },
   )
-    where
-      at-suc : Below f n → (i : ℕ) → suc n ≤ suc i → coefficient (attach (a, f)) (suc i) ≡ 0#
-      at-suc b i l = attach-rest a f i ∙ b .above i (ℕ.le-of-suc-le-suc l)
 
   below-prop : (f : Polynomial R D) (n : ℕ) → IsProp (Below f n)
   below-prop f n b c = λ i. record { above = λ j l. R .isSet _ _ (b .above j l) (c .above j l) i }

@@ -17,7 +17,7 @@
 use mathlib.Core.Path.{_≡_, refl, sym, ap, ap₂, subst⁻¹, _∙_}
 use mathlib.Core.Logic.{_⊎_, inl, inr}
 use Prim.Native.Nat.{ℕ, zero, suc, _≤_}
-use Rattle.algebra.proofs.Power.{power, power-zero, power-suc, power-split}
+use Rattle.algebra.proofs.Power.{power, power-zero, power-suc, power-split, power-mul}
 use Rattle.algebra.proofs.Solver.{solve, _:=_, _:+_, _:*_}
 use Rattle.algebra.proofs.Ring.{Ring, zero-add, one-mul, zero-mul, add-mul}
 use Rattle.algebra.proofs.Ring.{mul-zero, mul-left-comm, mul-mul-comm}
@@ -80,6 +80,12 @@ module _ {K : Type 0} (R : Ring K) where
   pub divides-power : (a : K) {m n : ℕ} → m ≤ n → Divides (power R a m) (power R a n)
   divides-power a l = record { quotient = _; equation = power-split R a l }
 
+  pub divides-powers : {a b : K} (n : ℕ) → Divides a b → Divides (power R a n) (power R b n)
+  divides-powers {a} n d = record {
+    quotient = power R (d .quotient) n;
+    equation = ap (λ x. power R x n) (d .equation) ∙ power-mul R (d .quotient) a n;
+  }
+
   pub multiples-ideal : (a : K) → Ideal (Divides a)
   multiples-ideal a = record {
     has-zero = record { quotient = 0#; equation = sym (zero-mul R a) };
@@ -116,6 +122,10 @@ module _ {K : Type 0} (R : Ring K) where
 
     pub coprime-member : {a b c : K} → Coprime a b → I (a ⊗ c) → I (b ⊗ c) → I c
     coprime-member {c = c} p m n = subst⁻¹ I (bezout-split p c) (sum (multiple _ m) (multiple _ n))
+
+    -- An ideal that holds coprime elements is the whole ring.
+    pub coprime-whole : {a b : K} → Coprime a b → I a → I b → I 1#
+    coprime-whole p m n = coprime-member p (rw mul-one m) (rw mul-one n)
 
   -- Coprime elements
   pub coprime-sym : {a b : K} → Coprime a b → Coprime b a

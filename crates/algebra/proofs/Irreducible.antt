@@ -247,13 +247,22 @@ module _ {K : Type 0} {R : Ring K} {D : Discrete K} (nontrivial : Nontrivial R) 
   pub irreducible-x : Irreducible (X R D) 1
   irreducible-x = irreducible-linear (monic-x R D)
 
-  pub irreducible-x-divides :
-      {f : Polynomial R D} {n : ℕ} → Irreducible f n → Divides (polynomials R D) (X R D) f → f ≡ X R D
-  irreducible-x-divides i d = irreducible-divisor i (irreducible-factor irreducible-x d)
+  -- An irreducible polynomial that divides another one is that one.
+  pub irreducibles-equal :
+      {f g : Polynomial R D} {m n : ℕ}
+      → Irreducible f m
+      → Irreducible g n
+      → Divides (polynomials R D) f g
+      → g ≡ f
+  irreducibles-equal i j d = irreducible-divisor j (irreducible-factor i d)
+
+  pub irreducible-not-divides-x :
+      {f : Polynomial R D} {n : ℕ} → Irreducible f n → ¬ (f ≡ X R D) → ¬ Divides (polynomials R D) f (X R D)
+  irreducible-not-divides-x i h d = h (sym (irreducibles-equal i irreducible-x d))
 
   pub irreducible-constant-term :
       {f : Polynomial R D} {n : ℕ} → Irreducible f n → ¬ (f ≡ X R D) → ¬ (coefficient f 0 ≡ 0#)
-  irreducible-constant-term {f} i h z = h (irreducible-x-divides i (x-divides f z))
+  irreducible-constant-term {f} i h z = h (irreducibles-equal irreducible-x i (x-divides f z))
 
 -- Over a field.
 module _ {K : Type 0} {R : Ring K} {D : Discrete K} (F : Field R) where
@@ -350,7 +359,7 @@ module _ {K : Type 0} {R : Ring K} {D : Discrete K} (F : Field R) where
       → ¬ (f ≡ g)
       → Coprime (polynomials R D) f g
   irreducibles-coprime {g = g} i j h = elim (irreducible-atom i g) [
-    | inl d ↦ absurd (h (sym (irreducible-divisor (F .one-nonzero) j (irreducible-factor i d))))
+    | inl d ↦ absurd (h (sym (irreducibles-equal (F .one-nonzero) i j d)))
     | inr p ↦ p
   ]
 

@@ -27,6 +27,7 @@ use native.Mathlib.Decide.{decLt}
 use native.Mathlib.Omega.{arith}
 use Rattle.algebra.proofs.Ring.{Ring, Field}
 use Rattle.algebra.proofs.Ring.{zero-add, one-mul, mul-zero, sub-zero-of-eq, inverse-mul}
+use Rattle.algebra.proofs.Ring.{add-left-cancel, neg-injective, neg-zero}
 use Rattle.algebra.proofs.Power.{power, power-zero, power-suc-left}
 use Rattle.algebra.proofs.Polynomial.{
   Polynomial,
@@ -350,19 +351,49 @@ module _ {K : Type 0} {R : Ring K} {D : Discrete K} (F : Field R) where
                 monic = changed-monic l;
                 vanishes = λ k o. changed-vanishes l k o (decLt (suc k) L);
               };
-              least = λ h i y. omega (arith, massey-bound (x .shortest .fits) different y);
+              least =
+                  λ h i y.
+                  omega
+                  (arith, massey-bound (x .shortest .fits) (not-fits-suc (x .short) different) y);
             };
             short = omega arith;
-            earlier = record {
-              small = below-weaken (x .shortest .fits .monic .below) (omega (arith, x .short));
-              nonzero = nonzero;
-              zeros = λ k o. x .shortest .fits .vanishes k (omega arith);
-              last = λ k o. discrepancy-at f L t k (omega (arith, x .short)) ∙ e;
-            };
+            earlier =
+                subst
+                (λ b. Earlier f (suc n - L) (suc n) b t)
+                e
+                (earlier-of-fits (x .shortest .fits) different (omega (arith, x .short)) (ℕ.le-refl (suc n)));
           }
         where
-          different : ¬ Fits f L (suc n) t
-          different = not-fits-suc (x .short) (λ z. nonzero (sym e ∙ z))
+          different : ¬ (discrepancy f L n t ≡ 0#)
+          different z = nonzero (sym e ∙ z)
+
+  -- Where 2L > n another polynomial of degree L fits.
+  pub fits-another :
+      {f g : Polynomial R D} {L n : ℕ} {b : K} {t : ℕ → K}
+      → State f g L b n t
+      → n < 2 * L
+      → Fits (f ⊞ ⊟ (scale 1# g)) L n t × ¬ (f ⊞ ⊟ (scale 1# g) ≡ f)
+  fits-another {f} {g} {L} {n} {b} {t} x l = (
+    record {
+      monic = monic-correct 1# (x .shortest .fits .monic) (below-weaken (x .earlier .small) (omega arith));
+      vanishes =
+          λ k o.
+          correct-zero f g 1# t k (x .shortest .fits .vanishes k o) (x .earlier .zeros k (omega arith));
+    },
+    λ e. x .earlier .nonzero (different e),
+  )
+    where
+      different : f ⊞ ⊟ (scale 1# g) ≡ f → b ≡ 0#
+      different e =
+          sym (one-mul R b)
+          ∙ ap (_⊗_ 1#) (sym (x .earlier .last (L - 1) (omega arith)))
+          ∙ neg-injective R (add-left-cancel R (act f t (L - 1)) both)
+        where
+          both : act f t (L - 1) ⊕ ⊖ (1# ⊗ act g t (L - 1)) ≡ act f t (L - 1) ⊕ ⊖ 0#
+          both =
+              sym (act-correct f g 1# t (L - 1))
+              ∙ ap (λ h. act h t (L - 1)) e
+              ∙ sym (ap (_⊕_ (act f t (L - 1))) (neg-zero R) ∙ add-zero (act f t (L - 1)))
 
   -- The start: no term is known.
   pub start : (t : ℕ → K) → State 1ₚ 0ₚ 0 1# 0 t

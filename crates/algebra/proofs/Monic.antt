@@ -159,7 +159,7 @@ module _ {K : Type 0} {R : Ring K} {D : Discrete K} where
   degree-nonzero {n = n} d e = d .leading (ap (λ p. coefficient p n) e ∙ coefficient-zero R D n)
 
   -- Going down from a bound to the first coefficient that is not 0.
-  below-step : {f : Polynomial R D} {n : ℕ} → Below f (suc n) → coefficient f n ≡ 0# → Below f n
+  pub below-step : {f : Polynomial R D} {n : ℕ} → Below f (suc n) → coefficient f n ≡ 0# → Below f n
   below-step {f} {n} b z = record { above = λ i l. go i (ℕ.eq-or-lt-of-le l) }
     where
       go : (i : ℕ) → (n ≡ i) ⊎ (n < i) → coefficient f i ≡ 0#

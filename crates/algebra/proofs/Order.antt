@@ -22,23 +22,18 @@ use native.Mathlib.Decide.{decLt}
 use native.Mathlib.Omega.{arith}
 use Rattle.algebra.proofs.Number.{Least, least-below, prime-power-pos}
 use Rattle.algebra.proofs.Ring.{Ring, Field}
-use Rattle.algebra.proofs.Power.{power, power-zero, power-mul}
+use Rattle.algebra.proofs.Power.{power, power-zero}
 use Rattle.algebra.proofs.Characteristic.{Characteristic}
-use Rattle.algebra.proofs.Ideal.{Divides, divides-power, divides-trans, divides-member}
+use Rattle.algebra.proofs.Ideal.{Divides, divides-power, divides-powers, divides-trans, divides-member}
 use Rattle.algebra.proofs.Polynomial.{Polynomial, polynomials, X}
 use Rattle.algebra.proofs.Monic.{Nontrivial}
 use Rattle.algebra.proofs.Frobenius.{polynomial-characteristic}
 use Rattle.algebra.proofs.Derivative.{unity}
 use Rattle.algebra.proofs.Period.{unity-power}
-use Rattle.algebra.proofs.Irreducible.{
-  Irreducible,
-  irreducible-factor,
-  irreducible-divisor,
-  irreducible-x,
-}
+use Rattle.algebra.proofs.Irreducible.{Irreducible, irreducible-not-divides-x}
 use Rattle.algebra.proofs.Action.{Agree, agree-decided, Kills}
 use Rattle.algebra.proofs.Annihilator.{kills-ideal, kills-one}
-use Rattle.algebra.proofs.Cut.{Periodic, periodic-kills, periodic-multiple, periodic-remainder}
+use Rattle.algebra.proofs.Cut.{Periodic, periodic-kills, periodic-multiple, periodic-equal}
 use Rattle.algebra.proofs.FiniteField.{Elements, residues-two, irreducible-power}
 
 -- Least periods
@@ -48,11 +43,7 @@ LeastPeriod s = Least (λ n. (0 < n) × Periodic s n)
 module _ {K : Type 0} {s : ℕ → K} where
   -- The terms of one period tell whether s repeats every n terms
   periodic-agree : (m n : ℕ) → 0 < m → Periodic s m → Agree m (λ i. s (i + n)) s → Periodic s n
-  periodic-agree m n l h a i =
-      sym (periodic-remainder m shifted i) ∙ a (i % m) (ℕ.mod-lt i l) ∙ periodic-remainder m h i
-    where
-      shifted : Periodic (λ i. s (i + n)) m
-      shifted i = ap s (omega arith) ∙ h (i + n)
+  periodic-agree m n l h = periodic-equal m l (λ i. ap s (omega arith) ∙ h (i + n)) h
 
   pub periodic-decided : Discrete K → (m : ℕ) → 0 < m → Periodic s m → (n : ℕ) → Dec (Periodic s n)
   periodic-decided D m l h n = elim (agree-decided D m (λ i. s (i + n)) s) [
@@ -81,31 +72,13 @@ module _ {K : Type 0} {s : ℕ → K} where
   }
 
 -- The order of h and of x modulo f and its powers
-divides-powers :
-    {K : Type 0} (R : Ring K) {a b : K} (n : ℕ)
-    → Divides R a b
-    → Divides R (power R a n) (power R b n)
-divides-powers R {a} n d = record {
-  quotient = power R (d .quotient) n;
-  equation = ap (λ x. power R x n) (d .equation) ∙ power-mul R (d .quotient) a n;
-}
-
-x-outside :
-    {K : Type 0} {R : Ring K} {D : Discrete K} {f : Polynomial R D} {d : ℕ}
-    → Nontrivial R
-    → Irreducible f d
-    → ¬ (f ≡ X R D)
-    → ¬ Divides (polynomials R D) f (X R D)
-x-outside nontrivial i k e =
-    k (sym (irreducible-divisor nontrivial (irreducible-x nontrivial) (irreducible-factor i e)))
-
 module _ {K : Type 0} {R : Ring K} {D : Discrete K} {q : ℕ} (F : Field R) (E : Elements K q) where
   pub x-order :
       {f : Polynomial R D} {d : ℕ}
       → Irreducible f d
       → ¬ (f ≡ X R D)
       → Divides (polynomials R D) f (unity (polynomials R D) (X R D) (q ^ d - 1))
-  x-order i k = irreducible-power F E i (x-outside (F .one-nonzero) i k)
+  x-order i k = irreducible-power F E i (irreducible-not-divides-x (F .one-nonzero) i k)
 
 module _ {K : Type 0} {R : Ring K} {D : Discrete K} {p q : ℕ}
     (F : Field R) (C : Characteristic R p) (E : Elements K q) where
@@ -136,7 +109,7 @@ module _ {K : Type 0} {R : Ring K} {D : Discrete K} {p q : ℕ}
       (polynomials R D)
       (power (polynomials R D) f r)
       (unity (polynomials R D) (X R D) (p ^ t * (q ^ d - 1)))
-  x-power-order t i k = irreducible-power-order t i (x-outside (F .one-nonzero) i k)
+  x-power-order t i k = irreducible-power-order t i (irreducible-not-divides-x (F .one-nonzero) i k)
 
   pub repeat-bound :
       {f : Polynomial R D} {s : ℕ → K} {d r : ℕ} (t : ℕ)

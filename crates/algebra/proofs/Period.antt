@@ -28,21 +28,22 @@ use Rattle.algebra.proofs.Number.{prime-inverse, prime-power-pos, split
 use Rattle.algebra.proofs.Ring.{Ring, Field}
 use Rattle.algebra.proofs.Multiple.{numeral, numeral-mul, numeral-one}
 use Rattle.algebra.proofs.Characteristic.{Characteristic, numeral-mod}
-use Rattle.algebra.proofs.Power.{power, power-mul, power-power, power-unit, power-one}
+use Rattle.algebra.proofs.Power.{power, power-mul, power-power, power-of-one, power-one}
 use Rattle.algebra.proofs.Ideal.{
   Ideal,
   Divides,
   Coprime,
   Atom,
   divides-mul,
+  divides-powers,
   divides-refl,
   divides-member,
   one-member,
   coprime-member,
   coprime-power,
-  coprime-cancel,
+  coprime-whole,
   divides-trans,
-  divides-product,
+  multiples-ideal,
 }
 use Rattle.algebra.proofs.Polynomial.{
   Polynomial,
@@ -100,9 +101,8 @@ module _ {K : Type 0} (R : Ring K) {I : K → Type 0} (ideal : Ideal R I) {f : K
 
   infixl 60 _⊕_
   infixl 70 _⊗_
-  coprime-whole : {t : K} → Coprime R f t → (n e : ℕ) → I (power R t n) → I (power R f e) → I 1#
-  coprime-whole p n e a b =
-      coprime-member R ideal (coprime-power R p e n) (rw mul-one b) (rw mul-one a)
+  powers-whole : {t : K} → Coprime R f t → (n e : ℕ) → I (power R t n) → I (power R f e) → I 1#
+  powers-whole p n e a b = coprime-whole R ideal (coprime-power R p e n) b a
 
   -- t = q·f with q coprime to f.
   cofactor-lowers :
@@ -121,17 +121,12 @@ module _ {K : Type 0} (R : Ring K) {I : K → Type 0} (ideal : Ideal R I) {f : K
       (rw (← power-mul, ← d .equation) a)
 
   unit-whole : Divides R f 1# → (e : ℕ) → I (power R f e) → I 1#
-  unit-whole d e b =
-      divides-member
-      R
-      ideal
-      (record { quotient = power R (d .quotient) e; equation = sym (power-unit R e (sym (d .equation))) })
-      b
+  unit-whole d e b = divides-member R ideal (rw power-of-one at (divides-powers R e d)) b
 
   pub atom-power-lowers :
       {t : K} → Squarefree R t → (n e : ℕ) → I (power R t n) → I (power R f e) → I (power R f n)
   atom-power-lowers {t} free n e a b = elim (atom t) [
-    | inr p ↦ one-member R ideal (power R f n) (coprime-whole p n e a b)
+    | inr p ↦ one-member R ideal (power R f n) (powers-whole p n e a b)
     | inl d ↦ elim (atom (d .quotient)) [
       | inr p ↦ cofactor-lowers d p n e a b
       | inl c ↦
@@ -144,7 +139,7 @@ module _ {K : Type 0} (R : Ring K) {I : K → Type 0} (ideal : Ideal R I) {f : K
       ¬ I 1# → {t : K} (n e : ℕ) → I (power R t n) → I (power R f e) → Divides R f t
   atom-divides-base proper {t} n e a b = elim (atom t) [
     | inl d ↦ d
-    | inr p ↦ absurd (proper (coprime-whole p n e a b))
+    | inr p ↦ absurd (proper (powers-whole p n e a b))
   ]
 
 -- In a ring of characteristic p.
@@ -194,15 +189,12 @@ module _ {K : Type 0} (R : Ring K) (D : Discrete K) where
     where
       x-divides-one : Divides (polynomials R D) (X R D) 1ₚ
       x-divides-one =
-          coprime-cancel
+          coprime-whole
           (polynomials R D)
+          (multiples-ideal (polynomials R D) (X R D))
           (coprime-unity (polynomials R D) (X R D) n pos)
-          (
-          divides-trans
-          (polynomials R D)
+          (divides-refl (polynomials R D) (X R D))
           (divides-trans (polynomials R D) (x-divides f z) d)
-          (divides-product (polynomials R D) (unity (polynomials R D) (X R D) n) 1ₚ)
-          )
 
 -- Ideals of polynomials that contain x^N − 1.
 module _

@@ -26,7 +26,7 @@ use Prim.Native.Nat.{ℕ, zero, suc, _+_, _-_, _≤_, _<_, zero-le, suc-le-suc}
 use native.Mathlib.Nat as ℕ
 use native.Mathlib.Decide.{decLt}
 use native.Mathlib.Omega.{arith}
-use Rattle.algebra.proofs.Ring.{Ring, Hom, induced, induced-hom, hom}
+use Rattle.algebra.proofs.Ring.{Ring, Hom, induced, induced-hom, hom, zero-add}
 use Rattle.algebra.proofs.Power.{power, hom-power}
 use Rattle.algebra.proofs.Sum.{sum}
 use Rattle.algebra.proofs.Series.{
@@ -380,7 +380,7 @@ scale {R = R} {D = D} a f = (polynomials R D ._⊗_) (constant R D a) f
 
 -- Coefficients of sums, negatives, products, multiples and shifts.
 module _ {K : Type 0} {R : Ring K} {D : Discrete K} where
-  open Ring R using (0#, 1#, _⊕_, _⊗_, ⊖_)
+  open Ring R using (0#, 1#, _⊕_, _⊗_, ⊖_, add-zero)
   open Ring (polynomials R D) using (0# as 0ₚ, 1# as 1ₚ, _⊕_ as _⊞_, _⊗_ as _⊠_, ⊖_ as ⊟_)
 
   infixl 60 _⊕_ _⊞_
@@ -427,6 +427,22 @@ module _ {K : Type 0} {R : Ring K} {D : Discrete K} where
 
   pub coefficient-x-mul-suc : (f : Polynomial R D) (n : ℕ) → coefficient (X R D ⊠ f) (suc n) ≡ coefficient f n
   coefficient-x-mul-suc f n = at (suc n) (x-mul-coefficients f) ∙ shift-suc R (coefficient f) n
+
+  -- By the constant term and the rest.
+  pub coefficient-cons-zero :
+      (a : K) (f : Polynomial R D) → coefficient (constant R D a ⊞ X R D ⊠ f) 0 ≡ a
+  coefficient-cons-zero a f =
+      coefficient-add (constant R D a) (X R D ⊠ f) 0
+      ∙ ap₂ _⊕_ (coefficient-constant-zero R D a) (coefficient-x-mul-zero f)
+      ∙ add-zero a
+
+  pub coefficient-cons-suc :
+      (a : K) (f : Polynomial R D) (n : ℕ)
+      → coefficient (constant R D a ⊞ X R D ⊠ f) (suc n) ≡ coefficient f n
+  coefficient-cons-suc a f n =
+      coefficient-add (constant R D a) (X R D ⊠ f) (suc n)
+      ∙ ap₂ _⊕_ (coefficient-constant-suc R D a n) (coefficient-x-mul-suc f n)
+      ∙ zero-add R (coefficient f n)
 
   x-power-coefficients :
       (k : ℕ) (f : Polynomial R D)
