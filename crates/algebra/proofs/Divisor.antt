@@ -1,15 +1,17 @@
 -- Greatest common divisors with Bezout's equation, least common multiples.
 --
 --   Gcd R a b g       == g divides a and b, and g = left·a + right·b for the two elements given, so that
---                        every common divisor divides g; of 0 and 0 it is 0
---   Lcm R a b m       == a and b divide m, and m divides whatever both divide
+--                        every common divisor divides g (`gcd-greatest`); of 0 and 0 it is 0
+--   Lcm R a b m       == a and b divide m, and m divides whatever both divide; of 0 and any b it is 0
 --   Factor f g k      == the monic polynomial g of positive degree k divides f
 --   gcd               == polynomials over a field have a greatest common divisor
 --   monic-gcd         == a monic one, where not both are 0
 --   gcd-unique        == there is at most one monic greatest common divisor
 --   coprime-or-common == polynomials over a field, not both 0, are coprime or have a common factor
---   monic-lcm         == monic polynomials over a field have a monic least common multiple, of a degree that
---                        is at most the sum of the two
+--   lcm               == polynomials over a field have a least common multiple
+--   monic-lcm         == monic ones have a monic one, of a degree that is at most the sum of the two
+--   gcd-lcm           == over any ring, where g is a monic greatest common divisor of a and b, the quotient
+--                        of a by g times b is a least common multiple
 --   lcm-unique        == there is at most one monic least common multiple
 --   lcm-coprime       == for coprime monic polynomials it is the product
 --   lcm-gcd-product   == its product with the monic greatest common divisor is the product of the two
@@ -34,7 +36,7 @@ use Rattle.algebra.proofs.Ideal.{
   multiples-ideal,
   coprime-product-divides,
 }
-use Rattle.algebra.proofs.Polynomial.{Polynomial, polynomials, coefficient, scale}
+use Rattle.algebra.proofs.Polynomial.{Polynomial, polynomials, polynomial-discrete, coefficient, scale}
 use Rattle.algebra.proofs.Polynomial.{Below, below-length, below-weaken, below-zero}
 use Rattle.algebra.proofs.Monic.{
   Degree,
@@ -328,3 +330,17 @@ module _ {K : Type 0} {R : Ring K} {D : Discrete K} (F : Field R) where
       let (g, k, w, p) = monic-gcd a b (λ z. monic-nonzero (F .one-nonzero) u (z .0)) in
       let (j, e, y) = monic-divisor (F .one-nonzero) w u (p .divides-left) in
       (p .divides-left .quotient ⊠ b, j + n, omega arith, monic-mul y v, gcd-lcm w p)
+
+  pub lcm : (a b : Polynomial R D) → (m : Polynomial R D) × Lcm (polynomials R D) a b m
+  lcm a b = go (polynomial-discrete a 0ₚ)
+    where
+      go : Dec (a ≡ 0ₚ) → (m : Polynomial R D) × Lcm (polynomials R D) a b m
+      go (no h) = let (g, k, w, p) = monic-gcd a b (λ z. h (z .0)) in (_, gcd-lcm w p)
+      go (yes z) = (
+        0ₚ,
+        record {
+          divides-left = multiples-ideal (polynomials R D) a .has-zero;
+          divides-right = multiples-ideal (polynomials R D) b .has-zero;
+          least = λ h d _. rw z at d;
+        },
+      )

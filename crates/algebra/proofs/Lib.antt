@@ -26,6 +26,7 @@ pub mod Frobenius
 pub mod Derivative
 pub mod Period
 pub mod Digits
+pub mod LeastPower
 pub mod Residues
 pub mod FiniteField
 pub mod Order
