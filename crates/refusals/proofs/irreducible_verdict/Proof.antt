@@ -1,0 +1,82 @@
+-- `irreducible_verdict` meets its contract: each condition that does not hold is passed over.
+-- Assumes nothing.
+use mathlib.Core.Path.{sym, _∙_}
+use mathlib.Core.List.{List}
+use denote.Ref.{now}
+use borrow.Author.Needs.{needs}
+use Rattle.meaning.specs.Result.{Check}
+use Rattle.meaning.specs.Answers.{numberOf}
+use Rattle.meaning.specs.Irreducibility.{irreducibleTable}
+use Rattle.refusals.specs.Verdicts.{numberIn}
+use Rattle.refusals.proofs.Order.{Passed, first-here, first-skip, first-nowhere}
+use Rattle.refusals.proofs.irreducible_verdict.Statement.{statement}
+use Rattle.refusals.proofs.irreducible_verdict.Tie as tie
+
+abbrev table : tie.Start → List Check
+table s = irreducibleTable (s .args .p) (now (s .args .factor))
+
+abbrev at-1 : tie.Else1 → tie.Start
+at-1 c = c .before .before .before
+
+passed-1 : (c : tie.Else1) → Passed 1 (table (at-1 c))
+unfolding irreducibleTable
+passed-1 c = first-skip _ _ (c .before .not-prime .ensures) (c .if1 .left)
+
+abbrev at-2 : tie.Else2 → tie.Start
+at-2 c = at-1 (c .before .before)
+
+passed-2 : (c : tie.Else2) → Passed 2 (table (at-2 c))
+unfolding irreducibleTable
+passed-2 c =
+    passed-1 (c .before .before)
+    ∙ first-skip _ _ (c .before .factor-degree-out-of-range .ensures) (c .if2 .left)
+
+abbrev at-3 : tie.Else3 → tie.Start
+at-3 c = at-2 (c .before .before)
+
+passed-3 : (c : tie.Else3) → Passed 3 (table (at-3 c))
+unfolding irreducibleTable
+passed-3 c =
+    passed-2 (c .before .before)
+    ∙ first-skip _ _ (c .before .not-monic .ensures) (c .if3 .left)
+
+not-prime-requires : tie.Need-not-prime-requires
+not-prime-requires c κs = search needs
+
+returns : tie.Need-returns
+unfolding numberIn numberOf irreducibleTable
+returns c = first-here _ _ (c .before .not-prime .ensures) (c .if1 .taken)
+
+factor-degree-out-of-range-requires : tie.Need-factor-degree-out-of-range-requires
+factor-degree-out-of-range-requires c κs = search needs
+
+returns-2 : tie.Need-returns-2
+unfolding numberIn numberOf irreducibleTable
+returns-2 c =
+    first-here _ _ (c .before .factor-degree-out-of-range .ensures) (c .if2 .taken)
+    ∙ sym (passed-1 (c .before .before))
+
+not-monic-requires : tie.Need-not-monic-requires
+not-monic-requires c κs = search needs
+
+returns-3 : tie.Need-returns-3
+unfolding numberIn numberOf irreducibleTable
+returns-3 c =
+    first-here _ _ (c .before .not-monic .ensures) (c .if3 .taken)
+    ∙ sym (passed-2 (c .before .before))
+
+returns-4 : tie.Need-returns-4
+unfolding numberIn irreducibleTable
+returns-4 c = first-nowhere ∙ sym (passed-3 c)
+
+pub irreducible-verdict-spec : {M : Type 1} → statement M
+irreducible-verdict-spec =
+    tie.close
+    (tie.spec
+    not-prime-requires
+    returns
+    factor-degree-out-of-range-requires
+    returns-2
+    not-monic-requires
+    returns-3
+    returns-4)

@@ -1,0 +1,113 @@
+// The conditions of the numbered list of refusals in their order, one function for each call: the first that holds, up
+// to 16. Each answers for any numbers and slices of any length, and changes no lent byte.
+use arith::prime_in_range;
+use checks::lists::continuation_degree_out_of_range;
+use checks::lists::factor_degree_out_of_range;
+use checks::lists::not_monic;
+use checks::lists::start_unlike_degree;
+use checks::lists::term_out_of_field;
+use checks::numbers::count_out_of_range;
+use checks::numbers::lent_too_short;
+use checks::numbers::place_out_of_range;
+use meaning::Refusal;
+ghost use mathlib.Core.Path.{_≡_};
+ghost use lib.ListN.{length};
+ghost use Rattle.meaning.specs.Conditions.{notPrime};
+ghost use Rattle.meaning.specs.Result.{firstOf};
+ghost use Rattle.meaning.specs.Free.{freeTable};
+ghost use Rattle.meaning.specs.Continuation.{continueTable};
+ghost use Rattle.meaning.specs.Irreducibility.{irreducibleTable};
+ghost use Rattle.refusals.specs.Verdicts.{numberIn, termsTable};
+
+// Whether a call is turned down, and why.
+pub enum Verdict {
+    Accepted,
+    Refused(Refusal),
+}
+
+// 6: p is not a prime from 2 to 251.
+pub fn not_prime(p: u64) -> bool
+    ensures { λ r. ⌜ r ≡ notPrime p ⌝ }
+{
+    !prime_in_range(p)
+}
+
+// 6, 7, 8: what all ways of rating meet first.
+pub fn terms_verdict(p: u64, terms: &[u8]) -> Verdict
+    ensures { λ r. ⌜ numberIn r ≡ firstOf (termsTable p (now (terms .entry))) ⌝ }
+{
+    if not_prime(p) {
+        return Verdict::Refused(Refusal::NotPrime);
+    }
+    if count_out_of_range(terms.len()) {
+        return Verdict::Refused(Refusal::CountOutOfRange);
+    }
+    if term_out_of_field(p, terms) {
+        return Verdict::Refused(Refusal::TermOutOfField);
+    }
+    Verdict::Accepted
+}
+
+// The free way: 6, 7, 8, 16.
+pub fn free_verdict(p: u64, terms: &[u8], answer: usize, work: usize) -> Verdict
+    ensures { λ r. ⌜ numberIn r ≡ firstOf (freeTable p (now (terms .entry)) answer work) ⌝ }
+{
+    match terms_verdict(p, terms) {
+        Verdict::Refused(r) => Verdict::Refused(r),
+        Verdict::Accepted => {
+            if lent_too_short(answer, work) {
+                Verdict::Refused(Refusal::LentTooShort)
+            } else {
+                Verdict::Accepted
+            }
+        }
+    }
+}
+
+// The question whether a polynomial is irreducible: 6, 10, 11.
+pub fn irreducible_verdict(p: u64, factor: &[u8]) -> Verdict
+    ensures { λ r. ⌜ numberIn r ≡ firstOf (irreducibleTable p (now (factor .entry))) ⌝ }
+{
+    if not_prime(p) {
+        return Verdict::Refused(Refusal::NotPrime);
+    }
+    if factor_degree_out_of_range(p, factor) {
+        return Verdict::Refused(Refusal::DegreeOutOfRange);
+    }
+    if not_monic(p, factor) {
+        return Verdict::Refused(Refusal::NotMonic);
+    }
+    Verdict::Accepted
+}
+
+// The continuation: 6, 7, 8, 10, 11, 15, for a buffer of `size` bytes.
+pub fn continue_verdict(
+    p: u64,
+    polynomial: &[u8],
+    start: &[u8],
+    place: usize,
+    size: usize,
+) -> Verdict
+    ensures { λ r. ⌜ numberIn r
+        ≡ firstOf (continueTable p (now (polynomial .entry)) (now (start .entry)) place size) ⌝ }
+{
+    if not_prime(p) {
+        return Verdict::Refused(Refusal::NotPrime);
+    }
+    if place_out_of_range(size, place) {
+        return Verdict::Refused(Refusal::CountOutOfRange);
+    }
+    if term_out_of_field(p, start) {
+        return Verdict::Refused(Refusal::TermOutOfField);
+    }
+    if continuation_degree_out_of_range(polynomial) {
+        return Verdict::Refused(Refusal::DegreeOutOfRange);
+    }
+    if not_monic(p, polynomial) {
+        return Verdict::Refused(Refusal::NotMonic);
+    }
+    if start_unlike_degree(polynomial, start) {
+        return Verdict::Refused(Refusal::TooFewTerms);
+    }
+    Verdict::Accepted
+}
