@@ -16,14 +16,13 @@
 --   minimal-larger     == over a field, every other monic polynomial that annihilates s has a larger degree
 --
 -- Assumes nothing.
-use mathlib.Core.Path.{_≡_, refl, sym, ap₂, subst, _∙_}
+use mathlib.Core.Path.{_≡_, sym, ap₂, subst⁻¹, _∙_}
 use mathlib.Core.Logic.{_⊎_, inl, inr, _↔_}
 use Prim.Native.Nat.{ℕ, _+_, _≤_, _<_, zero-le}
 use native.Mathlib.Nat as ℕ
 use native.Mathlib.Omega.{arith}
-use Rattle.algebra.proofs.Ring.{Ring, Field}
-use Rattle.algebra.proofs.Solver.{solve, _:=_, _:+_, _:*_, :-_, :1}
-use Rattle.algebra.proofs.Ideal.{Ideal, Divides, Coprime, Generator, coprime-whole}
+use Rattle.algebra.proofs.Ring.{Ring, Field, sub-unique}
+use Rattle.algebra.proofs.Ideal.{Ideal, Divides, Coprime, Generator, sub-member, coprime-whole}
 use Rattle.algebra.proofs.Polynomial.{Polynomial, Below, polynomials, constant}
 use Rattle.algebra.proofs.Monic.{
   Monic,
@@ -57,14 +56,6 @@ use Rattle.algebra.proofs.Action.{
   Kills,
 }
 use Rattle.algebra.proofs.Continuation.{monic-zero}
-
--- A member of an ideal taken off a sum in it.
-sum-member : {K : Type 0} (R : Ring K) {I : K → Type 0} → Ideal R I → {a b : K} → I ((R ._⊕_) a b) → I a → I b
-sum-member R {I} ideal {a} {b} m n =
-    subst
-    I
-    (solve R 2 (λ a b. a :+ b :+ :- :1 :* a := b) refl a b)
-    (ideal .sum m (ideal .multiple ((R .⊖_) (R .1#)) n))
 
 module _ {K : Type 0} {R : Ring K} {D : Discrete K} where
   open Ring R using (0#, _⊕_, add-zero)
@@ -191,7 +182,7 @@ module _ {K : Type 0} {R : Ring K} {D : Discrete K} (nontrivial : Nontrivial R) 
 
 -- Over a field.
 module _ {K : Type 0} {R : Ring K} {D : Discrete K} (F : Field R) where
-  open Ring (polynomials R D) using (0# as 0ₚ, 1# as 1ₚ)
+  open Ring (polynomials R D) using (0# as 0ₚ)
 
   -- No other polynomial below its degree annihilates s.
   pub minimal-below :
@@ -219,11 +210,10 @@ module _ {K : Type 0} {R : Ring K} {D : Discrete K} (F : Field R) where
       x
       (d .small)
       (
-      sum-member
-      (polynomials R D)
-      (kills-ideal s)
-      (rw (d .equation) at z)
-      (kills-ideal s .multiple (d .quotient) (x .kills))
+      subst⁻¹
+      (Kills s)
+      (sub-unique (polynomials R D) (polynomials R D .add-comm _ _ ∙ sym (d .equation)))
+      (sub-member (polynomials R D) (kills-ideal s) z (kills-ideal s .multiple (d .quotient) (x .kills)))
       )
       )
 

@@ -202,11 +202,11 @@ module _ {K : Type 0} {R : Ring K} {D : Discrete K} where
 -- A discrepancy other than 0, over a field.
 module _ {K : Type 0} {R : Ring K} {D : Discrete K} (F : Field R) where
   open Ring R using (0#, 1#, _⊕_, _⊗_, ⊖_, add-zero, mul-one, mul-assoc)
-  open Ring (polynomials R D) using (0# as 0ₚ, 1# as 1ₚ, _⊕_ as _⊞_, _⊗_ as _⊠_, ⊖_ as ⊟_)
+  open Ring (polynomials R D) using (0# as 0ₚ, 1# as 1ₚ, _⊕_ as _⊞_, ⊖_ as ⊟_)
   open Field F using (inverse)
 
   infixl 60 _⊕_ _⊞_
-  infixl 70 _⊗_ _⊠_
+  infixl 70 _⊗_
   infix 80 ⊖_ ⊟_
   -- The corrected action, where both actions vanish and where they are d and b.
   correct-zero :

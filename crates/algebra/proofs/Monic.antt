@@ -42,8 +42,6 @@ use Rattle.algebra.proofs.Polynomial.{
   coefficient-neg,
   coefficient-mul-sum,
   coefficient-scale,
-  coefficient-constant-suc,
-  constant,
   scale,
   X,
   fromList,
@@ -69,7 +67,7 @@ pub record Monic {K : Type 0} {R : Ring K} {D : Discrete K} (f : Polynomial R D)
 
 module _ {K : Type 0} {R : Ring K} {D : Discrete K} where
   open Ring R using (0#, 1#, _⊕_, _⊗_, ⊖_, add-zero, mul-one)
-  open Ring (polynomials R D) using (0# as 0ₚ, 1# as 1ₚ, _⊕_ as _⊞_, _⊗_ as _⊠_, ⊖_ as ⊟_)
+  open Ring (polynomials R D) using (0# as 0ₚ, _⊕_ as _⊞_, _⊗_ as _⊠_, ⊖_ as ⊟_)
 
   infixl 60 _⊕_ _⊞_
   infixl 70 _⊗_ _⊠_
@@ -112,19 +110,6 @@ module _ {K : Type 0} {R : Ring K} {D : Discrete K} where
       side : (i j : ℕ) → suc (n + m) ≤ i → Dec (n < j) → (suc n ≤ j) ⊎ (suc m ≤ i - j)
       side i j l (yes h) = inl h
       side i j l (no h) = inr (omega arith)
-
-  pub below-mul-add : {f g : Polynomial R D} {n m : ℕ} → Below f n → Below g m → Below (f ⊠ g) (n + m)
-  below-mul-add {f} {g} {n} {m} b c =
-      record {
-        above =
-            λ i l.
-            coefficient-mul-sum f g i
-            ∙ sum-zeros R (suc i) (λ j _. below-term b c i j (side i j l (decLt j n)));
-      }
-    where
-      side : (i j : ℕ) → n + m ≤ i → Dec (j < n) → (n ≤ j) ⊎ (m ≤ i - j)
-      side i j l (yes h) = inr (omega arith)
-      side i j l (no h) = inl (omega arith)
 
   -- The coefficient at the sum of two bounds is the product of the two coefficients there.
   pub coefficient-top :
@@ -269,7 +254,7 @@ pub record MonicList {K : Type 0} (R : Ring K) (xs : List K) (n : ℕ) : Type 0 
   pub last : coefficient-list R xs n ≡ R .1#
 
 module _ {K : Type 0} {R : Ring K} where
-  open Ring R using (0#, 1#)
+  open Ring R using (0#)
 
   list-above : {xs : List K} {n : ℕ} → MonicList R xs n → (i : ℕ) → suc n ≤ i → coefficient-list R xs i ≡ 0#
   list-above {xs} m i l = List·getD-eq-default xs 0# (subst (λ k. k ≤ i) (sym (m .size)) l)
@@ -302,10 +287,9 @@ module _ {K : Type 0} {R : Ring K} where
 
 -- Monic lists and monic polynomials; the polynomials 0, 1, x and constants.
 module _ {K : Type 0} (R : Ring K) (D : Discrete K) where
-  open Ring R using (0#, 1#)
-  open Ring (polynomials R D) using (0# as 0ₚ, 1# as 1ₚ, _⊗_ as _⊠_)
+  open Ring R using (0#)
+  open Ring (polynomials R D) using (0# as 0ₚ, 1# as 1ₚ)
 
-  infixl 70 _⊠_
   pub monic-fromList : {xs : List K} {n : ℕ} → MonicList R xs n → Monic (fromList R D xs) n
   monic-fromList {xs} {n} m =
       record {
@@ -327,9 +311,6 @@ module _ {K : Type 0} (R : Ring K) (D : Discrete K) where
       go : (i : ℕ) → 1 ≤ i → coefficient f i ≡ 0#
       go zero l = absurd (ℕ.not-suc-le-zero l)
       go (suc i) l = h i
-
-  pub below-constant : (a : K) → Below (constant R D a) 1
-  below-constant a = below-one (constant R D a) (coefficient-constant-suc R D a)
 
   pub monic-one : Monic 1ₚ 0
   monic-one = record { leading = coefficient-one-zero R D; below = below-one 1ₚ (coefficient-one-suc R D) }
@@ -354,10 +335,6 @@ module _ {K : Type 0} (R : Ring K) (D : Discrete K) where
       }
 
 module _ {K : Type 0} {R : Ring K} {D : Discrete K} where
-  open Ring R using (0#, 1#, _⊗_)
-  open Ring (polynomials R D) using (0# as 0ₚ, 1# as 1ₚ, _⊗_ as _⊠_)
-
-  infixl 70 _⊗_ _⊠_
   pub degree-length : {f : Polynomial R D} {n : ℕ} → Degree f n → length (f .toList) ≡ suc n
   degree-length {f} d = ℕ.le-antisymm (length-below (d .below)) (degree-below d (below-length f))
 
@@ -379,9 +356,9 @@ module _ {K : Type 0} {R : Ring K} {D : Discrete K} where
 
 -- Over a field.
 module _ {K : Type 0} {R : Ring K} {D : Discrete K} (F : Field R) where
-  open Ring R using (0#, 1#, _⊗_)
-  open Ring (polynomials R D) using (0# as 0ₚ, 1# as 1ₚ, _⊗_ as _⊠_)
-  open Field F using (inverse, one-nonzero)
+  open Ring R using (0#, _⊗_)
+  open Ring (polynomials R D) using (0# as 0ₚ, _⊗_ as _⊠_)
+  open Field F using (inverse)
 
   infixl 70 _⊗_ _⊠_
   -- Degrees add up; there are no zero divisors.
