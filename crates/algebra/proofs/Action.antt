@@ -4,7 +4,10 @@
 --   act f s            == the sequence that the polynomial f makes of s: act f s k = c0·s(k) + c1·s(k+1) + …
 --   Kills s f          == the action of f on s is 0 at every place: f annihilates s; 0 annihilates all
 --   Agree n s t        == the sequences s and t have the same first n terms
+--   act-add, act-sequence-add
+--                      == the action is additive in the polynomial and in the sequence
 --   act-mul            == a product acts as its factors one after the other
+--   act-comm           == so the actions of two polynomials may change places
 --   act-sum            == the action as a sum over the coefficients below a bound
 --   act-local          == the action of a polynomial below n depends on n terms alone
 --

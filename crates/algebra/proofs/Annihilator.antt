@@ -3,9 +3,9 @@
 --   kills-ideal s      == the polynomials that annihilate the sequence s form an ideal
 --   kills-act          == h annihilates the sequence that g makes of s exactly where h·g annihilates s
 --   coprime-kills      == coprime polynomials annihilate the zero sequence alone
---   kills-part         == Lemma 5 of document 001: if h·g annihilates s, h and g of degrees e and a, and the
---                         action of g on a sequence with the same first e + a terms is 0 at its first e
---                         places, then g annihilates s; `part-of-kills` is the converse
+--   kills-part         == Lemma 5 of document 001: if h·g annihilates s, h and g monic of degrees e and a,
+--                         and the action of g on a sequence with the same first e + a terms is 0 at its
+--                         first e places, then g annihilates s; `part-of-kills` is the converse
 --   kills-decided      == where a monic polynomial annihilates s, it is decided whether a given one does
 --   Minimal s g n      == g is the minimal polynomial of s: monic of degree n, annihilates s, and no monic
 --                         polynomial that annihilates s has a smaller degree; 1 for the zero sequence
@@ -184,7 +184,7 @@ module _ {K : Type 0} {R : Ring K} {D : Discrete K} (nontrivial : Nontrivial R) 
 module _ {K : Type 0} {R : Ring K} {D : Discrete K} (F : Field R) where
   open Ring (polynomials R D) using (0# as 0ₚ)
 
-  -- No other polynomial below its degree annihilates s.
+  -- No polynomial below its degree other than 0 annihilates s.
   pub minimal-below :
       {s : ℕ → K} {g r : Polynomial R D} {n : ℕ} → Minimal s g n → Below r n → Kills s r → r ≡ 0ₚ
   minimal-below {s} {g} {r} {n} x b z = go (leading-term r)

@@ -8,6 +8,7 @@
 --   cut-minimal        == and so both have the same minimal polynomial
 --   Periodic s n       == s repeats every n terms; every sequence repeats every 0 terms
 --   periodic-kills     == s repeats every n terms exactly where x^n − 1 annihilates it
+--   periodic-equal     == sequences with the same period of n terms, n > 0, that agree on n terms are equal
 --   periodic-places    == a polynomial whose action on s vanishes at the n places of a period annihilates s
 --
 -- x^n − 1 is `unity` of Derivative; it is coprime to x for n above 0 (`coprime-unity`), so that a sequence
@@ -69,7 +70,7 @@ module _ {K : Type 0} {R : Ring K} {D : Discrete K} where
   pub cut-of-kills : {s : ℕ → K} {h : Polynomial R D} (k : ℕ) → Kills s h → Kills (cut s k) h
   cut-of-kills {s} {h} k z = record { vanishes = λ i. act-shift h s k i ∙ z .vanishes (k + i) }
 
--- Where x does not divide some annihilator.
+-- Over a field, x is coprime to what it does not divide.
 module _ {K : Type 0} {R : Ring K} {D : Discrete K} (F : Field R) where
   open Ring R using (0#)
 

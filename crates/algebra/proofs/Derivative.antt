@@ -10,8 +10,9 @@
 --   unity-coprime      == where n is invertible besides, x^n − 1 is coprime to its derivative
 --   derivative f       == the formal derivative of the polynomial f: its coefficient i is the (i+1)-fold of
 --                         the coefficient i+1 of f
+--   derivative-mul     == the product rule: (f·g)′ = f·g′ + f′·g
 --   derivative-derivation
---                      == the formal derivative is a derivation
+--                      == so the formal derivative is a derivation
 --   unity-squarefree   == over a ring where n is invertible, the polynomial x^n − 1 is squarefree
 --   no-square-divides  == no square of a monic polynomial of positive degree divides a squarefree one
 --

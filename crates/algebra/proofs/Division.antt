@@ -12,6 +12,8 @@
 --   divide-x           == division by x: the remainder is the constant term
 --   x-divides          == x divides what has the constant term 0
 --   field-divide       == over a field, division by any polynomial other than 0
+--   field-division-unique
+--                      == its quotient and its remainder are unique
 --   field-divides      == over a field, divisibility is decided
 --
 -- Assumes nothing.
@@ -360,7 +362,7 @@ module _ {K : Type 0} {R : Ring K} {D : Discrete K} (F : Field R) where
 
   infixl 60 _⊞_
   infixl 70 _⊠_
-  -- The monic multiple of g divides what g divides, and the other way round.
+  -- The monic multiple of g divides g.
   pub monic-scale-divides :
       {g : Polynomial R D} {n : ℕ}
       → Degree g n

@@ -1,6 +1,7 @@
 -- Fields with finitely many elements: the residues modulo an irreducible polynomial, and their powers.
 --
 --   Elements K q          == a list of the q elements of the type K, each of them once
+--   prime-elements p      == the numbers below p, p of them
 --   polynomials-below R D E d
 --                         == the list of all polynomials below d, each once: q^d where the elements E of
 --                            the ring R are q; for d = 0 the polynomial 0 alone

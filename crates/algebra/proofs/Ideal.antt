@@ -3,16 +3,21 @@
 --   Ideal R I       == the property I of ring elements holds of 0, of sums and of multiples of what has it
 --   Divides R a h   == a divides h, with its quotient: h = quotient·a; all divide 0, and 0 divides 0 alone
 --   Coprime R a b   == left·a + right·b = 1 for the two elements given; 0 and 1 are coprime
---   Atom R f        == for every h, f divides h or is coprime to h, with which of the two; every unit is one
+--   Atom R f        == for every h, f divides h or is coprime to h, with which of the two: the multiples of f
+--                      are a maximal ideal or the whole ring, decided, which is more than irreducible; every
+--                      unit is one, and 0 is one exactly where every element is 0 or a unit, decided
 --   Generator R I g == g is in I and divides all of I
 --   multiples-ideal == the multiples of one element
 --   quotient-ideal  == what a given element multiplies into I
 --   coprime-member  == coprime a and b with a·c and b·c in I have c in I
+--   coprime-whole   == an ideal that holds coprime elements holds 1
 --   coprime-product-divides
 --                   == coprime divisors of h have a product that divides h
 --   coprime-cancel  == a that is coprime to b and divides b·c divides c
 --   atom-product    == an atom that divides a product divides a factor
 --
+-- "a = b modulo I" is `I (a ⊕ ⊖ b)`; its laws are `congruent-refl`, `congruent-sym`, `congruent-trans` and
+-- `congruent-mul`.
 -- Assumes nothing.
 use mathlib.Core.Path.{_≡_, refl, sym, ap, ap₂, subst, subst⁻¹, _∙_}
 use mathlib.Core.Logic.{_⊎_, inl, inr}
@@ -124,7 +129,7 @@ module _ {K : Type 0} (R : Ring K) where
     pub coprime-whole : {a b : K} → Coprime a b → I a → I b → I 1#
     coprime-whole p m n = coprime-member p (rw mul-one m) (rw mul-one n)
 
-    -- Differences of members, and congruence: a = b modulo I is `I (a ⊕ ⊖ b)`.
+    -- Differences of members, and congruence modulo I.
     pub neg-member : {a : K} → I a → I (⊖ a)
     neg-member m = rw neg-one-mul at (multiple (⊖ 1#) m)
 

@@ -7,12 +7,15 @@
 --   reducible-factor    == a reducible polynomial has a monic divisor of positive degree, at most half its
 --                          own
 --   irreducible-half    == irreducible: no monic g of degree a, 0 < a and 2·a ≤ n, divides f
+--   irreducible-divisor == a monic divisor of positive degree of an irreducible polynomial is that polynomial
+--   irreducibles-equal  == an irreducible polynomial that divides another one is that one
 --   irreducible-degrees == over a field the two polynomials need not be monic
 --   irreducible-atom    == over a field, an irreducible polynomial is an atom: each h is a multiple of it or
 --                          coprime to it
 --   irreducible-product == if an irreducible polynomial divides a product, it divides a factor
 --   irreducibles-coprime, irreducible-powers-coprime
 --                       == different irreducible polynomials are coprime, and so are their powers
+--   irreducibles-atoms  == so different irreducible polynomials are coprime atoms, as PowerProduct wants them
 --   irreducible-linear  == each monic polynomial of degree 1 is irreducible
 --   irreducible-constant-term
 --                       == an irreducible polynomial other than x has a constant term other than 0

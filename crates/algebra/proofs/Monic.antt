@@ -6,8 +6,12 @@
 --   Nontrivial R       == 1 is not 0 in R; a field is so by `one-nonzero`
 --   leading-term       == each polynomial is 0 or has a degree
 --   monic-mul          == degrees of monic polynomials add up
+--   monic-power        == the power k of a monic polynomial of degree n is monic of degree n·k
 --   monic-cancel       == a monic polynomial is no zero divisor
 --   monic-list-unique  == monic lists with equal series are equal
+--   degree-mul         == over a field, degrees add up
+--   polynomial-mul-eq-zero
+--                      == over a field, a product is 0 only where a factor is
 --   scaled-monic       == over a field, each polynomial other than 0 is a constant times a monic one
 --
 -- Bounds on the degree are `Below f n` of Polynomial.
@@ -285,7 +289,7 @@ module _ {K : Type 0} {R : Ring K} where
       same : n ≡ m
       same = ℕ.le-antisymm (monic-list-size h b a (sym e)) (monic-list-size h a b e)
 
--- Monic lists and monic polynomials; the polynomials 0, 1, x and constants.
+-- Monic lists and monic polynomials; the polynomials 0, 1 and x.
 module _ {K : Type 0} (R : Ring K) (D : Discrete K) where
   open Ring R using (0#)
   open Ring (polynomials R D) using (0# as 0ₚ, 1# as 1ₚ)

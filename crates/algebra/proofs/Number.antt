@@ -1,5 +1,6 @@
 -- Laws of the natural numbers: remainders of products, least numbers, primes, Euclid's lemma.
 --
+--   mul-mod          == a * b % m = (a % m) * (b % m) % m; for m = 0 the remainder of a is a
 --   Least P n        == n has the property P and no smaller number has it
 --   least-below      == a decided property that some b has: the least number that has it, at most b
 --   none-below       == a decided property: the least number below b that has it, or that none below b has it

@@ -14,7 +14,8 @@
 --   Below f n          == all coefficients of f from n on are 0: f is 0 or of degree less than n
 --
 -- Sum, product and so on of polynomials are read at a place by `coefficient-add`, `coefficient-mul-sum` and
--- their like. Over a field F of the ring R, the decided equality D is `F .discrete`.
+-- their like, and a + x·f by `coefficient-cons-zero` and `coefficient-cons-suc`. Over a field F of the ring
+-- R, the decided equality D is `F .discrete`.
 -- Assumes nothing.
 use mathlib.Core.Path.{_≡_, refl, sym, ap, ap₂, fun-ext, subst, _∙_}
 use mathlib.Core.HLevel.{isProp→PathP}

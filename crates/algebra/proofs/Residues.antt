@@ -9,7 +9,7 @@
 --   permuted            == a map of a list without repetition into itself that is injective there permutes it
 --   residue-power       == modulo a prime ideal with n residues, h^(n-1) = 1 for each h outside of the ideal
 --
--- "a = b modulo I" is `I (a ⊕ ⊖ b)`.
+-- "a = b modulo I" is `I (a ⊕ ⊖ b)`, as in Ideal.
 -- Assumes nothing.
 use mathlib.Core.Path.{_≡_, refl, sym, ap, subst, subst₂, _∙_}
 use mathlib.Core.Logic.{_⊎_, inl, inr, ∥∥₁-elim}

@@ -13,6 +13,7 @@
 --                           == sum, scaling, negative and product of lists; the product goes by the head:
 --                              (a ∷ f) · g = a·g + (0# ∷ f · g)
 --
+-- Powers are taken in the ring of series or of polynomials, not of lists.
 -- Sum, product and so on of the ring of series are read at a place by `series-add`, `series-mul-zero`,
 -- `series-mul-suc`, `series-mul-sum` and their like.
 -- Assumes nothing.
