@@ -18,5 +18,3 @@ pub mod RepeatBounds
 pub mod Padding
 pub mod MasseySteps
 pub mod MasseyAnswer
-pub mod Cutting
-pub mod Accepted
