@@ -4,7 +4,10 @@
 --   act f s            == the sequence that the polynomial f makes of s: act f s k = c0·s(k) + c1·s(k+1) + …
 --   Kills s f          == the action of f on s is 0 at every place: f annihilates s; 0 annihilates all
 --   Agree n s t        == the sequences s and t have the same first n terms
+--   act-add, act-sequence-add
+--                      == the action is additive in the polynomial and in the sequence
 --   act-mul            == a product acts as its factors one after the other
+--   act-comm           == so the actions of two polynomials may change places
 --   act-sum            == the action as a sum over the coefficients below a bound
 --   act-local          == the action of a polynomial below n depends on n terms alone
 --
@@ -30,7 +33,6 @@ use Rattle.algebra.proofs.Polynomial.{
   Below,
   polynomials,
   coefficient,
-  coefficient-toList,
   coefficient-fromList,
   constant,
   constant-polynomial-hom,
@@ -47,11 +49,10 @@ use Rattle.algebra.proofs.Polynomial.{
 }
 
 module _ {K : Type 0} (R : Ring K) where
-  open Ring R using (0#, 1#, _⊕_, _⊗_, ⊖_, add-assoc, add-zero, mul-add, mul-assoc)
+  open Ring R using (0#, _⊕_, _⊗_, add-assoc, add-zero, mul-add, mul-assoc)
 
   infixl 60 _⊕_
   infixl 70 _⊗_
-  infix 80 ⊖_
   unfoldable pub list-act : List K → (ℕ → K) → ℕ → K
   list-act [] s k = 0#
   list-act (c ∷ xs) s k = c ⊗ s k ⊕ list-act xs s (suc k)
@@ -164,18 +165,11 @@ module _ {K : Type 0} (R : Ring K) where
       ∙ sym (mul-add a (c ⊗ s k) (list-act xs s (suc k)))
 
 module _ {K : Type 0} {R : Ring K} {D : Discrete K} where
-  open Ring R using (0#, 1#, _⊕_, _⊗_, ⊖_, add-zero, add-neg)
-  open Ring (polynomials R D) using (0# as 0ₚ, 1# as 1ₚ, _⊕_ as _⊞_, _⊗_ as _⊠_, ⊖_ as ⊟_)
+  open Ring R using (_⊗_)
 
-  infixl 60 _⊕_ _⊞_
-  infixl 70 _⊗_ _⊠_
-  infix 80 ⊖_ ⊟_
+  infixl 70 _⊗_
   unfoldable pub act : Polynomial R D → (ℕ → K) → ℕ → K
   act f = list-act R (f .toList)
-
-  pub act-toList : (f : Polynomial R D) (s : ℕ → K) (k : ℕ) → act f s k ≡ list-act R (f .toList) s k
-  unfolding act
-  act-toList f s k = refl
 
   pub act-of-series :
       (f : Polynomial R D) (xs : List K) (s : ℕ → K) (k : ℕ)
@@ -199,10 +193,9 @@ module _ {K : Type 0} {R : Ring K} {D : Discrete K} where
       act-sum b s j ∙ sum-ext R n (λ i l. ap (_⊗_ (coefficient f i)) (h i l)) ∙ sym (act-sum b t k)
 
 module _ {K : Type 0} (R : Ring K) (D : Discrete K) where
-  open Ring R using (0#, 1#, _⊕_, _⊗_)
+  open Ring R using (0#, 1#, _⊗_)
   open Ring (polynomials R D) using (0# as 0ₚ, 1# as 1ₚ)
 
-  infixl 60 _⊕_
   infixl 70 _⊗_
   pub act-fromList : (xs : List K) (s : ℕ → K) (k : ℕ) → act (fromList R D xs) s k ≡ list-act R xs s k
   act-fromList xs s k =
@@ -220,8 +213,8 @@ module _ {K : Type 0} (R : Ring K) (D : Discrete K) where
       ap (λ f. act f s k) (sym (constant-polynomial-hom R D .one)) ∙ act-constant 1# s k ∙ one-mul R (s k)
 
 module _ {K : Type 0} {R : Ring K} {D : Discrete K} where
-  open Ring R using (0#, 1#, _⊕_, _⊗_, ⊖_, add-zero, add-neg)
-  open Ring (polynomials R D) using (0# as 0ₚ, 1# as 1ₚ, _⊕_ as _⊞_, _⊗_ as _⊠_, ⊖_ as ⊟_)
+  open Ring R using (0#, _⊕_, _⊗_, ⊖_, add-neg)
+  open Ring (polynomials R D) using (0# as 0ₚ, _⊕_ as _⊞_, _⊗_ as _⊠_, ⊖_ as ⊟_)
 
   infixl 60 _⊕_ _⊞_
   infixl 70 _⊗_ _⊠_
@@ -364,11 +357,8 @@ module _ {K : Type 0} {R : Ring K} {D : Discrete K} where
       sym (act-mul f g s k) ∙ ap (λ h. act h s k) (polynomials R D .mul-comm f g) ∙ act-mul g f s k
 
 module _ {K : Type 0} (R : Ring K) (D : Discrete K) where
-  open Ring R using (0#, 1#, _⊕_, _⊗_)
-  open Ring (polynomials R D) using (0# as 0ₚ, 1# as 1ₚ)
+  open Ring (polynomials R D) using (1# as 1ₚ)
 
-  infixl 60 _⊕_
-  infixl 70 _⊗_
   pub act-x : (s : ℕ → K) (k : ℕ) → act (X R D) s k ≡ s (suc k)
   act-x s k =
       ap (λ f. act f s k) (sym (polynomials R D .mul-one (X R D))) ∙ act-x-mul 1ₚ s k ∙ act-one R D s (suc k)

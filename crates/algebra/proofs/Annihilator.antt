@@ -3,9 +3,9 @@
 --   kills-ideal s      == the polynomials that annihilate the sequence s form an ideal
 --   kills-act          == h annihilates the sequence that g makes of s exactly where h·g annihilates s
 --   coprime-kills      == coprime polynomials annihilate the zero sequence alone
---   kills-part         == Lemma 5 of document 001: if h·g annihilates s, h and g of degrees e and a, and the
---                         action of g on a sequence with the same first e + a terms is 0 at its first e
---                         places, then g annihilates s; `part-of-kills` is the converse
+--   kills-part         == Lemma 5 of document 001: if h·g annihilates s, h and g monic of degrees e and a,
+--                         and the action of g on a sequence with the same first e + a terms is 0 at its
+--                         first e places, then g annihilates s; `part-of-kills` is the converse
 --   kills-decided      == where a monic polynomial annihilates s, it is decided whether a given one does
 --   Minimal s g n      == g is the minimal polynomial of s: monic of degree n, annihilates s, and no monic
 --                         polynomial that annihilates s has a smaller degree; 1 for the zero sequence
@@ -16,14 +16,13 @@
 --   minimal-larger     == over a field, every other monic polynomial that annihilates s has a larger degree
 --
 -- Assumes nothing.
-use mathlib.Core.Path.{_≡_, refl, sym, ap₂, subst, _∙_}
+use mathlib.Core.Path.{_≡_, sym, ap₂, subst⁻¹, _∙_}
 use mathlib.Core.Logic.{_⊎_, inl, inr, _↔_}
 use Prim.Native.Nat.{ℕ, _+_, _≤_, _<_, zero-le}
 use native.Mathlib.Nat as ℕ
 use native.Mathlib.Omega.{arith}
-use Rattle.algebra.proofs.Ring.{Ring, Field}
-use Rattle.algebra.proofs.Solver.{solve, _:=_, _:+_, _:*_, :-_, :1}
-use Rattle.algebra.proofs.Ideal.{Ideal, Divides, Coprime, Generator, coprime-whole}
+use Rattle.algebra.proofs.Ring.{Ring, Field, sub-unique}
+use Rattle.algebra.proofs.Ideal.{Ideal, Divides, Coprime, Generator, sub-member, coprime-whole}
 use Rattle.algebra.proofs.Polynomial.{Polynomial, Below, polynomials, constant}
 use Rattle.algebra.proofs.Monic.{
   Monic,
@@ -57,14 +56,6 @@ use Rattle.algebra.proofs.Action.{
   Kills,
 }
 use Rattle.algebra.proofs.Continuation.{monic-zero}
-
--- A member of an ideal taken off a sum in it.
-sum-member : {K : Type 0} (R : Ring K) {I : K → Type 0} → Ideal R I → {a b : K} → I ((R ._⊕_) a b) → I a → I b
-sum-member R {I} ideal {a} {b} m n =
-    subst
-    I
-    (solve R 2 (λ a b. a :+ b :+ :- :1 :* a := b) refl a b)
-    (ideal .sum m (ideal .multiple ((R .⊖_) (R .1#)) n))
 
 module _ {K : Type 0} {R : Ring K} {D : Discrete K} where
   open Ring R using (0#, _⊕_, add-zero)
@@ -191,9 +182,9 @@ module _ {K : Type 0} {R : Ring K} {D : Discrete K} (nontrivial : Nontrivial R) 
 
 -- Over a field.
 module _ {K : Type 0} {R : Ring K} {D : Discrete K} (F : Field R) where
-  open Ring (polynomials R D) using (0# as 0ₚ, 1# as 1ₚ)
+  open Ring (polynomials R D) using (0# as 0ₚ)
 
-  -- No other polynomial below its degree annihilates s.
+  -- No polynomial below its degree other than 0 annihilates s.
   pub minimal-below :
       {s : ℕ → K} {g r : Polynomial R D} {n : ℕ} → Minimal s g n → Below r n → Kills s r → r ≡ 0ₚ
   minimal-below {s} {g} {r} {n} x b z = go (leading-term r)
@@ -219,11 +210,10 @@ module _ {K : Type 0} {R : Ring K} {D : Discrete K} (F : Field R) where
       x
       (d .small)
       (
-      sum-member
-      (polynomials R D)
-      (kills-ideal s)
-      (rw (d .equation) at z)
-      (kills-ideal s .multiple (d .quotient) (x .kills))
+      subst⁻¹
+      (Kills s)
+      (sub-unique (polynomials R D) (polynomials R D .add-comm _ _ ∙ sym (d .equation)))
+      (sub-member (polynomials R D) (kills-ideal s) z (kills-ideal s .multiple (d .quotient) (x .kills)))
       )
       )
 

@@ -71,7 +71,7 @@ choose-prime {p = suc n} P (suc k) s l = elim (euclid P (suc k) (choose (suc n) 
 
 -- The terms of the power of a sum
 module _ {K : Type 0} (R : Ring K) (a b : K) where
-  open Ring R using (0#, 1#, _⊕_, _⊗_, mul-comm, mul-assoc, mul-one, mul-add)
+  open Ring R using (0#, _⊕_, _⊗_, mul-assoc, mul-one, mul-add)
 
   infixl 60 _⊕_
   infixl 70 _⊗_

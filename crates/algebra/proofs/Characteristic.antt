@@ -3,6 +3,7 @@
 --   Characteristic R p   == p is prime and the p-fold sum of 1 in the ring R is 0; the ring with 0 = 1
 --                           has every prime as a characteristic
 --   multiple-divides     == an n-fold sum is 0 where p divides n
+--   hom-characteristic   == a homomorphism carries the characteristic over
 --
 -- Assumes nothing.
 use Prim.Native.Nat.{ℕ, _*_, _/_, _%_, _∣_}

@@ -50,7 +50,7 @@ use Rattle.algebra.proofs.Action.{
 
 -- Sequences that a monic polynomial takes to the same sequence.
 module _ {K : Type 0} {R : Ring K} {D : Discrete K} where
-  open Ring R using (0#, 1#, _⊕_, _⊗_)
+  open Ring R using (0#, _⊕_, _⊗_)
 
   infixl 60 _⊕_
   infixl 70 _⊗_
@@ -147,10 +147,9 @@ module _ {K : Type 0} where
 
 -- The continuation, from a list of coefficients below the leading 1.
 module _ {K : Type 0} (R : Ring K) where
-  open Ring R using (0#, 1#, _⊕_, _⊗_, ⊖_, add-neg)
+  open Ring R using (0#, 1#, _⊕_, ⊖_, add-neg)
 
   infixl 60 _⊕_
-  infixl 70 _⊗_
   infix 80 ⊖_
   unfoldable pub next : List K → List K → K
   next cs w = ⊖ list-act R cs (coefficient-list R w) 0

@@ -8,6 +8,7 @@
 --   cut-minimal        == and so both have the same minimal polynomial
 --   Periodic s n       == s repeats every n terms; every sequence repeats every 0 terms
 --   periodic-kills     == s repeats every n terms exactly where x^n − 1 annihilates it
+--   periodic-equal     == sequences with the same period of n terms, n > 0, that agree on n terms are equal
 --   periodic-places    == a polynomial whose action on s vanishes at the n places of a period annihilates s
 --
 -- x^n − 1 is `unity` of Derivative; it is coprime to x for n above 0 (`coprime-unity`), so that a sequence
@@ -19,24 +20,11 @@ use Prim.Native.Nat.{ℕ, zero, suc, _+_, _*_, _/_, _%_, _<_}
 use native.Mathlib.Nat as ℕ
 use native.Mathlib.Omega.{arith}
 use Rattle.algebra.proofs.Ring.{Ring, Field}
-use Rattle.algebra.proofs.Ring.{inverse-mul, sub-zero-of-eq, eq-of-sub-zero}
+use Rattle.algebra.proofs.Ring.{sub-zero-of-eq, eq-of-sub-zero}
 use Rattle.algebra.proofs.Power.{power}
 use Rattle.algebra.proofs.Solver.{solve, _:=_, _:+_, _:*_, :-_, :1}
 use Rattle.algebra.proofs.Ideal.{Coprime, coprime-member, coprime-sym, coprime-power-right}
-use Rattle.algebra.proofs.Polynomial.{
-  Polynomial,
-  polynomials,
-  polynomial-induction,
-  coefficient,
-  coefficient-zero,
-  coefficient-add,
-  coefficient-constant-zero,
-  coefficient-x-mul-zero,
-  constant,
-  constant-polynomial-hom,
-  X,
-  below-length,
-}
+use Rattle.algebra.proofs.Polynomial.{Polynomial, polynomials, coefficient, X, below-length}
 use Rattle.algebra.proofs.Action.{
   act,
   act-local,
@@ -68,7 +56,6 @@ abbrev pub cut : {K : Type 0} → (ℕ → K) → ℕ → ℕ → K
 cut s k i = s (k + i)
 
 module _ {K : Type 0} {R : Ring K} {D : Discrete K} where
-  open Ring R using (0#)
   open Ring (polynomials R D) using (_⊗_ as _⊠_)
 
   infixl 70 _⊠_
@@ -83,7 +70,7 @@ module _ {K : Type 0} {R : Ring K} {D : Discrete K} where
   pub cut-of-kills : {s : ℕ → K} {h : Polynomial R D} (k : ℕ) → Kills s h → Kills (cut s k) h
   cut-of-kills {s} {h} k z = record { vanishes = λ i. act-shift h s k i ∙ z .vanishes (k + i) }
 
--- Where x does not divide some annihilator.
+-- Over a field, x is coprime to what it does not divide.
 module _ {K : Type 0} {R : Ring K} {D : Discrete K} (F : Field R) where
   open Ring R using (0#)
 
@@ -166,11 +153,8 @@ pub periodic-all :
 periodic-all n h a l = periodic-equal n l h (λ _. refl)
 
 module _ {K : Type 0} {R : Ring K} {D : Discrete K} where
-  open Ring R using (0#, 1#, _⊕_, ⊖_)
-  open Ring (polynomials R D) using (1# as 1ₚ, _⊕_ as _⊞_, ⊖_ as ⊟_)
+  open Ring R using (0#)
 
-  infixl 60 _⊕_ _⊞_
-  infix 80 ⊖_ ⊟_
   pub periodic-act : (f : Polynomial R D) {s : ℕ → K} (n : ℕ) → Periodic s n → Periodic (act f s) n
   periodic-act f {s} n h k =
       act-local (below-length f) s s (k + n) k (λ i _. ap s (omega arith) ∙ h (k + i))
@@ -184,7 +168,7 @@ module _ {K : Type 0} {R : Ring K} {D : Discrete K} where
   periodic-places f n l h v = record { vanishes = periodic-all n (periodic-act f n h) 0# l v }
 
 module _ {K : Type 0} (R : Ring K) (D : Discrete K) where
-  open Ring R using (0#, 1#, _⊕_, ⊖_)
+  open Ring R using (_⊕_, ⊖_)
   open Ring (polynomials R D) using (1# as 1ₚ)
 
   infixl 60 _⊕_

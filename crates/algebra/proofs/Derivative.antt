@@ -10,8 +10,9 @@
 --   unity-coprime      == where n is invertible besides, x^n − 1 is coprime to its derivative
 --   derivative f       == the formal derivative of the polynomial f: its coefficient i is the (i+1)-fold of
 --                         the coefficient i+1 of f
+--   derivative-mul     == the product rule: (f·g)′ = f·g′ + f′·g
 --   derivative-derivation
---                      == the formal derivative is a derivation
+--                      == so the formal derivative is a derivation
 --   unity-squarefree   == over a ring where n is invertible, the polynomial x^n − 1 is squarefree
 --   no-square-divides  == no square of a monic polynomial of positive degree divides a squarefree one
 --
@@ -65,7 +66,7 @@ use Rattle.algebra.proofs.Division.{divisor-degree}
 
 -- In any ring.
 module _ {K : Type 0} (R : Ring K) where
-  open Ring R using (0#, 1#, _⊕_, _⊗_, ⊖_)
+  open Ring R using (1#, _⊕_, _⊗_, ⊖_)
 
   infixl 60 _⊕_
   infixl 70 _⊗_
@@ -197,8 +198,6 @@ module _ {K : Type 0} {R : Ring K} {d : K → K} (δ : Derivation R d) where
 
 -- The formal derivative of lists.
 module _ {K : Type 0} (R : Ring K) where
-  open Ring R using (0#)
-
   weighted : ℕ → List K → List K
   weighted n [] = []
   weighted n (a ∷ xs) = multiple R n a ∷ weighted (suc n) xs
@@ -248,8 +247,8 @@ module _ {K : Type 0} (R : Ring K) where
 
 -- The formal derivative of polynomials.
 module _ {K : Type 0} {R : Ring K} {D : Discrete K} where
-  open Ring R using (0#, 1#, _⊕_, _⊗_)
-  open Ring (polynomials R D) using (0# as 0ₚ, 1# as 1ₚ, _⊕_ as _⊞_, _⊗_ as _⊠_)
+  open Ring R using (0#, _⊕_, _⊗_)
+  open Ring (polynomials R D) using (0# as 0ₚ, _⊕_ as _⊞_, _⊗_ as _⊠_)
 
   infixl 60 _⊕_ _⊞_
   infixl 70 _⊗_ _⊠_
@@ -361,8 +360,8 @@ module _ {K : Type 0} {R : Ring K} {D : Discrete K} where
           ∙ ap (λ u. (constant R D a ⊞ X R D ⊠ f) ⊠ derivative g ⊞ u ⊠ g) (sym (derivative-cons a f))
 
 module _ {K : Type 0} (R : Ring K) (D : Discrete K) where
-  open Ring R using (0#, 1#, _⊗_)
-  open Ring (polynomials R D) using (0# as 0ₚ, 1# as 1ₚ, _⊕_ as _⊞_, _⊗_ as _⊠_)
+  open Ring R using (1#, _⊗_)
+  open Ring (polynomials R D) using (1# as 1ₚ, _⊕_ as _⊞_, _⊗_ as _⊠_)
 
   infixl 60 _⊞_
   infixl 70 _⊗_ _⊠_
@@ -393,7 +392,7 @@ module _ {K : Type 0} (R : Ring K) (D : Discrete K) where
           ∙ constant-polynomial-hom R D .one
 
 module _ {K : Type 0} {R : Ring K} {D : Discrete K} (nontrivial : Nontrivial R) where
-  open Ring (polynomials R D) using (1# as 1ₚ, _⊗_ as _⊠_)
+  open Ring (polynomials R D) using (_⊗_ as _⊠_)
 
   infixl 70 _⊠_
   pub no-square-divides :

@@ -7,16 +7,17 @@
 --   Digit Zero act c t s i
 --                   == i is the largest number up to c for which i·t actions leave something of s: suc i
 --                      tries leave nothing, unless i is c
---   digit c t s     == that number for a state that is not Zero, by trying t, 2t, .. until nothing is left
+--   digit decided act c t s
+--                   == that number for a state that is not Zero, by trying t, 2t, .. until nothing is left
 --   Keeps Zero act p cut
 --                   == a state that p^l actions make Zero may be cut at level l, and the numbers of actions
 --                      that make it Zero stay the same; `λ l s. s` cuts nothing
---   digits cut p l s
+--   digits decided act cut p l s
 --                   == the sum of i·p^k over the levels k from l − 1 down to 0, where i is the digit with at
 --                      most p − 1 tries on what the digits before it left, cut at their levels; 0 at level 0
---   exponent cut p w s
+--   exponent decided act cut p w s
 --                   == 0 for a state that is Zero, else one more than the digits from level w
---   exponent-least  == if at most p^w actions make s Zero, `exponent cut p w s` is the least number that do
+--   exponent-least  == if at most p^w actions make s Zero, `exponent` is the least number that do
 --   Upward P        == a property of numbers that passes on to all larger ones: adding acts (upward-acts)
 --   least-by-digits == the least number with a decided upward property, by its digits
 --

@@ -12,11 +12,13 @@
 --   divide-x           == division by x: the remainder is the constant term
 --   x-divides          == x divides what has the constant term 0
 --   field-divide       == over a field, division by any polynomial other than 0
+--   field-division-unique
+--                      == its quotient and its remainder are unique
 --   field-divides      == over a field, divisibility is decided
 --
 -- Assumes nothing.
 use mathlib.Core.Path.{_≡_, refl, sym, ap, ap₂, subst, _∙_}
-use mathlib.Core.Logic.{_⊎_, inl, inr}
+use mathlib.Core.Logic.{inl, inr}
 use Prim.Native.Nat.{ℕ, zero, suc, _+_, _≤_, _<_}
 use native.Mathlib.Nat as ℕ
 use native.Mathlib.Decide.{decLt}
@@ -39,8 +41,6 @@ use Rattle.algebra.proofs.Polynomial.{
   coefficient-zero,
   coefficient-one-zero,
   coefficient-one-suc,
-  coefficient-constant-suc,
-  coefficient-constant-zero,
   coefficient-x-mul-zero,
   coefficient-cons-zero,
   coefficient-cons-suc,
@@ -99,7 +99,7 @@ module _ {K : Type 0} (R : Ring K) where
       ∙ solve R 4 (λ p g r s. p :* g :+ s :+ :- (p :* g :+ r) := s :+ :- r) refl p g r s
 
 module _ {K : Type 0} {R : Ring K} {D : Discrete K} where
-  open Ring R using (0#, 1#, _⊕_, _⊗_, ⊖_, add-zero, add-neg, mul-one)
+  open Ring R using (_⊕_, _⊗_, ⊖_, add-neg, mul-one)
   open Ring (polynomials R D) using (0# as 0ₚ, 1# as 1ₚ, _⊕_ as _⊞_, _⊗_ as _⊠_, ⊖_ as ⊟_)
 
   infixl 60 _⊕_ _⊞_
@@ -315,10 +315,10 @@ module _ {K : Type 0} {R : Ring K} {D : Discrete K} where
 
 -- Division by x: the remainder is the constant term.
 module _ {K : Type 0} {R : Ring K} {D : Discrete K} where
-  open Ring R using (0#, _⊕_, add-zero)
+  open Ring R using (0#)
   open Ring (polynomials R D) using (0# as 0ₚ, _⊕_ as _⊞_, _⊗_ as _⊠_)
 
-  infixl 60 _⊕_ _⊞_
+  infixl 60 _⊞_
   infixl 70 _⊠_
   pub divide-x :
       (f : Polynomial R D)
@@ -362,7 +362,7 @@ module _ {K : Type 0} {R : Ring K} {D : Discrete K} (F : Field R) where
 
   infixl 60 _⊞_
   infixl 70 _⊠_
-  -- The monic multiple of g divides what g divides, and the other way round.
+  -- The monic multiple of g divides g.
   pub monic-scale-divides :
       {g : Polynomial R D} {n : ℕ}
       → Degree g n
@@ -416,13 +416,3 @@ module _ {K : Type 0} {R : Ring K} {D : Discrete K} (F : Field R) where
         | yes e ↦ yes (divides-trans (polynomials R D) (divides-multiple (polynomials R D) _ g) e)
         | no h ↦ no (λ e. h (divides-trans (polynomials R D) (monic-scale-divides d) e))
       ]
-
-  pub field-divides-below :
-      {g f : Polynomial R D} {n : ℕ} → Degree g n → Divides (polynomials R D) g f → Below f n → f ≡ 0ₚ
-  field-divides-below d e =
-      divides-below (monic-scale F d) (divides-trans (polynomials R D) (monic-scale-divides d) e)
-
-  pub field-divisor-degree :
-      {g f : Polynomial R D} {m n : ℕ} → Degree g m → Degree f n → Divides (polynomials R D) g f → m ≤ n
-  field-divisor-degree c d e =
-      divisor-degree (monic-scale F c) d (divides-trans (polynomials R D) (monic-scale-divides c) e)

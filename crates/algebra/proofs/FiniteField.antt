@@ -1,6 +1,7 @@
 -- Fields with finitely many elements: the residues modulo an irreducible polynomial, and their powers.
 --
 --   Elements K q          == a list of the q elements of the type K, each of them once
+--   prime-elements p      == the numbers below p, p of them
 --   polynomials-below R D E d
 --                         == the list of all polynomials below d, each once: q^d where the elements E of
 --                            the ring R are q; for d = 0 the polynomial 0 alone
@@ -18,12 +19,11 @@ use mathlib.Core.List.{List·Mem, List·Memᴰ·head, mem-map, mem-map-of-mem, m
 use mathlib.Mathlib.Data.List.ProdSigma.{mem-product}
 use mathlib.Mathlib.Data.List.Nodup as Nodup
 use lib.ListN.{length, length-map, length-append}
-use Prim.Native.Nat.{ℕ, zero, suc, _+_, _*_, _-_, _^_, _≤_, _<_, suc-le-suc}
+use Prim.Native.Nat.{ℕ, zero, suc, _+_, _*_, _-_, _^_, _<_, suc-le-suc}
 use native.Mathlib.Nat as ℕ
 use native.Mathlib.Omega.{arith}
 use Rattle.algebra.proofs.Ring.{Ring, Field}
-use Rattle.algebra.proofs.Ring.{zero-add, sub-unique, eq-of-sub-zero, mul-zero, mul-eq-zero}
-use Rattle.algebra.proofs.Solver.{solve, _:=_, _:+_, _:*_, :0}
+use Rattle.algebra.proofs.Ring.{sub-unique, eq-of-sub-zero, mul-zero, mul-eq-zero}
 use Rattle.algebra.proofs.Power.{power}
 use Rattle.algebra.proofs.Ideal.{Divides}
 use Rattle.algebra.proofs.Polynomial.{
@@ -31,12 +31,10 @@ use Rattle.algebra.proofs.Polynomial.{
   polynomials,
   polynomial-ext,
   polynomial-discrete,
-  polynomial-induction,
   coefficient,
   coefficient-cons-zero,
   coefficient-cons-suc,
   constant,
-  constant-polynomial-hom,
   X,
   Below,
   below-zero,
@@ -76,10 +74,9 @@ length-pairs {A} {B} (x ∷ xs) ys =
 
 -- The polynomials below d: those below d + 1 are a + x·f with f below d
 module _ {K : Type 0} (R : Ring K) (D : Discrete K) where
-  open Ring R using (0#, _⊕_, add-zero)
   open Ring (polynomials R D) using (0# as 0ₚ, _⊕_ as _⊞_, _⊗_ as _⊠_, ⊖_ as ⊟_)
 
-  infixl 60 _⊕_ _⊞_
+  infixl 60 _⊞_
   infixl 70 _⊠_
   infix 80 ⊟_
   attach : K × Polynomial R D → Polynomial R D

@@ -86,7 +86,7 @@ module _ {K : Type 0} {R : Ring K} {p : ℕ} (C : Characteristic R p) where
       ∙ ap₂ _⊕_ (term-first R a b p) (term-last R a b p)
       ∙ add-comm (power R b p) (power R a p)
 
-  pub power-of-sum : (w : ℕ) (a b : K) → power R (a ⊕ b) (p ^ w) ≡ power R a (p ^ w) ⊕ power R b (p ^ w)
+  power-of-sum : (w : ℕ) (a b : K) → power R (a ⊕ b) (p ^ w) ≡ power R a (p ^ w) ⊕ power R b (p ^ w)
   power-of-sum zero a b = rw pow-zero (power-one R (a ⊕ b) ∙ sym (ap₂ _⊕_ (power-one R a) (power-one R b)))
   power-of-sum (suc w) a b =
       rw (pow-suc, ← power-power R (a ⊕ b), ← power-power R a, ← power-power R b, power-of-sum w a b)

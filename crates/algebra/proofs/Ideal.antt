@@ -3,30 +3,36 @@
 --   Ideal R I       == the property I of ring elements holds of 0, of sums and of multiples of what has it
 --   Divides R a h   == a divides h, with its quotient: h = quotient·a; all divide 0, and 0 divides 0 alone
 --   Coprime R a b   == left·a + right·b = 1 for the two elements given; 0 and 1 are coprime
---   Atom R f        == for every h, f divides h or is coprime to h, with which of the two; every unit is one
+--   Atom R f        == for every h, f divides h or is coprime to h, with which of the two: the multiples of f
+--                      are a maximal ideal or the whole ring, decided, which is more than irreducible; every
+--                      unit is one, and 0 is one exactly where every element is 0 or a unit, decided
 --   Generator R I g == g is in I and divides all of I
 --   multiples-ideal == the multiples of one element
 --   quotient-ideal  == what a given element multiplies into I
 --   coprime-member  == coprime a and b with a·c and b·c in I have c in I
+--   coprime-whole   == an ideal that holds coprime elements holds 1
 --   coprime-product-divides
 --                   == coprime divisors of h have a product that divides h
 --   coprime-cancel  == a that is coprime to b and divides b·c divides c
 --   atom-product    == an atom that divides a product divides a factor
 --
+-- "a = b modulo I" is `I (a ⊕ ⊖ b)`; its laws are `congruent-refl`, `congruent-sym`, `congruent-trans` and
+-- `congruent-mul`.
 -- Assumes nothing.
-use mathlib.Core.Path.{_≡_, refl, sym, ap, ap₂, subst⁻¹, _∙_}
+use mathlib.Core.Path.{_≡_, refl, sym, ap, ap₂, subst, subst⁻¹, _∙_}
 use mathlib.Core.Logic.{_⊎_, inl, inr}
 use Prim.Native.Nat.{ℕ, zero, suc, _≤_}
 use Rattle.algebra.proofs.Power.{power, power-zero, power-suc, power-split, power-mul}
-use Rattle.algebra.proofs.Solver.{solve, _:=_, _:+_, _:*_}
+use Rattle.algebra.proofs.Solver.{solve, _:=_, _:+_, _:*_, :-_}
 use Rattle.algebra.proofs.Ring.{Ring, zero-add, one-mul, zero-mul, add-mul}
-use Rattle.algebra.proofs.Ring.{mul-zero, mul-left-comm, mul-mul-comm}
+use Rattle.algebra.proofs.Ring.{mul-zero, mul-left-comm, mul-mul-comm, neg-one-mul, sub-add-cancel}
 
 module _ {K : Type 0} (R : Ring K) where
-  open Ring R using (0#, 1#, _⊕_, _⊗_, add-comm, mul-assoc, mul-comm, mul-one, mul-add)
+  open Ring R using (0#, 1#, _⊕_, _⊗_, ⊖_, add-comm, add-neg, mul-assoc, mul-comm, mul-one, mul-add)
 
   infixl 60 _⊕_
   infixl 70 _⊗_
+  infix 80 ⊖_
   pub record Ideal (I : K → Type 0) : Type 0 where
     pub has-zero : I 0#
     pub sum : {a b : K} → I a → I b → I (a ⊕ b)
@@ -47,10 +53,6 @@ module _ {K : Type 0} (R : Ring K) where
   pub record Generator (I : K → Type 0) (g : K) : Type 0 where
     pub member : I g
     pub divides : (h : K) → I h → Divides g h
-
-  pub generators-divide : {I : K → Type 0} {g h : K}
-      → Generator I g → Generator I h → Divides g h × Divides h g
-  generators-divide x y = (x .divides _ (y .member), y .divides _ (x .member))
 
   -- Divisibility
   pub divides-multiple : (q a : K) → Divides a (q ⊗ a)
@@ -105,7 +107,7 @@ module _ {K : Type 0} (R : Ring K) where
 
   -- Members of an ideal
   module _ {I : K → Type 0} (ideal : Ideal I) where
-    open Ideal ideal using (sum, multiple)
+    open Ideal ideal using (has-zero, sum, multiple)
 
     pub divides-member : {a h : K} → Divides a h → I a → I h
     divides-member d m = rw (d .equation) (multiple _ m)
@@ -115,7 +117,7 @@ module _ {K : Type 0} (R : Ring K) where
 
     pub quotient-ideal : (b : K) → Ideal (λ c. I (b ⊗ c))
     quotient-ideal b = record {
-      has-zero = rw mul-zero (ideal .has-zero);
+      has-zero = rw mul-zero has-zero;
       sum = λ m n. rw mul-add (sum m n);
       multiple = λ q m. rw mul-left-comm (multiple q m);
     }
@@ -127,6 +129,32 @@ module _ {K : Type 0} (R : Ring K) where
     pub coprime-whole : {a b : K} → Coprime a b → I a → I b → I 1#
     coprime-whole p m n = coprime-member p (rw mul-one m) (rw mul-one n)
 
+    -- Differences of members, and congruence modulo I.
+    pub neg-member : {a : K} → I a → I (⊖ a)
+    neg-member m = rw neg-one-mul at (multiple (⊖ 1#) m)
+
+    pub sub-member : {a b : K} → I a → I b → I (a ⊕ ⊖ b)
+    sub-member m n = sum m (neg-member n)
+
+    pub congruent-member : {a b : K} → I (a ⊕ ⊖ b) → I b → I a
+    congruent-member m n = rw sub-add-cancel at (sum m n)
+
+    pub congruent-refl : (a : K) → I (a ⊕ ⊖ a)
+    congruent-refl a = rw add-neg has-zero
+
+    pub congruent-sym : {a b : K} → I (a ⊕ ⊖ b) → I (b ⊕ ⊖ a)
+    congruent-sym {a} {b} m = subst I (solve R 2 (λ a b. :- (a :+ :- b) := b :+ :- a) refl a b) (neg-member m)
+
+    pub congruent-trans : {a b c : K} → I (a ⊕ ⊖ b) → I (b ⊕ ⊖ c) → I (a ⊕ ⊖ c)
+    congruent-trans {a} {b} {c} m n =
+        subst I (solve R 3 (λ a b c. a :+ :- b :+ (b :+ :- c) := a :+ :- c) refl a b c) (sum m n)
+
+    pub congruent-mul : {a b c d : K} → I (a ⊕ ⊖ b) → I (c ⊕ ⊖ d) → I (a ⊗ c ⊕ ⊖ (b ⊗ d))
+    congruent-mul {a} {b} {c} {d} m n =
+        subst I
+        (solve R 4 (λ a b c d. c :* (a :+ :- b) :+ b :* (c :+ :- d) := a :* c :+ :- (b :* d)) refl a b c d)
+        (sum (multiple c m) (multiple b n))
+
   -- Coprime elements
   pub coprime-sym : {a b : K} → Coprime a b → Coprime b a
   coprime-sym p = record { left = p .right; right = p .left; bezout = add-comm _ _ ∙ p .bezout }
@@ -136,13 +164,6 @@ module _ {K : Type 0} (R : Ring K) where
     left = 0#;
     right = 1#;
     bezout = rw (zero-mul R a, mul-one) (zero-add R 1#);
-  }
-
-  pub coprime-divisor : {a b c : K} → Coprime a b → Divides c b → Coprime a c
-  coprime-divisor {a} {b} {c} p d = record {
-    left = p .left;
-    right = p .right ⊗ d .quotient;
-    bezout = rw (mul-assoc, ← d .equation) (p .bezout);
   }
 
   pub coprime-mul : {a b c : K} → Coprime a b → Coprime a c → Coprime a (b ⊗ c)
@@ -174,10 +195,3 @@ module _ {K : Type 0} (R : Ring K) where
 
   pub atom-product : {f a b : K} → Atom f → Divides f (a ⊗ b) → Divides f a ⊎ Divides f b
   atom-product {a = a} atom d = elim (atom a) [ inl e ↦ inl e | inr p ↦ inr (coprime-cancel p d) ]
-
-  pub atom-power : {f a : K} → Atom f → (n : ℕ) → Divides f (power R a n) → Divides f a
-  atom-power {a = a} atom zero d = divides-trans (rw power-zero at d) (one-divides a)
-  atom-power {a = a} atom (suc n) d = elim (atom-product atom (rw (power-suc R a n) at d)) [
-    | inl e ↦ atom-power atom n e
-    | inr e ↦ e
-  ]

@@ -6,15 +6,16 @@
 --   factor-reducible    == a monic divisor of positive degree below that of f makes f reducible
 --   reducible-factor    == a reducible polynomial has a monic divisor of positive degree, at most half its
 --                          own
---   irreducible-pairs   == irreducible: no monic g of degree a and h of degree n - a, 0 < a < n, have the
---                          product f
 --   irreducible-half    == irreducible: no monic g of degree a, 0 < a and 2·a ≤ n, divides f
+--   irreducible-divisor == a monic divisor of positive degree of an irreducible polynomial is that polynomial
+--   irreducibles-equal  == an irreducible polynomial that divides another one is that one
 --   irreducible-degrees == over a field the two polynomials need not be monic
 --   irreducible-atom    == over a field, an irreducible polynomial is an atom: each h is a multiple of it or
 --                          coprime to it
 --   irreducible-product == if an irreducible polynomial divides a product, it divides a factor
 --   irreducibles-coprime, irreducible-powers-coprime
 --                       == different irreducible polynomials are coprime, and so are their powers
+--   irreducibles-atoms  == so different irreducible polynomials are coprime atoms, as PowerProduct wants them
 --   irreducible-linear  == each monic polynomial of degree 1 is irreducible
 --   irreducible-constant-term
 --                       == an irreducible polynomial other than x has a constant term other than 0
@@ -24,7 +25,7 @@ use mathlib.Core.Path.{_≡_, sym, subst}
 use mathlib.Core.Logic.{_⊎_, inl, inr, _↔_}
 use mathlib.Core.List.{List}
 use lib.ListN.{length, getD}
-use Prim.Native.Nat.{ℕ, _+_, _*_, _-_, _≤_, _<_}
+use Prim.Native.Nat.{ℕ, _+_, _*_, _≤_, _<_}
 use native.Mathlib.Nat as ℕ
 use native.Mathlib.Decide.{decLe, decLt}
 use native.Mathlib.Omega.{arith}
@@ -41,7 +42,7 @@ use Rattle.algebra.proofs.Ideal.{
   atom-product,
 }
 use Rattle.algebra.proofs.PowerProduct.{CoprimeAtoms}
-use Rattle.algebra.proofs.Polynomial.{Polynomial, polynomials, coefficient, scale, X, Below}
+use Rattle.algebra.proofs.Polynomial.{Polynomial, polynomials, coefficient, scale, X}
 use Rattle.algebra.proofs.Monic.{
   Degree,
   Monic,
@@ -58,7 +59,6 @@ use Rattle.algebra.proofs.Monic.{
 use Rattle.algebra.proofs.Division.{
   monic-divisor,
   divisor-same-degree,
-  divides-below,
   divisor-degree,
   monic-scale-divides,
   x-divides,
@@ -66,7 +66,7 @@ use Rattle.algebra.proofs.Division.{
 use Rattle.algebra.proofs.Divisor.{Factor, coprime-or-common}
 
 module _ {K : Type 0} {R : Ring K} {D : Discrete K} where
-  open Ring (polynomials R D) using (0# as 0ₚ, _⊗_ as _⊠_)
+  open Ring (polynomials R D) using (_⊗_ as _⊠_)
 
   infixl 70 _⊠_
   pub record Reducible (f : Polynomial R D) : Type 0 where
@@ -89,20 +89,10 @@ module _ {K : Type 0} {R : Ring K} {D : Discrete K} where
       {f h : Polynomial R D} {n : ℕ} → Irreducible f n → Divides (polynomials R D) f h → Factor h f n
   irreducible-factor i d = record { monic = i .monic; positive = i .positive; divides = d }
 
-  pub irreducible-divides-below :
-      {f h : Polynomial R D} {n : ℕ}
-      → Irreducible f n
-      → Below h n
-      → ¬ (h ≡ 0ₚ)
-      → ¬ Divides (polynomials R D) f h
-  irreducible-divides-below i b h d = h (divides-below (i .monic) d b)
-
 -- Over any ring with 1 other than 0.
 module _ {K : Type 0} {R : Ring K} {D : Discrete K} (nontrivial : Nontrivial R) where
   open Ring R using (0#)
-  open Ring (polynomials R D) using (_⊗_ as _⊠_)
 
-  infixl 70 _⊠_
   pub reducible-degrees :
       {f : Polynomial R D} {n : ℕ} → Monic f n → (r : Reducible f) → r .left-degree + r .right-degree ≡ n
   reducible-degrees m r =
@@ -159,49 +149,7 @@ module _ {K : Type 0} {R : Ring K} {D : Discrete K} (nontrivial : Nontrivial R) 
         },
       )
 
-  -- Irreducible by search among pairs, and among divisors of at most half the degree.
-  pub irreducible-pairs :
-      {f : Polynomial R D} {n : ℕ}
-      → Monic f n
-      → 0 < n
-      → Irreducible f n
-      ↔ ((g h : Polynomial R D) (a : ℕ) → 1 ≤ a → a ≤ n - 1 → Monic g a → Monic h (n - a) → ¬ (g ⊠ h ≡ f))
-  irreducible-pairs {f} {n} m p = (
-    λ i g h a l k u v e.
-        i .no-factors
-        (
-        record {
-          left = g;
-          right = h;
-          left-degree = a;
-          right-degree = n - a;
-          left-positive = l;
-          right-positive = omega arith;
-          left-monic = u;
-          right-monic = v;
-          product = e;
-        }
-        ),
-    λ none. record { monic = m; positive = p; no-factors = λ r. refute none r (reducible-degrees m r) },
-  )
-    where
-      refute :
-          ((g h : Polynomial R D) (a : ℕ) → 1 ≤ a → a ≤ n - 1 → Monic g a → Monic h (n - a) → ¬ (g ⊠ h ≡ f))
-          → (r : Reducible f)
-          → r .left-degree + r .right-degree ≡ n
-          → ⊥
-      refute none r e =
-          let rest : r .right-degree ≡ n - r .left-degree = omega arith in
-          none
-          (r .left)
-          (r .right)
-          (r .left-degree)
-          (r .left-positive)
-          (omega arith)
-          (r .left-monic)
-          (subst (Monic (r .right)) rest (r .right-monic))
-          (r .product)
-
+  -- Irreducible by search among divisors of at most half the degree.
   pub irreducible-half :
       {f : Polynomial R D} {n : ℕ}
       → Monic f n
@@ -340,17 +288,6 @@ module _ {K : Type 0} {R : Ring K} {D : Discrete K} (F : Field R) where
       → Divides (polynomials R D) f (a ⊠ b)
       → Divides (polynomials R D) f a ⊎ Divides (polynomials R D) f b
   irreducible-product i = atom-product (polynomials R D) (irreducible-atom i)
-
-  pub irreducible-coprime-below :
-      {f h : Polynomial R D} {n : ℕ}
-      → Irreducible f n
-      → Below h n
-      → ¬ (h ≡ 0ₚ)
-      → Coprime (polynomials R D) f h
-  irreducible-coprime-below {h = h} i b z = elim (irreducible-atom i h) [
-    | inl d ↦ absurd (irreducible-divides-below i b z d)
-    | inr p ↦ p
-  ]
 
   pub irreducibles-coprime :
       {f g : Polynomial R D} {m n : ℕ}

@@ -12,6 +12,7 @@
 --   step-kept            == it is d, and 2L > n: f − (d/b)·x^(2L−1−n)·g fits n + 1 terms, of degree L
 --   step-changed         == it is d, not 0, and 2L ≤ n: x^(n+1−2L)·f − (d/b)·g fits n + 1 terms, of degree
 --                           n + 1 − L, and f with d takes the place of g with b
+--   fits-another         == 2L > n: f − g is another polynomial of degree L that fits the n terms
 --   start                == 1, with g = 0 and b = 1, for no terms; the first term other than 0, at place n,
 --                           gives x^(n+1) by `step-changed`
 --   least-fit-exists     == over a field, n terms are fitted by a polynomial of least degree
@@ -202,11 +203,11 @@ module _ {K : Type 0} {R : Ring K} {D : Discrete K} where
 -- A discrepancy other than 0, over a field.
 module _ {K : Type 0} {R : Ring K} {D : Discrete K} (F : Field R) where
   open Ring R using (0#, 1#, _⊕_, _⊗_, ⊖_, add-zero, mul-one, mul-assoc)
-  open Ring (polynomials R D) using (0# as 0ₚ, 1# as 1ₚ, _⊕_ as _⊞_, _⊗_ as _⊠_, ⊖_ as ⊟_)
+  open Ring (polynomials R D) using (0# as 0ₚ, 1# as 1ₚ, _⊕_ as _⊞_, ⊖_ as ⊟_)
   open Field F using (inverse)
 
   infixl 60 _⊕_ _⊞_
-  infixl 70 _⊗_ _⊠_
+  infixl 70 _⊗_
   infix 80 ⊖_ ⊟_
   -- The corrected action, where both actions vanish and where they are d and b.
   correct-zero :

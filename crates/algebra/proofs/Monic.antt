@@ -6,8 +6,12 @@
 --   Nontrivial R       == 1 is not 0 in R; a field is so by `one-nonzero`
 --   leading-term       == each polynomial is 0 or has a degree
 --   monic-mul          == degrees of monic polynomials add up
+--   monic-power        == the power k of a monic polynomial of degree n is monic of degree n·k
 --   monic-cancel       == a monic polynomial is no zero divisor
 --   monic-list-unique  == monic lists with equal series are equal
+--   degree-mul         == over a field, degrees add up
+--   polynomial-mul-eq-zero
+--                      == over a field, a product is 0 only where a factor is
 --   scaled-monic       == over a field, each polynomial other than 0 is a constant times a monic one
 --
 -- Bounds on the degree are `Below f n` of Polynomial.
@@ -42,8 +46,6 @@ use Rattle.algebra.proofs.Polynomial.{
   coefficient-neg,
   coefficient-mul-sum,
   coefficient-scale,
-  coefficient-constant-suc,
-  constant,
   scale,
   X,
   fromList,
@@ -69,7 +71,7 @@ pub record Monic {K : Type 0} {R : Ring K} {D : Discrete K} (f : Polynomial R D)
 
 module _ {K : Type 0} {R : Ring K} {D : Discrete K} where
   open Ring R using (0#, 1#, _⊕_, _⊗_, ⊖_, add-zero, mul-one)
-  open Ring (polynomials R D) using (0# as 0ₚ, 1# as 1ₚ, _⊕_ as _⊞_, _⊗_ as _⊠_, ⊖_ as ⊟_)
+  open Ring (polynomials R D) using (0# as 0ₚ, _⊕_ as _⊞_, _⊗_ as _⊠_, ⊖_ as ⊟_)
 
   infixl 60 _⊕_ _⊞_
   infixl 70 _⊗_ _⊠_
@@ -112,19 +114,6 @@ module _ {K : Type 0} {R : Ring K} {D : Discrete K} where
       side : (i j : ℕ) → suc (n + m) ≤ i → Dec (n < j) → (suc n ≤ j) ⊎ (suc m ≤ i - j)
       side i j l (yes h) = inl h
       side i j l (no h) = inr (omega arith)
-
-  pub below-mul-add : {f g : Polynomial R D} {n m : ℕ} → Below f n → Below g m → Below (f ⊠ g) (n + m)
-  below-mul-add {f} {g} {n} {m} b c =
-      record {
-        above =
-            λ i l.
-            coefficient-mul-sum f g i
-            ∙ sum-zeros R (suc i) (λ j _. below-term b c i j (side i j l (decLt j n)));
-      }
-    where
-      side : (i j : ℕ) → n + m ≤ i → Dec (j < n) → (n ≤ j) ⊎ (m ≤ i - j)
-      side i j l (yes h) = inr (omega arith)
-      side i j l (no h) = inl (omega arith)
 
   -- The coefficient at the sum of two bounds is the product of the two coefficients there.
   pub coefficient-top :
@@ -269,7 +258,7 @@ pub record MonicList {K : Type 0} (R : Ring K) (xs : List K) (n : ℕ) : Type 0 
   pub last : coefficient-list R xs n ≡ R .1#
 
 module _ {K : Type 0} {R : Ring K} where
-  open Ring R using (0#, 1#)
+  open Ring R using (0#)
 
   list-above : {xs : List K} {n : ℕ} → MonicList R xs n → (i : ℕ) → suc n ≤ i → coefficient-list R xs i ≡ 0#
   list-above {xs} m i l = List·getD-eq-default xs 0# (subst (λ k. k ≤ i) (sym (m .size)) l)
@@ -300,12 +289,11 @@ module _ {K : Type 0} {R : Ring K} where
       same : n ≡ m
       same = ℕ.le-antisymm (monic-list-size h b a (sym e)) (monic-list-size h a b e)
 
--- Monic lists and monic polynomials; the polynomials 0, 1, x and constants.
+-- Monic lists and monic polynomials; the polynomials 0, 1 and x.
 module _ {K : Type 0} (R : Ring K) (D : Discrete K) where
-  open Ring R using (0#, 1#)
-  open Ring (polynomials R D) using (0# as 0ₚ, 1# as 1ₚ, _⊗_ as _⊠_)
+  open Ring R using (0#)
+  open Ring (polynomials R D) using (0# as 0ₚ, 1# as 1ₚ)
 
-  infixl 70 _⊠_
   pub monic-fromList : {xs : List K} {n : ℕ} → MonicList R xs n → Monic (fromList R D xs) n
   monic-fromList {xs} {n} m =
       record {
@@ -327,9 +315,6 @@ module _ {K : Type 0} (R : Ring K) (D : Discrete K) where
       go : (i : ℕ) → 1 ≤ i → coefficient f i ≡ 0#
       go zero l = absurd (ℕ.not-suc-le-zero l)
       go (suc i) l = h i
-
-  pub below-constant : (a : K) → Below (constant R D a) 1
-  below-constant a = below-one (constant R D a) (coefficient-constant-suc R D a)
 
   pub monic-one : Monic 1ₚ 0
   monic-one = record { leading = coefficient-one-zero R D; below = below-one 1ₚ (coefficient-one-suc R D) }
@@ -354,10 +339,6 @@ module _ {K : Type 0} (R : Ring K) (D : Discrete K) where
       }
 
 module _ {K : Type 0} {R : Ring K} {D : Discrete K} where
-  open Ring R using (0#, 1#, _⊗_)
-  open Ring (polynomials R D) using (0# as 0ₚ, 1# as 1ₚ, _⊗_ as _⊠_)
-
-  infixl 70 _⊗_ _⊠_
   pub degree-length : {f : Polynomial R D} {n : ℕ} → Degree f n → length (f .toList) ≡ suc n
   degree-length {f} d = ℕ.le-antisymm (length-below (d .below)) (degree-below d (below-length f))
 
@@ -379,9 +360,9 @@ module _ {K : Type 0} {R : Ring K} {D : Discrete K} where
 
 -- Over a field.
 module _ {K : Type 0} {R : Ring K} {D : Discrete K} (F : Field R) where
-  open Ring R using (0#, 1#, _⊗_)
-  open Ring (polynomials R D) using (0# as 0ₚ, 1# as 1ₚ, _⊗_ as _⊠_)
-  open Field F using (inverse, one-nonzero)
+  open Ring R using (0#, _⊗_)
+  open Ring (polynomials R D) using (0# as 0ₚ, _⊗_ as _⊠_)
+  open Field F using (inverse)
 
   infixl 70 _⊗_ _⊠_
   -- Degrees add up; there are no zero divisors.

@@ -11,7 +11,7 @@ use Rattle.algebra.proofs.Ring.{Ring, Hom}
 use Rattle.algebra.proofs.Ring.{zero-add, zero-mul, add-mul, add-add-comm, neg-zero, neg-add}
 
 module _ {K : Type 0} (R : Ring K) where
-  open Ring R using (0#, 1#, _⊕_, _⊗_, ⊖_, add-assoc, add-zero, mul-add, mul-comm, mul-one)
+  open Ring R using (0#, 1#, _⊕_, _⊗_, ⊖_, add-assoc, add-zero, mul-comm, mul-one)
 
   infixl 60 _⊕_
   infixl 70 _⊗_

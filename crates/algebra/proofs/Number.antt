@@ -1,5 +1,6 @@
 -- Laws of the natural numbers: remainders of products, least numbers, primes, Euclid's lemma.
 --
+--   mul-mod          == a * b % m = (a % m) * (b % m) % m; for m = 0 the remainder of a is a
 --   Least P n        == n has the property P and no smaller number has it
 --   least-below      == a decided property that some b has: the least number that has it, at most b
 --   none-below       == a decided property: the least number below b that has it, or that none below b has it
@@ -24,7 +25,6 @@ use native.Mathlib.Nat.{
   one-mul,
   pow-zero,
   pow-suc,
-  add-mod,
   mod-lt,
   mod-eq-of-lt,
   mod-add-div,
@@ -67,11 +67,8 @@ mod-mul-mod a b m = rw (mul-comm (a % m) b, mul-comm a b) (mul-mod-mod b a m)
 pub mul-mod : (a b m : ℕ) → a * b % m ≡ a % m * (b % m) % m
 mul-mod a b m = sym (mul-mod-mod (a % m) b m ∙ mod-mul-mod a b m)
 
--- Numbers with equal remainders may stand for each other in sums and products
-pub congruent-add : (m a b c d : ℕ) → a % m ≡ c % m → b % m ≡ d % m → (a + b) % m ≡ (c + d) % m
-congruent-add m a b c d p q = rw (add-mod a b m, add-mod c d m, p, q)
-
-pub congruent-mul : (m a b c d : ℕ) → a % m ≡ c % m → b % m ≡ d % m → a * b % m ≡ c * d % m
+-- Numbers with equal remainders may stand for each other in products
+congruent-mul : (m a b c d : ℕ) → a % m ≡ c % m → b % m ≡ d % m → a * b % m ≡ c * d % m
 congruent-mul m a b c d p q = rw (mul-mod a b m, mul-mod c d m, p, q)
 
 -- Least numbers

@@ -26,7 +26,6 @@ use Rattle.algebra.proofs.Power.{power, power-zero}
 use Rattle.algebra.proofs.Characteristic.{Characteristic}
 use Rattle.algebra.proofs.Ideal.{Divides, divides-power, divides-powers, divides-trans, divides-member}
 use Rattle.algebra.proofs.Polynomial.{Polynomial, polynomials, X}
-use Rattle.algebra.proofs.Monic.{Nontrivial}
 use Rattle.algebra.proofs.Frobenius.{polynomial-characteristic}
 use Rattle.algebra.proofs.Derivative.{unity}
 use Rattle.algebra.proofs.Period.{unity-power}

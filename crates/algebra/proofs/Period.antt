@@ -96,10 +96,9 @@ valuation-pos {w = w} P v = omega (arith, prime-power-pos P w, valuation-le v)
 
 -- In any ring with any ideal.
 module _ {K : Type 0} (R : Ring K) {I : K → Type 0} (ideal : Ideal R I) {f : K} (atom : Atom R f) where
-  open Ring R using (0#, 1#, _⊕_, _⊗_, mul-one, mul-comm, mul-assoc)
+  open Ring R using (1#, _⊗_, mul-comm)
   open Ideal ideal using (multiple)
 
-  infixl 60 _⊕_
   infixl 70 _⊗_
   powers-whole : {t : K} → Coprime R f t → (n e : ℕ) → I (power R t n) → I (power R f e) → I 1#
   powers-whole p n e a b = coprime-whole R ideal (coprime-power R p e n) b a
@@ -144,7 +143,7 @@ module _ {K : Type 0} (R : Ring K) {I : K → Type 0} (ideal : Ideal R I) {f : K
 
 -- In a ring of characteristic p.
 module _ {K : Type 0} {R : Ring K} {p : ℕ} (C : Characteristic R p) where
-  open Ring R using (0#, 1#, _⊕_, _⊗_, ⊖_)
+  open Ring R using (1#, _⊕_, _⊗_, ⊖_)
 
   infixl 60 _⊕_
   infixl 70 _⊗_
@@ -167,12 +166,9 @@ module _ {K : Type 0} {R : Ring K} {p : ℕ} (C : Characteristic R p) where
 
 -- The polynomial x^n − 1.
 module _ {K : Type 0} (R : Ring K) (D : Discrete K) where
-  open Ring R using (0#, 1#, _⊕_, _⊗_, ⊖_)
-  open Ring (polynomials R D) using (1# as 1ₚ, _⊕_ as _⊞_, _⊗_ as _⊠_, ⊖_ as ⊟_)
+  open Ring R using (0#)
+  open Ring (polynomials R D) using (1# as 1ₚ)
 
-  infixl 60 _⊕_ _⊞_
-  infixl 70 _⊗_ _⊠_
-  infix 80 ⊖_ ⊟_
   pub unity-monic : (n : ℕ) → 0 < n → Monic (unity (polynomials R D) (X R D) n) n
   unity-monic n pos =
       monic-add-below (monic-x-power n) (below-neg (below-weaken (monic-one R D .below) pos))
@@ -201,7 +197,7 @@ module _
     {K : Type 0} {R : Ring K} {D : Discrete K} {I : Polynomial R D → Type 0}
     (ideal : Ideal (polynomials R D) I)
   where
-    open Ring R using (0#, 1#)
+    open Ring R using (0#)
     open Ring (polynomials R D) using (0# as 0ₚ, 1# as 1ₚ)
 
     proper-nontrivial : ¬ I 1ₚ → Nontrivial R
@@ -224,18 +220,6 @@ module _
     period-constant-term atom proper N e pos a b =
         unity-divisor-constant-term R D (proper-nontrivial proper) N pos
         (atom-divides-base (polynomials R D) ideal atom proper 1 e (rw power-one a) b)
-
-    pub period-not-x :
-        {f : Polynomial R D} → Atom (polynomials R D) f
-        → ¬ I 1ₚ
-        → (N e : ℕ)
-        → 0 < N
-        → I (unity (polynomials R D) (X R D) N)
-        → I (power (polynomials R D) f e)
-        → ¬ (f ≡ X R D)
-    period-not-x atom proper N e pos a b z =
-        period-constant-term atom proper N e pos a b
-        (ap (λ g. coefficient g 0) z ∙ x-divides-constant (divides-refl (polynomials R D) (X R D)))
 
     -- In characteristic p.
     module _

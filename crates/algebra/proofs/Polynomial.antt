@@ -11,21 +11,18 @@
 --   constant R D a     == the polynomial a
 --   X R D              == the polynomial x
 --   scale a f          == the product of the constant a and f
---   monomial R D a n   == the polynomial a·x^n
 --   Below f n          == all coefficients of f from n on are 0: f is 0 or of degree less than n
 --
 -- Sum, product and so on of polynomials are read at a place by `coefficient-add`, `coefficient-mul-sum` and
--- their like. Over a field F of the ring R, the decided equality D is `F .discrete`.
+-- their like, and a + x·f by `coefficient-cons-zero` and `coefficient-cons-suc`. Over a field F of the ring
+-- R, the decided equality D is `F .discrete`.
 -- Assumes nothing.
 use mathlib.Core.Path.{_≡_, refl, sym, ap, ap₂, fun-ext, subst, _∙_}
 use mathlib.Core.HLevel.{isProp→PathP}
-use mathlib.Core.Logic.{_≢_}
 use mathlib.Core.List.{List, [], _∷_, List·isSet, List-discrete}
 use lib.ListN.{length, List·getD-eq-default}
 use Prim.Native.Nat.{ℕ, zero, suc, _+_, _-_, _≤_, _<_, zero-le, suc-le-suc}
 use native.Mathlib.Nat as ℕ
-use native.Mathlib.Decide.{decLt}
-use native.Mathlib.Omega.{arith}
 use Rattle.algebra.proofs.Ring.{Ring, Hom, induced, induced-hom, hom, zero-add}
 use Rattle.algebra.proofs.Power.{power, hom-power}
 use Rattle.algebra.proofs.Sum.{sum}
@@ -35,7 +32,6 @@ use Rattle.algebra.proofs.Series.{
   series-one,
   series-add,
   series-neg,
-  series-mul-zero,
   series-mul-sum,
   constant-series,
   constant-zero,
@@ -65,7 +61,7 @@ use Rattle.algebra.proofs.Series.{
 }
 
 module _ {K : Type 0} (R : Ring K) (D : Discrete K) where
-  open Ring R using (0#, 1#)
+  open Ring R using (0#)
 
   keep-or-drop : (a : K) → Dec (a ≡ 0#) → List K
   keep-or-drop a (yes z) = []
@@ -203,12 +199,12 @@ module _ {K : Type 0} {R : Ring K} {D : Discrete K} where
       go (no h) = no (λ e. h (ap (λ p. p .toList) e))
 
 module _ {K : Type 0} (R : Ring K) (D : Discrete K) where
-  open Ring R using (0#, 1#, _⊕_, _⊗_, ⊖_)
+  open Ring R using (1#)
   open Ring (series R) using (0# as 0ˢ, 1# as 1ˢ, _⊕_ as _⊞_, _⊗_ as _⊠_, ⊖_ as ⊟_)
 
-  infixl 60 _⊕_ _⊞_
-  infixl 70 _⊗_ _⊠_
-  infix 80 ⊖_ ⊟_
+  infixl 60 _⊞_
+  infixl 70 _⊠_
+  infix 80 ⊟_
   unfoldable pub fromList : List K → Polynomial R D
   fromList xs = record { toList = trim R D xs; trimmed = trim-trim R D xs }
 
@@ -291,14 +287,13 @@ module _ {K : Type 0} (R : Ring K) (D : Discrete K) where
 at : {K : Type 0} {u v : ℕ → K} (n : ℕ) → u ≡ v → u n ≡ v n
 at n e = ap (λ w. w n) e
 
--- Coefficients of 0 and 1; constants, x, monomials and scaling.
+-- Coefficients of 0 and 1; constants, x and scaling.
 module _ {K : Type 0} (R : Ring K) (D : Discrete K) where
-  open Ring R using (0#, 1#, _⊕_, _⊗_, ⊖_)
-  open Ring (polynomials R D) using (0# as 0ₚ, 1# as 1ₚ, _⊕_ as _⊞_, _⊗_ as _⊠_, ⊖_ as ⊟_)
+  open Ring R using (0#, 1#, _⊕_, _⊗_)
+  open Ring (polynomials R D) using (0# as 0ₚ, 1# as 1ₚ, _⊕_ as _⊞_, _⊗_ as _⊠_)
 
   infixl 60 _⊕_ _⊞_
   infixl 70 _⊗_ _⊠_
-  infix 80 ⊖_ ⊟_
   pub coefficient-zero : (n : ℕ) → coefficient 0ₚ n ≡ 0#
   coefficient-zero n = at n (coefficient-hom R D .zero) ∙ series-zero R n
 
@@ -313,9 +308,6 @@ module _ {K : Type 0} (R : Ring K) (D : Discrete K) where
 
   unfoldable pub X : Polynomial R D
   X = fromList R D (0# ∷ 1# ∷ [])
-
-  unfoldable pub monomial : K → ℕ → Polynomial R D
-  monomial a n = constant a ⊠ power (polynomials R D) X n
 
   constant-coefficients : (a : K) → coefficient (constant a) ≡ constant-series R a
   unfolding constant
@@ -362,10 +354,6 @@ module _ {K : Type 0} (R : Ring K) (D : Discrete K) where
           ∙ sym (coefficient-hom R D .mul (constant a) (constant b))
           )
 
-  pub constant-injective : {a b : K} → constant a ≡ constant b → a ≡ b
-  constant-injective {a} {b} e =
-      sym (coefficient-constant-zero a) ∙ ap (λ f. coefficient f 0) e ∙ coefficient-constant-zero b
-
   x-coefficients : coefficient X ≡ x-series R
   unfolding X x-series
   x-coefficients =
@@ -380,8 +368,8 @@ scale {R = R} {D = D} a f = (polynomials R D ._⊗_) (constant R D a) f
 
 -- Coefficients of sums, negatives, products, multiples and shifts.
 module _ {K : Type 0} {R : Ring K} {D : Discrete K} where
-  open Ring R using (0#, 1#, _⊕_, _⊗_, ⊖_, add-zero)
-  open Ring (polynomials R D) using (0# as 0ₚ, 1# as 1ₚ, _⊕_ as _⊞_, _⊗_ as _⊠_, ⊖_ as ⊟_)
+  open Ring R using (0#, _⊕_, _⊗_, ⊖_, add-zero)
+  open Ring (polynomials R D) using (_⊕_ as _⊞_, _⊗_ as _⊠_, ⊖_ as ⊟_)
 
   infixl 60 _⊕_ _⊞_
   infixl 70 _⊗_ _⊠_
@@ -392,11 +380,6 @@ module _ {K : Type 0} {R : Ring K} {D : Discrete K} where
 
   pub coefficient-neg : (f : Polynomial R D) (n : ℕ) → coefficient (⊟ f) n ≡ ⊖ coefficient f n
   coefficient-neg f n = at n (coefficient-hom R D .neg f) ∙ series-neg R (coefficient f) n
-
-  pub coefficient-mul-zero :
-      (f g : Polynomial R D) → coefficient (f ⊠ g) 0 ≡ coefficient f 0 ⊗ coefficient g 0
-  coefficient-mul-zero f g =
-      at 0 (coefficient-hom R D .mul f g) ∙ series-mul-zero R (coefficient f) (coefficient g)
 
   pub coefficient-mul-sum :
       (f g : Polynomial R D) (n : ℕ)
@@ -468,40 +451,12 @@ module _ {K : Type 0} {R : Ring K} {D : Discrete K} where
       at n (x-power-coefficients k f) ∙ x-power-mul-below R k (coefficient f) n l
 
 module _ {K : Type 0} (R : Ring K) (D : Discrete K) where
-  open Ring R using (0#, 1#, _⊕_, _⊗_, ⊖_)
-  open Ring (polynomials R D) using (0# as 0ₚ, 1# as 1ₚ, _⊕_ as _⊞_, _⊗_ as _⊠_, ⊖_ as ⊟_)
+  open Ring R using (_⊗_)
+  open Ring (polynomials R D) using (0# as 0ₚ, _⊕_ as _⊞_, _⊗_ as _⊠_, ⊖_ as ⊟_)
 
-  infixl 60 _⊕_ _⊞_
+  infixl 60 _⊞_
   infixl 70 _⊗_ _⊠_
-  infix 80 ⊖_ ⊟_
-  x^_ : ℕ → Polynomial R D
-  x^_ n = power (polynomials R D) (X R D) n
-
-  infix 90 x^_
-  monomial-swap : (a : K) (n : ℕ) → monomial R D a n ≡ x^ n ⊠ constant R D a
-  unfolding monomial x^_
-  monomial-swap a n = polynomials R D .mul-comm (constant R D a) (x^ n)
-
-  pub coefficient-monomial-same : (a : K) (n : ℕ) → coefficient (monomial R D a n) n ≡ a
-  unfolding x^_
-  coefficient-monomial-same a n =
-      ap (λ p. coefficient p n) (monomial-swap a n)
-      ∙ ap (coefficient (x^ n ⊠ constant R D a)) (sym (ℕ.add-zero n))
-      ∙ coefficient-x-power-mul-above n (constant R D a) 0
-      ∙ coefficient-constant-zero R D a
-
-  pub coefficient-monomial-other : (a : K) (n i : ℕ) → i ≢ n → coefficient (monomial R D a n) i ≡ 0#
-  unfolding x^_
-  coefficient-monomial-other a n i h = ap (λ p. coefficient p i) (monomial-swap a n) ∙ go (decLt i n)
-    where
-      go : Dec (i < n) → coefficient (x^ n ⊠ constant R D a) i ≡ 0#
-      go (yes l) = coefficient-x-power-mul-below n (constant R D a) i l
-      go (no l) =
-          let place : i ≡ n + suc (i - suc n) = omega arith in
-          ap (coefficient (x^ n ⊠ constant R D a)) place
-          ∙ coefficient-x-power-mul-above n (constant R D a) (suc (i - suc n))
-          ∙ coefficient-constant-suc R D a (i - suc n)
-
+  infix 80 ⊟_
   -- Each operation of lists is that of the polynomials.
   pub fromList-nil : fromList R D [] ≡ 0ₚ
   fromList-nil =

@@ -8,15 +8,13 @@ use mathlib.Core.HLevel.{dec→stable}
 use Prim.Native.Nat.{ℕ, zero, suc, _+_, _*_, _-_, _≤_, _<_}
 use native.Mathlib.Nat as ℕ
 use Rattle.algebra.proofs.Ring.{Ring, Field, Hom}
-use Rattle.algebra.proofs.Ring.{one-mul, mul-zero, mul-mul-comm, mul-neg, neg-mul-neg, neg-one-mul}
+use Rattle.algebra.proofs.Ring.{one-mul, mul-zero, mul-mul-comm}
 use Rattle.algebra.proofs.Ring.{mul-nonzero}
 
 module _ {K : Type 0} (R : Ring K) where
-  open Ring R using (0#, 1#, _⊕_, _⊗_, ⊖_, mul-assoc, mul-comm, mul-one)
+  open Ring R using (0#, 1#, _⊗_, mul-assoc, mul-comm, mul-one)
 
-  infixl 60 _⊕_
   infixl 70 _⊗_
-  infix 80 ⊖_
   unfoldable pub power : K → ℕ → K
   power a zero = 1#
   power a (suc n) = power a n ⊗ a
@@ -36,11 +34,7 @@ module _ {K : Type 0} (R : Ring K) where
   unfolding power
   power-one a = one-mul R a
 
-  pub power-two : (a : K) → power a 2 ≡ a ⊗ a
-  unfolding power
-  power-two a = ap (λ x. x ⊗ a) (one-mul R a)
-
-  -- Powers with a sum and with a product of exponents.
+  -- Powers with a sum and a difference of exponents.
   pub power-add : (a : K) (m n : ℕ) → power a (m + n) ≡ power a m ⊗ power a n
   unfolding power
   power-add a m zero = rw ℕ.add-zero (sym (mul-one (power a m)))
@@ -50,7 +44,7 @@ module _ {K : Type 0} (R : Ring K) where
   pub power-split : (a : K) {m n : ℕ} → m ≤ n → power a n ≡ power a (n - m) ⊗ power a m
   power-split a {m} {n} h = ap (power a) (sym (ℕ.sub-add-cancel h)) ∙ power-add a (n - m) m
 
-  -- The power of a product, of 1, of 0, of a power, of a negative.
+  -- The power of a product, of 1, of 0, of a power.
   pub power-mul : (a b : K) (n : ℕ) → power (a ⊗ b) n ≡ power a n ⊗ power b n
   unfolding power
   power-mul a b zero = sym (mul-one 1#)
@@ -71,25 +65,6 @@ module _ {K : Type 0} (R : Ring K) where
   power-power a m (suc n) =
       rw ℕ.mul-suc (ap (λ x. x ⊗ power a m) (power-power a m n) ∙ sym (power-add a (m * n) m))
 
-  pub power-power-comm : (a : K) (m n : ℕ) → power (power a m) n ≡ power (power a n) m
-  power-power-comm a m n = power-power a m n ∙ ap (power a) (ℕ.mul-comm m n) ∙ sym (power-power a n m)
-
-  pub power-neg-even : (a : K) (n : ℕ) → power (⊖ a) (2 * n) ≡ power a (2 * n)
-  power-neg-even a n =
-      sym (power-power (⊖ a) 2 n)
-      ∙ ap (λ x. power x n) (power-two (⊖ a) ∙ neg-mul-neg R a a ∙ sym (power-two a))
-      ∙ power-power a 2 n
-
-  pub power-neg-odd : (a : K) (n : ℕ) → power (⊖ a) (suc (2 * n)) ≡ ⊖ power a (suc (2 * n))
-  power-neg-odd a n =
-      power-suc (⊖ a) (2 * n)
-      ∙ ap (λ x. x ⊗ ⊖ a) (power-neg-even a n)
-      ∙ mul-neg R (power a (2 * n)) a
-      ∙ ap ⊖_ (sym (power-suc a (2 * n)))
-
-  pub power-neg : (a : K) (n : ℕ) → power (⊖ a) n ≡ power (⊖ 1#) n ⊗ power a n
-  power-neg a n = ap (λ x. power x n) (sym (neg-one-mul R a)) ∙ power-mul (⊖ 1#) a n
-
   -- A power of a unit is a unit.
   pub power-unit : {a b : K} (n : ℕ) → a ⊗ b ≡ 1# → power a n ⊗ power b n ≡ 1#
   power-unit {a} {b} n e = sym (power-mul a b n) ∙ ap (λ x. power x n) e ∙ power-of-one n
@@ -104,7 +79,7 @@ hom-power {R = R} {S = S} {f = f} h a (suc n) =
     h .mul (power R a n) a ∙ ap (λ x. (S ._⊗_) x (f a)) (hom-power h a n)
 
 module _ {K : Type 0} {R : Ring K} (F : Field R) where
-  open Ring R using (0#, 1#, _⊗_)
+  open Ring R using (0#)
 
   pub power-nonzero : {a : K} (n : ℕ) → ¬ (a ≡ 0#) → ¬ (power R a n ≡ 0#)
   unfolding power

@@ -8,6 +8,8 @@
 --   LeastPowers R I fs u r
 --                   == the product with the upper powers u is in I, and at each place i, r i is the least
 --                      power of that member that is in I when the other members have their upper powers
+--   least-power-divides
+--                   == f an atom, and r the least number for which f^r·o is in I: f^r divides all of I
 --   power-generator == if f^r is the least power of an atom f in the ideal I, it generates I
 --   least-powers-generate
 --                   == the product of the least powers of coprime atoms generates I: it is in I, and it

@@ -163,7 +163,7 @@ abbrev pub primeRing : {p : ℕ} → Prime p → Ring (Residue p)
 primeRing {p} P = residueRing p (prime-pos P)
 
 module _ {p : ℕ} (P : Prime p) where
-  open Ring (primeRing P) using (0#, 1#, _⊕_, _⊗_)
+  open Ring (primeRing P) using (0#, 1#, _⊗_)
 
   infixl 70 _⊗_
   nonzero-value : (a : Residue p) → ¬ (a ≡ 0#) → ¬ (p ∣ a .0)

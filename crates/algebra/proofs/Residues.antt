@@ -9,7 +9,7 @@
 --   permuted            == a map of a list without repetition into itself that is injective there permutes it
 --   residue-power       == modulo a prime ideal with n residues, h^(n-1) = 1 for each h outside of the ideal
 --
--- "a = b modulo I" is `I (a ⊕ ⊖ b)`.
+-- "a = b modulo I" is `I (a ⊕ ⊖ b)`, as in Ideal.
 -- Assumes nothing.
 use mathlib.Core.Path.{_≡_, refl, sym, ap, subst, subst₂, _∙_}
 use mathlib.Core.Logic.{_⊎_, inl, inr, ∥∥₁-elim}
@@ -25,8 +25,10 @@ use native.Mathlib.Nat.{ℕ-set}
 use native.Mathlib.Omega.{arith}
 use Rattle.algebra.proofs.Ring.{Ring, mul-left-comm, mul-sub, sub-mul, one-mul}
 use Rattle.algebra.proofs.Power.{power, power-zero, power-suc}
-use Rattle.algebra.proofs.Ideal.{Ideal, Divides, Atom, multiples-ideal, atom-product}
-use Rattle.algebra.proofs.Solver.{solve, _:=_, _:+_, _:*_, :-_, :1}
+use Rattle.algebra.proofs.Ideal.{Ideal, Divides, Atom, multiples-ideal, atom-product, sub-member}
+use Rattle.algebra.proofs.Ideal.{congruent-member, congruent-refl, congruent-sym}
+use Rattle.algebra.proofs.Ideal.{congruent-trans, congruent-mul}
+use Rattle.algebra.proofs.Solver.{solve, _:=_, _:*_}
 
 -- Lists without repetition
 module _ {A : Type 0} where
@@ -93,40 +95,11 @@ module _ {K : Type 0} (R : Ring K) where
     factor = atom-product R atom;
   }
 
-  -- Congruence modulo an ideal
-  module _ {I : K → Type 0} (ideal : Ideal R I) where
-    open Ideal ideal using (has-zero, sum, multiple)
-
-    pub member-difference : {a b : K} → I a → I b → I (a ⊕ ⊖ b)
-    member-difference {a} {b} m n =
-        subst I (solve R 2 (λ a b. a :+ :- :1 :* b := a :+ :- b) refl a b) (sum m (multiple (⊖ 1#) n))
-
-    pub congruent-refl : (a : K) → I (a ⊕ ⊖ a)
-    congruent-refl a = rw (R .add-neg) has-zero
-
-    pub congruent-sym : {a b : K} → I (a ⊕ ⊖ b) → I (b ⊕ ⊖ a)
-    congruent-sym {a} {b} m =
-        subst I (solve R 2 (λ a b. :- :1 :* (a :+ :- b) := b :+ :- a) refl a b) (multiple (⊖ 1#) m)
-
-    pub congruent-trans : {a b c : K} → I (a ⊕ ⊖ b) → I (b ⊕ ⊖ c) → I (a ⊕ ⊖ c)
-    congruent-trans {a} {b} {c} m n =
-        subst I (solve R 3 (λ a b c. a :+ :- b :+ (b :+ :- c) := a :+ :- c) refl a b c) (sum m n)
-
-    pub congruent-mul : {a b c d : K} → I (a ⊕ ⊖ b) → I (c ⊕ ⊖ d) → I (a ⊗ c ⊕ ⊖ (b ⊗ d))
-    congruent-mul {a} {b} {c} {d} m n =
-        subst I
-        (solve R 4 (λ a b c d. c :* (a :+ :- b) :+ b :* (c :+ :- d) := a :* c :+ :- (b :* d)) refl a b c d)
-        (sum (multiple c m) (multiple b n))
-
-    pub congruent-member : {a b : K} → I (a ⊕ ⊖ b) → I b → I a
-    congruent-member {a} {b} m n =
-        subst I (solve R 2 (λ a b. a :+ :- b :+ b := a) refl a b) (sum m n)
-
-    product-congruent : {φ ψ : K → K} → ((a : K) → I (φ a ⊕ ⊖ ψ a))
-        → (xs : List K) → I (product (map φ xs) ⊕ ⊖ product (map ψ xs))
-    unfolding product
-    product-congruent h [] = congruent-refl 1#
-    product-congruent h (x ∷ xs) = congruent-mul (h x) (product-congruent h xs)
+  product-congruent : {I : K → Type 0} (ideal : Ideal R I) {φ ψ : K → K} → ((a : K) → I (φ a ⊕ ⊖ ψ a))
+      → (xs : List K) → I (product (map φ xs) ⊕ ⊖ product (map ψ xs))
+  unfolding product
+  product-congruent ideal h [] = congruent-refl R ideal 1#
+  product-congruent ideal h (x ∷ xs) = congruent-mul R ideal (h x) (product-congruent ideal h xs)
 
   -- Products and powers modulo a prime ideal
   module _ {I : K → Type 0} (prime : PrimeIdeal I) where
@@ -158,7 +131,7 @@ module _ {K : Type 0} (R : Ring K) where
       outside-once = Nodup·sublist (erase-sublist discrete (reduce 0#)) once
 
       zero-inside : I (reduce 0#)
-      zero-inside = congruent-member ideal (congruent-sym ideal (congruent 0#)) (ideal .has-zero)
+      zero-inside = congruent-member R ideal (congruent-sym R ideal (congruent 0#)) (ideal .has-zero)
 
       outside-member : {a : K} → List·Mem a outside → List·Mem a xs
       unfolding outside
@@ -168,13 +141,13 @@ module _ {K : Type 0} (R : Ring K) where
       unfolding outside
       outside-not m i =
           Nodup·mem-erase-iff discrete once .0 m .0
-          (apart (outside-member m) (member 0#) (member-difference ideal i zero-inside))
+          (apart (outside-member m) (member 0#) (sub-member R ideal i zero-inside))
 
       not-outside : (a : K) → ¬ I a → List·Mem (reduce a) outside
       unfolding outside
       not-outside a h =
           Nodup·mem-erase-iff discrete once .1 (
-            λ e. h (congruent-member ideal (congruent a) (subst I (sym e) zero-inside)),
+            λ e. h (congruent-member R ideal (congruent a) (subst I (sym e) zero-inside)),
             member a,
           )
 
@@ -196,9 +169,10 @@ module _ {K : Type 0} (R : Ring K) where
                 rw mul-sub
                 (
                 congruent-trans
+                R
                 ideal
                 (congruent (h ⊗ a))
-                (rw e (congruent-sym ideal (congruent (h ⊗ b))))
+                (rw e (congruent-sym R ideal (congruent (h ⊗ b))))
                 )
 
         steps-permute : Perm (map step outside) outside

@@ -155,14 +155,10 @@ module _ {K : Type 0} (R : Ring K) where
       zero-of : (x : K) → x ≡ 0#
       zero-of x = sym (mul-one x) ∙ ap (λ y. x ⊗ y) e ∙ mul-zero x
 
--- What a user of `simp` needs for 0, 1 and signs.
-pub ruleset ring-units = (zero-add, one-mul, mul-zero, zero-mul, neg-zero, neg-neg, mul-neg, neg-mul)
-
 module _ {K : Type 0} {R : Ring K} (F : Field R) where
-  open Ring R using (0#, 1#, _⊕_, _⊗_, ⊖_, mul-assoc, mul-comm, mul-one)
+  open Ring R using (0#, 1#, _⊗_, ⊖_, mul-assoc, mul-comm, mul-one)
   open Field F using (discrete, inverse, one-nonzero, mul-inverse)
 
-  infixl 60 _⊕_
   infixl 70 _⊗_
   infix 80 ⊖_
   pub inverse-mul : (a : K) → ¬ (a ≡ 0#) → inverse a ⊗ a ≡ 1#

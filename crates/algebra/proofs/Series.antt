@@ -13,6 +13,7 @@
 --                           == sum, scaling, negative and product of lists; the product goes by the head:
 --                              (a ∷ f) · g = a·g + (0# ∷ f · g)
 --
+-- Powers are taken in the ring of series or of polynomials, not of lists.
 -- Sum, product and so on of the ring of series are read at a place by `series-add`, `series-mul-zero`,
 -- `series-mul-suc`, `series-mul-sum` and their like.
 -- Assumes nothing.
@@ -42,16 +43,8 @@ module _ {K : Type 0} (R : Ring K) where
   product f g zero = f 0 ⊗ g 0
   product f g (suc n) = f 0 ⊗ g (suc n) ⊕ product (tail f) g n
 
-  pub product-zero : (f g : ℕ → K) → product f g 0 ≡ f 0 ⊗ g 0
-  unfolding product
-  product-zero f g = refl
-
-  pub product-suc : (f g : ℕ → K) (n : ℕ) → product f g (suc n) ≡ f 0 ⊗ g (suc n) ⊕ product (tail f) g n
-  unfolding product
-  product-suc f g n = refl
-
-  -- The same by the other factor.
-  pub product-suc-right :
+  -- The recursion by the other factor.
+  product-suc-right :
       (f g : ℕ → K) (n : ℕ) → product f g (suc n) ≡ product f (tail g) n ⊕ f (suc n) ⊗ g 0
   unfolding product
   product-suc-right f g zero = refl
@@ -141,7 +134,7 @@ module _ {K : Type 0} (R : Ring K) where
 -- The operations of the ring of series, place by place.
 module _ {K : Type 0} (R : Ring K) where
   open Ring R using (0#, 1#, _⊕_, _⊗_, ⊖_)
-  open Ring R using (add-assoc, add-comm, add-zero, mul-assoc, mul-comm, mul-one, mul-add)
+  open Ring R using (add-zero)
   open Ring (series R) using (0# as 0ˢ, 1# as 1ˢ, _⊕_ as _⊞_, _⊗_ as _⊠_, ⊖_ as ⊟_)
 
   infixl 60 _⊕_ _⊞_
@@ -168,15 +161,12 @@ module _ {K : Type 0} (R : Ring K) where
   series-mul f g n = refl
 
   pub series-mul-zero : (f g : ℕ → K) → (f ⊠ g) 0 ≡ f 0 ⊗ g 0
-  series-mul-zero f g = series-mul f g 0 ∙ product-zero R f g
+  unfolding series product
+  series-mul-zero f g = refl
 
   pub series-mul-suc : (f g : ℕ → K) (n : ℕ) → (f ⊠ g) (suc n) ≡ f 0 ⊗ g (suc n) ⊕ (tail f ⊠ g) n
-  unfolding series
-  series-mul-suc f g n = product-suc R f g n
-
-  pub series-mul-suc-right : (f g : ℕ → K) (n : ℕ) → (f ⊠ g) (suc n) ≡ (f ⊠ tail g) n ⊕ f (suc n) ⊗ g 0
-  unfolding series
-  series-mul-suc-right f g n = product-suc-right R f g n
+  unfolding series product
+  series-mul-suc f g n = refl
 
   -- A coefficient of a product as a sum.
   pub series-mul-sum : (f g : ℕ → K) (n : ℕ) → (f ⊠ g) n ≡ sum R (suc n) (λ i. f i ⊗ g (n - i))
@@ -402,11 +392,6 @@ module _ {K : Type 0} (R : Ring K) where
       (xs ys : List K) → coefficient-list (list-plus xs ys) ≡ coefficient-list xs ⊞ coefficient-list ys
   unfolding series
   list-plus-series xs ys = fun-ext (list-plus-at xs ys)
-
-  pub list-scale-series :
-      (a : K) (xs : List K) → coefficient-list (list-scale a xs) ≡ scale-series a (coefficient-list xs)
-  unfolding scale-series
-  list-scale-series a xs = fun-ext (list-scale-at a xs)
 
   pub list-neg-series : (xs : List K) → coefficient-list (list-neg xs) ≡ ⊟ coefficient-list xs
   unfolding series

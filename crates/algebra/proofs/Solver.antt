@@ -182,7 +182,7 @@ order-equal (a ∷ m) (b ∷ n) e = go (compare a b) refl e (λ k. order-equal m
 
 module _ {K : Type 0} (R : Ring K) (ρ : ℕ → K) where
   open Ring R using (0#, 1#, _⊕_, _⊗_, ⊖_)
-  open Ring R using (add-assoc, add-comm, add-zero, add-neg, mul-assoc, mul-comm, mul-one, mul-add)
+  open Ring R using (add-assoc, add-comm, add-zero, add-neg, mul-assoc, mul-one, mul-add)
 
   infixl 60 _⊕_
   infixl 70 _⊗_
@@ -410,7 +410,7 @@ module _ {K : Type 0} (R : Ring K) where
 -- Examples.
 
 module _ {K : Type 0} (R : Ring K) where
-  open Ring R using (0#, 1#, _⊕_, _⊗_, ⊖_)
+  open Ring R using (1#, _⊕_, _⊗_, ⊖_)
 
   infixl 60 _⊕_
   infixl 70 _⊗_

@@ -2,6 +2,8 @@
 --
 --   fits-algebra, algebra-fits == `Fits` of `meaning` is that of `algebra`; `fits-list` gives for each
 --                     polynomial of `algebra` that fits its list
+--   fits-extended  == the extension: what fits the first n terms with degree L fits all of them, where
+--                     something of degree e does and L + e ≤ n
 --   fits-long      == a monic list fits where its degree is at least the number of terms: it has no places
 --   fits-degree, degree-fits == the search `fitsDegree` says that some list fits
 --   leastDegree-some == there always is a least degree
@@ -22,7 +24,7 @@
 --                     answer of the free way
 --
 -- Assumes nothing.
-use Prim.Native.Nat.{ℕ, _*_, _≤_, _<_}
+use Prim.Native.Nat.{ℕ, _+_, _*_, _≤_, _<_}
 use mathlib.Core.Path.{_≡_, refl, sym, ap, subst, _∙_}
 use mathlib.Core.Logic.{_≢_}
 use mathlib.Core.Bool.{Bool, true, false, _||_}
@@ -31,7 +33,8 @@ use mathlib.Core.Option.{Option, some, Option·some-injective}
 use native.Mathlib.Nat as ℕ
 use native.Mathlib.Decide.{decLt}
 use native.Mathlib.Omega.{arith}
-use lib.ListN.{length, getD}
+use lib.ListN.{length, getD, take}
+use lib.Seq.{getD-take, length-take-le}
 use lib.Dec.{T, eqb, leb→le, le→leb, ltb→lt, eqb→eq, T-not}
 use Rattle.meaning.specs.Search.{firstThat}
 use Rattle.meaning.specs.Field.{Field, prime, primeInRange, areElements}
@@ -47,6 +50,7 @@ use Rattle.algebra.proofs.Polynomial.{coefficient}
 use Rattle.algebra.proofs.Action.{Agree}
 use Rattle.algebra.proofs.Cut.{cut as algebra-cut, coprime-x}
 use Rattle.algebra.proofs.Massey.{Fits as AlgebraFits, LeastFit, least-fit-unique, stretch-least-fit}
+use Rattle.algebra.proofs.Massey.{fits-agree, fits-extension}
 use Rattle.bridge.proofs.Searches.{T-true, true-T, T-false, false-T, T-decided, not-false, T-not-false}
 use Rattle.bridge.proofs.Searches.{least-some, least-found, least-exists, bind-some, some-bind}
 use Rattle.bridge.proofs.Searches.{mapOption-some, some-mapOption, answered-settle, settle-answered}
@@ -56,7 +60,7 @@ use Rattle.bridge.proofs.Polynomials.{monic-equal}
 use Rattle.bridge.proofs.Monics.{monicAt, monicAt-monic, degree-monicAt, some-monics, monics-some}
 use Rattle.bridge.proofs.Monics.{monic-monics, monics-monic}
 use Rattle.bridge.proofs.Actions.{sequence, known-fits, fits-known, places-known, length-cut}
-use Rattle.bridge.proofs.Actions.{known-cut, endless-kills, endless-known}
+use Rattle.bridge.proofs.Actions.{known-cut, known-getD, endless-kills, endless-known}
 use Rattle.bridge.proofs.Minimal.{minimal-algebra}
 
 -- A list that fits, as a polynomial
@@ -95,6 +99,24 @@ module _ {F : Field} (I : IsField F) where
             (subst (λ h. AlgebraFits h e (length ts) (sequence I (known ts))) (sym p) x),
         p,
       )
+
+  -- what fits the first n terms fits all of them, where something of degree e does and L + e ≤ n
+  pub fits-extended :
+      (ts : List ℕ) {L e n : ℕ} {g h : Polynomial}
+      → n ≤ length ts
+      → Fits F (take n ts) L g
+      → Fits F ts e h
+      → L + e ≤ n
+      → Fits F ts L g
+  fits-extended ts {L} {e} {n} {g} l x y b =
+      algebra-fits g (x .monic) (x .ofDegree) (fits-extension shorter (fits-algebra y) b)
+    where
+      shorter : AlgebraFits (poly I g) L n (sequence I (known ts))
+      shorter =
+          fits-agree
+          (λ i o. ap (I .element) (known-getD (take n ts) i ∙ getD-take n ts i 0 o ∙ sym (known-getD ts i)))
+          (subst (λ m. AlgebraFits (poly I g) L m (sequence I (known (take n ts)))) (length-take-le n ts l)
+          (fits-algebra x))
 
 pub fits-long :
     (F : Field) (ts : List ℕ) (g : Polynomial)

@@ -3,7 +3,8 @@
 --   IsField F      == the interface: a field of `algebra` on a type K, the number that stands for an element
 --                     and the element that a number stands for, under which sum and product of F are those
 --                     of K. Every number stands for an element, also one beyond the size
---   prime-isField  == GF(p) meets it, for every prime p together
+--   prime-isField  == GF(p) meets it, for every prime p together; `prime-size`, `prime-add`, `prime-mul` and
+--                     `prime-characteristic-number` say what its parts are
 --   isPrime-prime, prime-isPrime, isPrime-meaning, meaning-isPrime
 --                  == the prime test of `meaning` is primality, in the words of `algebra` and of `meaning`
 --   inRange-isField == GF(p) is a field for every p that refusal 6 admits
@@ -13,7 +14,8 @@
 --   elements       == the elements of F are K, each once
 --   power-fixed    == in a field whose size is its characteristic p, c^(p^w) = c
 --
--- Whatever is shown above this file is shown for any field that meets the interface.
+-- Whatever is shown above this file is shown for any field that meets the interface, but for what is said of
+-- GF(p) by name: `prime-…` here and further up, `polynomial-one`, and the answers of the calls.
 -- Assumes nothing.
 use Prim.Native.Nat.{ℕ, zero, suc, _+_, _*_, _-_, _^_, _/_, _%_, _≤_, _<_, zero-le, _∣_}
 use mathlib.Core.Path.{_≡_, refl, sym, ap, ap₂, subst, _∙_}
@@ -31,7 +33,7 @@ use Rattle.meaning.specs.Field.{Field, prime, isPrime, primeInRange, largestPri
 use Rattle.meaning.specs.Field.{PrimeNumber}
 use Rattle.algebra.proofs.Ring.{Ring, Field as AlgebraField, neg-unique, one-mul, mul-zero, zero-add}
 use Rattle.algebra.proofs.Ring.{mul-neg, mul-nonzero}
-use Rattle.algebra.proofs.Number.{Prime, prime-pos, prime-by-remainders, prime-factors}
+use Rattle.algebra.proofs.Number.{prime-by-remainders, prime-factors}
 use Rattle.algebra.proofs.Power.{power, power-one, power-of-zero, power-suc-left, power-power}
 use Rattle.algebra.proofs.Multiple.{multiple as algebra-multiple, multiple-zero, multiple-suc}
 use Rattle.algebra.proofs.Characteristic.{Characteristic, multiple-divides}
@@ -41,6 +43,8 @@ use Rattle.algebra.proofs.PrimeField.{value-residue, residue-value, residue-add
 use Rattle.algebra.proofs.PrimeField.{residue-zero, residue-one}
 use Rattle.bridge.proofs.Searches.{T-true, true-T, T-and, and-T, all-range, range-all, range-once}
 use Rattle.bridge.proofs.Searches.{range-member, member-range, length-range}
+-- what code proofs take of primes and remainders
+pub use Rattle.algebra.proofs.Number.{Prime, prime-pos, prime-by-trial, mod-mul-mod, mul-mod-mod}
 
 pub record IsField (F : Field) : Type 1 where
   pub K : Type 0
@@ -99,6 +103,14 @@ prime-size p = refl
 pub prime-characteristic-number : (p : ℕ) → prime p .characteristic ≡ p
 unfolding prime
 prime-characteristic-number p = refl
+
+pub prime-add : (p a b : ℕ) → (prime p .add) a b ≡ (a + b) % p
+unfolding prime
+prime-add p a b = refl
+
+pub prime-mul : (p a b : ℕ) → (prime p .mul) a b ≡ a * b % p
+unfolding prime
+prime-mul p a b = refl
 
 -- The prime test
 pub isPrime-prime : (n : ℕ) → T (isPrime n) → Prime n
@@ -186,6 +198,9 @@ module _ {F : Field} (I : IsField F) where
 
   pub value-zero : value 0# ≡ 0
   value-zero = ap value (sym (I .element-zero)) ∙ I .value-element 0 size-positive
+
+  pub characteristic-two : 1 < F .characteristic
+  characteristic-two = I .characteristic .prime .large
 
   pub size-two : 1 < F .size
   size-two = elim (decLt 1 (F .size)) [

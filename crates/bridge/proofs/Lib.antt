@@ -18,3 +18,5 @@ pub mod RepeatBounds
 pub mod Padding
 pub mod MasseySteps
 pub mod MasseyAnswer
+pub mod Cutting
+pub mod Accepted

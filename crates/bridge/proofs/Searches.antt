@@ -10,6 +10,8 @@
 --   least-found, least-missing == the converses
 --   together-range == `together` of the answers of a range has each of the answers, in order
 --   settle-answered, answered-settle, settle-refused == what a settled table says of its conditions
+--   FirstAt n table == a condition numbered n holds and those before it do not; `firstOf-before`: so it is
+--                     where the table refuses by n
 --
 -- Membership is `List·Memᴰ`, as data.
 -- Assumes nothing.
@@ -598,3 +600,16 @@ firstOf-holds (c ∷ table) {n} e = go (firstOf-holds table) ((c .1) tt) refl
     go rest false h =
         let (d, m, z, p) = rest (sym (firstOf-skip c table h) ∙ e) in
         (d, List·Memᴰ·tail m, z, p)
+
+-- Which condition decides: one numbered n, and none before it
+abbrev pub FirstAt : ℕ → List Check → Type 0
+FirstAt n [] = ⊥
+FirstAt n (c ∷ table) = ((c .0 ≡ n) × ((c .1) tt ≡ true)) ⊎ (((c .1) tt ≡ false) × FirstAt n table)
+
+pub firstOf-before : (table : List Check) {n : ℕ} → firstOf table ≡ some n → FirstAt n table
+firstOf-before [] e = Option·none-ne-some _ (sym (firstOf-none [] tt) ∙ e)
+firstOf-before (c ∷ table) {n} e = go (firstOf-before table) ((c .1) tt) refl
+  where
+    go : (firstOf table ≡ some n → FirstAt n table) → (b : Bool) → (c .1) tt ≡ b → FirstAt n (c ∷ table)
+    go rest true h = inl (Option·some-injective _ _ (sym (firstOf-stop c table h) ∙ e), h)
+    go rest false h = inr (h, rest (sym (firstOf-skip c table h) ∙ e))

@@ -27,7 +27,7 @@ use Rattle.meaning.specs.Portion.{ratePortion}
 use Rattle.meaning.specs.Free.{Choice, FreeFigures}
 use Rattle.meaning.specs.Answers.{SetTold, toldPower, toldSet, toldFree, setFiguresTold}
 use Rattle.meaning.specs.Calls.{PeriodCall, PortionCall, SetCall, FreeCall, LentAfter}
-use Rattle.theorems.specs.Promises.{GF, AcceptedTerms, Returns, CutAnywhere}
+use Rattle.theorems.specs.Promises.{GF, Returns, CutAnywhere}
 use Rattle.bridge.proofs.Interpretation.{IsField}
 use Rattle.bridge.proofs.Polynomials.{monic-nonempty}
 use Rattle.bridge.proofs.Products.{MonicFactors, monics-nonempty, factorsOf-named, length-factorsOf, product-elements}
@@ -41,9 +41,9 @@ use Rattle.bridge.proofs.Fitting.{stretch-answer, accepts-free}
 use Rattle.bridge.proofs.Portions.{setPowers-exists, setPowers-minimal, onward-cut, portion-found, portion-minimal}
 use Rattle.bridge.proofs.RepeatBounds.{repeatBound-exists}
 use Rattle.theorems.proofs.Minimality.{accepted-field, named-factors, one-factor}
-use Rattle.theorems.proofs.Accepted.{set-answer, accepted-count, portion-answer, period-answer, rating-of}
-use Rattle.theorems.proofs.Accepted.{rating-degree, rating-polynomial}
-use Rattle.theorems.proofs.Cutting.{shifted, shifted-minimal, product-constant}
+use Rattle.bridge.proofs.Accepted.{AcceptedTerms, set-answer, accepted-count, portion-answer, period-answer, rating-of}
+use Rattle.bridge.proofs.Accepted.{rating-degree, rating-polynomial}
+use Rattle.bridge.proofs.Cutting.{shifted, shifted-minimal, product-constant}
 
 whole : (h : Polynomial) → 0 < length h → length h ≡ suc (degree h)
 unfolding degree
@@ -176,7 +176,7 @@ module _
     terms : (k m : ℕ) → 1 ≤ m → m ≤ 4096 → AcceptedTerms p (cut s k m)
     terms k m few many =
         record {
-          some = omega (arith, length-cut s k m);
+          atLeastOne = omega (arith, length-cut s k m);
           notMany = omega (arith, length-cut s k m);
           inField = cut-elements (GF p) s k m inField;
         }
@@ -292,11 +292,11 @@ module _
         (subst (AnnihilatesEndless (GF p) (power (GF p) f v)) (sym same)
         (λ j. actAt-shift (GF p) (power (GF p) f v) s k j ∙ whole (k + j))) in
         let found =
-        least-periodPower I f (x .monic) (x .positive) (x .irreducibility) (cut s k n) (t .some) (least .2) in
+        least-periodPower I f (x .monic) (x .positive) (x .irreducibility) (cut s k n) (t .atLeastOne) (least .2) in
         let bound = bound-of f (least .0) in
         power-returns f (least .0) (bound .0) k
         (subst (MinimalPolynomial (GF p) (power (GF p) f (least .0))) same
-        (periodPower-minimal I f (x .monic) (x .positive) (x .irreducibility) (cut s k n) (t .some) found))
+        (periodPower-minimal I f (x .monic) (x .positive) (x .irreducibility) (cut s k n) (t .atLeastOne) found))
         (ratePeriod p f (cut s k n) (length answer) (length work))
         (period-answer p f (cut s k n) (length answer) (length work) (least .0) (bound .0) vs one t lent found (bound .1))
         told answer work answer′ work′ (c .rating) (c .lent)
@@ -318,7 +318,7 @@ module _
         let result =
         stretch-answer p (product (GF p) l) g s annihilated (product-elements I l) constant minimal k m twice
         (length answer) (length work) pick
-        (accepts-free p (cut s k m) (length answer) (length work) (accepted-prime p fs vs accepted) (t .some) (t .notMany)
+        (accepts-free p (cut s k m) (length answer) (length work) (accepted-prime p fs vs accepted) (t .atLeastOne) (t .notMany)
         (t .inField) lent) in (
           record { degree = degree g; unique = true },
           c .rating ∙ ap figuresOf result,

@@ -1,22 +1,25 @@
 -- On accepted input no refusal holds, and the ways answer.
 --
---   set-answer, portion-answer, period-answer == the answer of the way on accepted factors, terms and lent bytes, from the
---                     powers that are found
+--   AcceptedTerms     == terms that 7 and 8 do not turn down
+--   Passes            == one factor that 6, 10, 11, 12 and 14 do not turn down
+--   set-answer, portion-answer, period-answer == the answer of the way on accepted factors, terms and lent
+--                        bytes, from the powers that are found
 -- Assumes nothing.
 use Prim.Native.Nat.{ℕ, _≤_}
 use native.Mathlib.Omega.{arith}
 use mathlib.Core.Path.{_≡_, refl, sym, ap, _∙_}
-use mathlib.Core.Bool.{Bool, true, false, _||_, true≢false}
+use mathlib.Core.Bool.{Bool, true, false, not, _||_, true≢false}
 use mathlib.Core.List.{List, [], _∷_}
 use mathlib.Core.Option.{some}
 use lib.ListN.{length}
 use lib.Dec.{T, T-not, eqb, ltb, ltb→lt, eqb→eq}
 use Rattle.meaning.specs.Search.{isNone, holdsForSome}
-use Rattle.meaning.specs.Field.{areElements}
+use Rattle.meaning.specs.Field.{prime, areElements}
 use Rattle.meaning.specs.Polynomial.{Polynomial, degree, power, product}
 use Rattle.meaning.specs.Sequence.{annihilatesKnown}
 use Rattle.meaning.specs.Result.{answered, Rated}
-use Rattle.meaning.specs.Conditions.{named, totalDegree, notPrime, countOutOfRange, termOutOfField, isReducible}
+use Rattle.meaning.specs.Conditions.{named, totalDegree, notPrime, countOutOfRange, termOutOfField}
+use Rattle.meaning.specs.Conditions.{isReducible}
 use Rattle.meaning.specs.Conditions.{factorCountOutOfRange, factorDegreeOutOfRange, notMonic, twoEqual}
 use Rattle.meaning.specs.Conditions.{upperPowersOutOfRange, fewerTermsThan, lentTooShort, acceptedLent}
 use Rattle.meaning.specs.Power.{PowerFigures, powerRating, repeatBound}
@@ -24,15 +27,21 @@ use Rattle.meaning.specs.Period.{periodPower, periodTable, periodAnswer, ratePe
 use Rattle.meaning.specs.Portion.{setPowers, setRating, setTable, setAnswer, rateSet}
 use Rattle.meaning.specs.Portion.{factorTable, acceptedFactors, leastAt, portionTable, ratePortion}
 use Rattle.meaning.proofs.Tables.{NoneHolds, none-holds}
 use Rattle.bridge.proofs.Searches.{T-false, T-not-false, answered-settle, bind-some, mapOption-some}
 use Rattle.bridge.proofs.Products.{factorsOf-named, length-named}
-use Rattle.theorems.specs.Promises.{GF, AcceptedTerms}
+
+-- terms that 7 and 8 do not turn down
+pub record AcceptedTerms (p : ℕ) (ts : List ℕ) : Type 0 where
+  pub atLeastOne : 1 ≤ length ts
+  pub notMany : length ts ≤ 4096
+  pub inField : T (areElements (prime p) ts)
 
 -- 7 and 8 pass accepted terms
 pub count-passes : (p : ℕ) (ts : List ℕ) → AcceptedTerms p ts → countOutOfRange (length ts) ≡ false
 unfolding countOutOfRange
 count-passes p ts t =
-    neither (eqb (length ts) 0) (ltb 4096 (length ts)) (λ z. omega (arith, eqb→eq (length ts) 0 z, t .some))
+    neither (eqb (length ts) 0) (ltb 4096 (length ts))
+    (λ z. omega (arith, eqb→eq (length ts) 0 z, t .atLeastOne))
     (λ z. omega (arith, ltb→lt 4096 (length ts) z, t .notMany))
   where
     neither : (b c : Bool) → ¬ T b → ¬ T c → (b || c) ≡ false
@@ -40,9 +49,9 @@ count-passes p ts t =
     neither false true h k = absurd (k tt)
     neither false false h k = refl
 
-pub terms-pass : (p : ℕ) (ts : List ℕ) → AcceptedTerms p ts → termOutOfField (GF p) ts ≡ false
+pub terms-pass : (p : ℕ) (ts : List ℕ) → AcceptedTerms p ts → termOutOfField (prime p) ts ≡ false
 unfolding termOutOfField
-terms-pass p ts t = T-not-false (areElements (GF p) ts) (t .inField)
+terms-pass p ts t = T-not-false (areElements (prime p) ts) (t .inField)
 
 -- 15 passes enough terms, 16 accepted lent bytes, 17 annihilated terms
 pub enough-pass : (d : ℕ) (ts : List ℕ) → d ≤ length ts → fewerTermsThan d ts ≡ false
@@ -52,6 +61,12 @@ enough-pass d ts l = T-false (λ z. omega (arith, ltb→lt (length ts) d z))
 pub lent-pass : (answer work : ℕ) → T (acceptedLent answer work) → lentTooShort answer work ≡ false
 unfolding acceptedLent
 lent-pass answer work h = T-false (T-not (lentTooShort answer work) h)
+
+pub annihilated-pass :
+    (p : ℕ) (g : Polynomial) (ts : List ℕ)
+    → T (annihilatesKnown (prime p) g ts)
+    → not (annihilatesKnown (prime p) g ts) ≡ false
+annihilated-pass p g ts h = T-not-false (annihilatesKnown (prime p) g ts) h
 
 -- 9 passes accepted factors
 pub accepted-count :
@@ -67,7 +82,7 @@ module _
     (factors : T (acceptedFactors p fs vs)) (t : AcceptedTerms p ts)
     (lent : T (acceptedLent answer work))
     (enough : totalDegree (named fs vs) ≤ length ts)
-    (annihilated : T (annihilatesKnown (GF p) (product (GF p) (named fs vs)) ts))
+    (annihilated : T (annihilatesKnown (prime p) (product (prime p) (named fs vs)) ts))
   where
     none-of-factors : NoneHolds (factorTable p fs vs)
     unfolding acceptedFactors
@@ -76,8 +91,8 @@ module _
     none-of-set :
         NoneHolds
         (setTable p
-        (holdsForSome (factorDegreeOutOfRange (GF p)) fs)
-        (holdsForSome (notMonic (GF p)) fs)
+        (holdsForSome (factorDegreeOutOfRange (prime p)) fs)
+        (holdsForSome (notMonic (prime p)) fs)
         (named fs vs)
         ts
         answer
@@ -97,7 +112,7 @@ module _
                   (
                     n .1 .1 .1 .0,
                     (
-                      ap (holdsForSome (isReducible (GF p))) (factorsOf-named fs vs) ∙ n .1 .1 .1 .1 .0,
+                      ap (holdsForSome (isReducible (prime p))) (factorsOf-named fs vs) ∙ n .1 .1 .1 .1 .0,
                       (
                         ap twoEqual (factorsOf-named fs vs) ∙ n .1 .1 .1 .1 .1 .0,
                         (
@@ -106,7 +121,7 @@ module _
                             enough-pass (totalDegree (named fs vs)) ts enough,
                             (
                               lent-pass answer work lent,
-                              (T-not-false (annihilatesKnown (GF p) (product (GF p) (named fs vs)) ts) annihilated, tt),
+                              (annihilated-pass p (product (prime p) (named fs vs)) ts annihilated, tt),
                             ),
                           ),
                         ),
@@ -121,10 +136,10 @@ module _
 
     pub set-answer :
         (rs : List ℕ)
-        → setPowers (GF p) (named fs vs) ts ≡ some rs
-        → rateSet p fs vs ts answer work ≡ answered (setRating (GF p) (named fs vs) rs)
+        → setPowers (prime p) (named fs vs) ts ≡ some rs
+        → rateSet p fs vs ts answer work ≡ answered (setRating (prime p) (named fs vs) rs)
     unfolding rateSet setAnswer
-    set-answer rs e = answered-settle _ _ none-of-set (mapOption-some (setRating (GF p) (named fs vs)) e)
+    set-answer rs e = answered-settle _ _ none-of-set (mapOption-some (setRating (prime p) (named fs vs)) e)
 
 -- ONE FACTOR: what a list of one factor says of it
 of-one : {A : Type 0} (t : A → Bool) (a : A) → holdsForSome t (a ∷ []) ≡ false → t a ≡ false
@@ -137,9 +152,9 @@ of-one t a h = go (t a) refl
 
 pub record Passes (p : ℕ) (f : Polynomial) (vs : List ℕ) : Type 0 where
   pub six : notPrime p ≡ false
-  pub ten : factorDegreeOutOfRange (GF p) f ≡ false
-  pub eleven : notMonic (GF p) f ≡ false
-  pub twelve : isReducible (GF p) f ≡ false
+  pub ten : factorDegreeOutOfRange (prime p) f ≡ false
+  pub eleven : notMonic (prime p) f ≡ false
+  pub twelve : isReducible (prime p) f ≡ false
   pub fourteen : upperPowersOutOfRange (named (f ∷ []) vs) ≡ false
 
 pub one-passes : (p : ℕ) (f : Polynomial) (vs : List ℕ) → T (acceptedFactors p (f ∷ []) vs) → Passes p f vs
@@ -148,9 +163,9 @@ one-passes p f vs h =
     let n = none-holds (factorTable p (f ∷ []) vs) h in
     record {
       six = n .0;
-      ten = of-one (factorDegreeOutOfRange (GF p)) f (n .1 .1 .0);
-      eleven = of-one (notMonic (GF p)) f (n .1 .1 .1 .0);
-      twelve = of-one (isReducible (GF p)) f (n .1 .1 .1 .1 .0);
+      ten = of-one (factorDegreeOutOfRange (prime p)) f (n .1 .1 .0);
+      eleven = of-one (notMonic (prime p)) f (n .1 .1 .1 .0);
+      twelve = of-one (isReducible (prime p)) f (n .1 .1 .1 .1 .0);
       fourteen = n .1 .1 .1 .1 .1 .1 .0;
     }
 
@@ -158,22 +173,24 @@ one-passes p f vs h =
 pub rating-of : (p : ℕ) (f : Polynomial) (r b : ℕ) → Rated PowerFigures
 rating-of p f r b =
     record {
-      figures = record { power = r; degree = degree (power (GF p) f r); bound = b };
-      polynomial = power (GF p) f r;
+      figures = record { power = r; degree = degree (power (prime p) f r); bound = b };
+      polynomial = power (prime p) f r;
     }
 
-pub rating-degree : (p : ℕ) (f : Polynomial) (r b : ℕ) → degree (power (GF p) f r) ≡ rating-of p f r b .figures .degree
+pub rating-degree :
+    (p : ℕ) (f : Polynomial) (r b : ℕ) → degree (power (prime p) f r) ≡ rating-of p f r b .figures .degree
 unfolding rating-of
 rating-degree p f r b = refl
 
-pub rating-polynomial : (p : ℕ) (f : Polynomial) (r b : ℕ) → rating-of p f r b .polynomial ≡ power (GF p) f r
+pub rating-polynomial :
+    (p : ℕ) (f : Polynomial) (r b : ℕ) → rating-of p f r b .polynomial ≡ power (prime p) f r
 unfolding rating-of
 rating-polynomial p f r b = refl
 
 pub power-rated :
     (p : ℕ) (f : Polynomial) (r b : ℕ)
-    → repeatBound (GF p) f r ≡ some b
-    → powerRating (GF p) f r ≡ some (rating-of p f r b)
+    → repeatBound (prime p) f r ≡ some b
+    → powerRating (prime p) f r ≡ some (rating-of p f r b)
 unfolding powerRating rating-of
 power-rated p f r b e = mapOption-some _ e
 
@@ -184,9 +201,9 @@ pub portion-answer :
     → AcceptedTerms p ts
     → T (acceptedLent answer work)
     → totalDegree ((f, v) ∷ []) ≤ length ts
-    → T (annihilatesKnown (GF p) (product (GF p) ((f, v) ∷ [])) ts)
-    → leastAt (GF p) ((f, v) ∷ []) ts 0 ≡ some r
-    → repeatBound (GF p) f r ≡ some b
+    → T (annihilatesKnown (prime p) (product (prime p) ((f, v) ∷ [])) ts)
+    → leastAt (prime p) ((f, v) ∷ []) ts 0 ≡ some r
+    → repeatBound (prime p) f r ≡ some b
     → ratePortion p f v ts answer work ≡ answered (rating-of p f r b)
 unfolding ratePortion portionTable named
 portion-answer p f v ts answer work r b h t lent enough annihilated found bound =
@@ -209,7 +226,7 @@ portion-answer p f v ts answer work r b h t lent enough annihilated found bound 
                     enough-pass (totalDegree ((f, v) ∷ [])) ts enough,
                     (
                       lent-pass answer work lent,
-                      (T-not-false (annihilatesKnown (GF p) (product (GF p) ((f, v) ∷ [])) ts) annihilated, tt),
+                      (annihilated-pass p (product (prime p) ((f, v) ∷ [])) ts annihilated, tt),
                     ),
                   ),
                 ),
@@ -219,7 +236,7 @@ portion-answer p f v ts answer work r b h t lent enough annihilated found bound 
         ),
       ),
     )
-    (bind-some (powerRating (GF p) f) found ∙ power-rated p f r b bound)
+    (bind-some (powerRating (prime p) f) found ∙ power-rated p f r b bound)
 
 -- THE PERIOD WAY
 pub period-answer :
@@ -227,8 +244,8 @@ pub period-answer :
     → T (acceptedFactors p (f ∷ []) vs)
     → AcceptedTerms p ts
     → T (acceptedLent answer work)
-    → periodPower (GF p) f ts ≡ some r
-    → repeatBound (GF p) f r ≡ some b
+    → periodPower (prime p) f ts ≡ some r
+    → repeatBound (prime p) f r ≡ some b
     → ratePeriod p f ts answer work ≡ answered (rating-of p f r b)
 unfolding ratePeriod periodAnswer periodTable isNone
 period-answer p f ts answer work r b vs h t lent found bound =
@@ -243,4 +260,4 @@ period-answer p f ts answer work r b vs h t lent found bound =
         ),
       ),
     )
-    (bind-some (powerRating (GF p) f) found ∙ power-rated p f r b bound)
+    (bind-some (powerRating (prime p) f) found ∙ power-rated p f r b bound)

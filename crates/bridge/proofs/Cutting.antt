@@ -1,6 +1,7 @@
 -- Where none of the factors is x, a sequence may be cut anywhere: its minimal polynomial stays.
 --
---   product-constant == a product of powers of accepted factors, none of them x, has a constant term other than 0
+--   product-constant == a product of powers of accepted factors, none of them x, has a constant term other
+--                     than 0
 --   shifted s k      == the sequence s from place k on
 --   shifted-minimal  == it has the minimal polynomial of s, where such a product annihilates s
 -- Assumes nothing.
@@ -20,29 +21,32 @@ use Rattle.meaning.specs.Power.{isX}
 use Rattle.meaning.specs.Portion.{factorsOf}
 use Rattle.algebra.proofs.Polynomial.{coefficient}
 use Rattle.algebra.proofs.Cut.{coprime-x, cut-minimal}
 use Rattle.bridge.proofs.Searches.{false-T, none-member, getD-member}
 use Rattle.bridge.proofs.Interpretation.{IsField, number-mul-nonzero, element-nonzero}
-use Rattle.bridge.proofs.Polynomials.{poly, coefficient-poly, getD-below, monic-nonempty, monic-elements}
+use Rattle.bridge.proofs.Polynomials.{poly, coefficient-poly, getD-below, monic-nonempty}
+use Rattle.bridge.proofs.Polynomials.{monic-elements}
 use Rattle.bridge.proofs.Products.{power-elements, power-nonempty, power-zero-list, power-suc-list}
 use Rattle.bridge.proofs.Products.{product-elements, product-nonempty, product-nil, product-cons}
 use Rattle.bridge.proofs.Products.{factorAt, factorAt-factorsOf, MonicFactors}
 use Rattle.bridge.proofs.Irreducibles.{times-constant, irreducible-constant, equal-isX, Factors}
 use Rattle.bridge.proofs.Actions.{endless-kills}
 use Rattle.bridge.proofs.Minimal.{minimal-algebra, algebra-minimal}
 
 module _ {F : Field} (I : IsField F) where
   -- powers
   power-constant :
       (f : Polynomial) (n : ℕ) → T (isMonicOver F f) → getD f 0 0 ≢ 0 → getD (power F f n) 0 0 ≢ 0
   power-constant f zero m h e =
-      let z : _≡_ {A = ℕ} 1 0 = ap (λ (g : Polynomial). getD g 0 0) (sym (power-zero-list F f)) ∙ e in omega arith
+      let z : _≡_ {A = ℕ} 1 0 = ap (λ (g : Polynomial). getD g 0 0) (sym (power-zero-list F f)) ∙ e in
+      omega arith
   power-constant f (suc n) m h e =
       number-mul-nonzero I
       (getD-below I f (monic-elements F f m) 0)
       (getD-below I (power F f n) (power-elements I f n) 0)
       h
       (power-constant f n m h)
-      (sym (times-constant I f (power F f n) (monic-nonempty F f m) (power-nonempty I f n (monic-nonempty F f m)))
+      (sym
+      (times-constant I f (power F f n) (monic-nonempty F f m) (power-nonempty I f n (monic-nonempty F f m)))
       ∙ ap (λ (g : Polynomial). getD g 0 0) (sym (power-suc-list F f n))
       ∙ e)
 
@@ -81,7 +85,9 @@ module _ {F : Field} (I : IsField F) where
       subst (λ (g : Polynomial). getD g 0 0 ≢ 0) (factorAt-factorsOf l i)
       (irreducible-constant I (getD (factorsOf l) i []) (factors .monic i k′) (factors .positive i k′)
       (factors .irreducibles i k′)
-      (λ e. none-member isX (factorsOf l) (false-T none) (getD (factorsOf l) i []) (getD-member (factorsOf l) i [] k′)
+      (λ e.
+      none-member isX (factorsOf l) (false-T none) (getD (factorsOf l) i [])
+      (getD-member (factorsOf l) i [] k′)
       (equal-isX e))))
 
 -- The sequence from a place on
@@ -93,8 +99,10 @@ module _ {F : Field} (I : IsField F) (f : Polynomial) (s : Sequence) (h : Annihi
   nonzero : ¬ (coefficient (poly I f) 0 ≡ I .ring .0#)
   nonzero e = element-nonzero I (getD-below I f elements 0) constant (sym (coefficient-poly I f 0) ∙ e)
 
-  pub shifted-minimal : (g : Polynomial) → MinimalPolynomial F g s → (k : ℕ) → MinimalPolynomial F g (shifted s k)
+  pub shifted-minimal :
+      (g : Polynomial) → MinimalPolynomial F g s → (k : ℕ) → MinimalPolynomial F g (shifted s k)
   shifted-minimal g x k =
       algebra-minimal I g (shifted s k) (x .monic)
-      (cut-minimal (endless-kills I f s h) (coprime-x (I .field) (poly I f) nonzero) k (poly I g) (degree g) .1
+      (cut-minimal (endless-kills I f s h) (coprime-x (I .field) (poly I f) nonzero) k (poly I g)
+      (degree g) .1
       (minimal-algebra I g s x))
