@@ -4,8 +4,9 @@
 --   some-scan        == `holdsForSome` is such a look through
 --   equal-scan       == so is `twoEqual`: the test finds the element again among those after it
 -- Assumes nothing.
-use Prim.Native.Nat.{ℕ, _+_, _≤_, _<_}
+use Prim.Native.Nat.{ℕ, zero, suc, _+_, _≤_, _<_}
 use native.Mathlib.Numerals.{add-one}
+use native.Mathlib.Omega.{arith}
 use mathlib.Core.Path.{_≡_, refl, sym, ap, _∙_}
 use mathlib.Core.Bool.{Bool, true, false, _||_}
 use mathlib.Core.List.{List, [], _∷_}
@@ -42,3 +43,18 @@ module _ {A : Type 0} {R : List A → Bool} {t : A → List A → Bool} (scan : 
 
   pub scan-over : length l ≤ i → false ≡ x
   scan-over h = sym (scan .nil) ∙ ap R (sym (drop-of-length-le l h)) ∙ e
+
+-- A test that no element passes fails at each.
+pub or-false-both : (a b : Bool) → a || b ≡ false → (a ≡ false) × (b ≡ false)
+or-false-both true b h = (h, cc)
+or-false-both false b h = (refl, h)
+
+pub some-fails : {A : Type 0} (t : A → Bool) (d : A) (l : List A) (i : ℕ) → holdsForSome t l ≡ false
+    → i < length l
+    → t (getD l i d) ≡ false
+some-fails t d [] i e h = absurd (omega arith)
+some-fails t d (a ∷ l) zero e h = or-false-both (t a) (holdsForSome t l) (sym (some-scan t .cons a l) ∙ e) .0
+some-fails t d (a ∷ l) (suc i) e h =
+    some-fails t d l i
+    (or-false-both (t a) (holdsForSome t l) (sym (some-scan t .cons a l) ∙ e) .1)
+    (omega arith)

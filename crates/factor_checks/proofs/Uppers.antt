@@ -6,7 +6,7 @@ use Prim.Native.Nat.{ℕ, zero, suc, _+_, _*_, min, _≤_, _<_}
 use native.Mathlib.Numerals.{add-one}
 use native.Mathlib.Omega.{arith}
 use mathlib.Core.Path.{_≡_, refl, sym, ap, _∙_}
-use mathlib.Core.Bool.{Bool, true, false, _||_}
+use mathlib.Core.Bool.{Bool, true, false}
 use mathlib.Core.List.{List, [], _∷_}
 use lib.Dec.{ltb, eqb}
 use lib.ListN.{length, getD, drop, drop-of-length-le}
@@ -16,17 +16,25 @@ use borrow.Author.Tests.{ltb-false, eq-eqb, ne-eqb}
 use Rattle.meaning.specs.Search.{holdsForSome}
 use Rattle.meaning.specs.Polynomial.{Polynomial, degree}
 use Rattle.meaning.specs.Conditions.{named, totalDegree, upperPowersOutOfRange}
+use Rattle.meaning.specs.Portion.{factorsOf}
 use Rattle.factor_checks.specs.Contents.{contents}
 use Rattle.factor_checks.proofs.Scan.{Scan, some-scan, scan-found, scan-next, scan-over}
+use Rattle.factor_checks.proofs.Scan.{or-false-both}
 use Rattle.factor_checks.proofs.Contents.{nowhere, contents-length, contents-at}
 use Rattle.factor_checks.proofs.Capped.{capped-within, capped-beyond, capped-test}
 use Rattle.factor_checks.proofs.Capped.{sum-beyond, sum-within}
 
-named-length : (fs : List Polynomial) (us : List ℕ) → length (named fs us) ≡ length fs
+pub named-length : (fs : List Polynomial) (us : List ℕ) → length (named fs us) ≡ length fs
 unfolding named
 named-length [] us = refl
 named-length (f ∷ fs) [] = ap suc (named-length fs [])
 named-length (f ∷ fs) (u ∷ us) = ap suc (named-length fs us)
+
+pub named-factors : (fs : List Polynomial) (us : List ℕ) → factorsOf (named fs us) ≡ fs
+unfolding named factorsOf
+named-factors [] us = refl
+named-factors (f ∷ fs) [] = ap (λ (l : List Polynomial). f ∷ l) (named-factors fs [])
+named-factors (f ∷ fs) (u ∷ us) = ap (λ (l : List Polynomial). f ∷ l) (named-factors fs us)
 
 named-at : (fs : List Polynomial) (us : List ℕ) (i : ℕ) → i < length fs
     → getD (named fs us) i ([], 0) ≡ (getD fs i [], getD us i 0)
@@ -106,10 +114,6 @@ module _ (fs : List (RefT (List ℕ))) (us : List ℕ) (i : ℕ) {x : Bool}
   pub zeros-over : length fs ≤ i → false ≡ x
   zeros-over h = scan-over scan ([], 0) (named (contents fs) us) i e (rw factors-length h)
 
-or-false-right : (a b : Bool) → a || b ≡ false → b ≡ false
-or-false-right true b h = cc
-or-false-right false b h = h
-
 -- The two grounds of refusal 14.
 module _ (l : List (Polynomial × ℕ)) where
   pub zero-upper : holdsForSome (λ f. eqb (f .1) 0) l ≡ true → true ≡ upperPowersOutOfRange l
@@ -123,7 +127,7 @@ module _ (l : List (Polynomial × ℕ)) where
 
   total-limit : upperPowersOutOfRange l ≡ false → totalDegree l ≤ 4096
   unfolding upperPowersOutOfRange
-  total-limit h = ltb-false 4096 (totalDegree l) (or-false-right (holdsForSome (λ f. eqb (f .1) 0) l) _ h)
+  total-limit h = ltb-false 4096 (totalDegree l) (or-false-both (holdsForSome (λ f. eqb (f .1) 0) l) _ h .1)
 
   pub total-known : upperPowersOutOfRange l ≡ false
       → (totalDegree l ≤ 4096) × (min (totalDegree l) 4097 ≡ totalDegree l)

@@ -1,2 +1,3 @@
 pub mod Order
+pub mod Ways
 pub mod Settled

@@ -1,4 +1,4 @@
--- The first condition of a table that holds, one condition after another.
+-- The first condition of a table that holds: one condition after another, and one verdict after another.
 --
 --   Passed k table   == the first k conditions do not decide: the others do
 -- Assumes nothing.
@@ -8,12 +8,19 @@ use mathlib.Core.Bool.{Bool, true, false}
 use mathlib.Core.List.{List, [], _∷_, _++_}
 use mathlib.Core.Option.{Option, none, some}
 use lib.ListN.{drop}
+use Rattle.meaning.specs.declared.Refusal.{Refusal}
 use Rattle.meaning.specs.Result.{Check, firstOf}
+use Rattle.refusals.specs.declared.Verdict.{Verdict}
+use Rattle.refusals.specs.Verdicts.{numberIn}
 
 abbrev pub Passed : ℕ → List Check → Type 0
 Passed k table = firstOf table ≡ firstOf (drop k table)
 
--- a test b of the next condition: it holds, or the rest decides
+pub first-nowhere : none ≡ firstOf []
+unfolding firstOf
+first-nowhere = refl
+
+-- A test b of the next condition: it holds, or the rest decides.
 module _ (c : Check) (table : List Check) {b : Bool} (e : b ≡ (c .1) tt) where
   pub first-here : b ≡ true → some (c .0) ≡ firstOf (c ∷ table)
   unfolding firstOf
@@ -23,11 +30,7 @@ module _ (c : Check) (table : List Check) {b : Bool} (e : b ≡ (c .1) tt) where
   unfolding firstOf
   first-skip h = rw (sym e ∙ h, firstOf)
 
-pub first-nowhere : none ≡ firstOf []
-unfolding firstOf
-first-nowhere = refl
-
--- Two tables one after the other: the first decides, or else the second.
+-- Tables one after the other: the first decides, or else the second.
 abbrev otherwise : Option ℕ → Option ℕ → Option ℕ
 otherwise none y = y
 otherwise (some n) y = some n
@@ -57,8 +60,39 @@ first-append (c ∷ A) B =
     ∙ pick-otherwise ((c .1) tt) (c .0) (firstOf A) (firstOf B)
     ∙ ap (λ (x : Option ℕ). otherwise x (firstOf B)) (sym (first-cons c A))
 
-pub first-refused : (A B : List Check) {n : ℕ} → some n ≡ firstOf A → some n ≡ firstOf (A ++ B)
-first-refused A B e = sym (first-append A B ∙ ap (λ (x : Option ℕ). otherwise x (firstOf B)) (sym e))
+-- A verdict v by the table A, before a table B.
+told-before : (A B : List Check) (v : Verdict) → numberIn v ≡ firstOf A
+    → firstOf (A ++ B) ≡ otherwise (numberIn v) (firstOf B)
+told-before A B v e = first-append A B ∙ ap (λ (x : Option ℕ). otherwise x (firstOf B)) (sym e)
 
-pub first-passed : (A B : List Check) → none ≡ firstOf A → firstOf (A ++ B) ≡ firstOf B
-first-passed A B e = first-append A B ∙ ap (λ (x : Option ℕ). otherwise x (firstOf B)) (sym e)
+module _ (A B : List Check) {v : Verdict} (e : numberIn v ≡ firstOf A) where
+  pub refused-before : {r : Refusal} → v ≡ Verdict.Refused r → numberIn (Verdict.Refused r) ≡ firstOf (A ++ B)
+  unfolding numberIn
+  refused-before q =
+      sym (told-before A B v e ∙ ap (λ (x : Verdict). otherwise (numberIn x) (firstOf B)) q)
+
+  pub accepted-before : v ≡ Verdict.Accepted → firstOf (A ++ B) ≡ firstOf B
+  unfolding numberIn
+  accepted-before q = told-before A B v e ∙ ap (λ (x : Verdict). otherwise (numberIn x) (firstOf B)) q
+
+-- What is accepted by a table does not meet its first condition.
+not-picked : (b : Bool) (n : ℕ) (y : Option ℕ) → pick b n y ≡ none → b ≡ false
+not-picked true n y h = cc
+not-picked false n y h = refl
+
+pub accepted-first : (c : Check) (A : List Check) {v : Verdict} → numberIn v ≡ firstOf (c ∷ A)
+    → v ≡ Verdict.Accepted
+    → (c .1) tt ≡ false
+unfolding numberIn
+accepted-first c A e q =
+    not-picked ((c .1) tt) (c .0) (firstOf A) (sym (first-cons c A) ∙ sym e ∙ ap numberIn q)
+
+-- Two verdicts, u by the table A and v by the table B, before a table C.
+module _ (A B C : List Check) {u v : Verdict} (eu : numberIn u ≡ firstOf A) (ev : numberIn v ≡ firstOf B)
+    (first : u ≡ Verdict.Accepted) where
+  pub refused-second : {r : Refusal} → v ≡ Verdict.Refused r
+      → numberIn (Verdict.Refused r) ≡ firstOf (A ++ (B ++ C))
+  refused-second q = refused-before B C ev q ∙ sym (accepted-before A (B ++ C) eu first)
+
+  pub accepted-both : v ≡ Verdict.Accepted → firstOf (A ++ (B ++ C)) ≡ firstOf C
+  accepted-both q = accepted-before A (B ++ C) eu first ∙ accepted-before B C ev q

@@ -1,21 +1,92 @@
--- What a verdict settles: the result of a call whose table it has tried.
+-- What a verdict settles: the result of a call whose table it has tried, but for the last condition where
+-- the call meets 17.
+--
+--   accepted-holds   == an accepted call meets no condition of the table, as a tuple with a part for each
+--   settle-…         == the result of the call: for a whole table, and for one whose last condition is open
+--   period-last, portion-last, set-last == the tables of the three ways end with 17
 -- Assumes nothing.
-use mathlib.Core.Path.{_≡_, sym, ap, _∙_}
-use mathlib.Core.List.{List}
+use Prim.Native.Nat.{ℕ}
+use mathlib.Core.Path.{_≡_, refl, sym, ap, _∙_}
+use mathlib.Core.Bool.{true, false, not}
+use mathlib.Core.List.{List, [], _∷_, _++_}
 use mathlib.Core.Option.{Option}
 use Rattle.meaning.specs.declared.Refusal.{Refusal}
+use Rattle.meaning.specs.Search.{holdsForSome, isNone}
+use Rattle.meaning.specs.Field.{prime}
+use Rattle.meaning.specs.Polynomial.{Polynomial, product}
+use Rattle.meaning.specs.Sequence.{annihilatesKnown}
+use Rattle.meaning.specs.Conditions.{named, factorDegreeOutOfRange, notMonic}
 use Rattle.meaning.specs.Result.{refused, Check, firstOf, settle, valueOf}
+use Rattle.meaning.specs.Period.{periodTable, periodPower}
+use Rattle.meaning.specs.Portion.{portionTable, setTable}
 use Rattle.meaning.specs.Answers.{numberOf}
-use Rattle.meaning.proofs.Tables.{settle-none}
+use Rattle.meaning.proofs.Tables.{settle-none, NoneHolds, none-holds}
 use Rattle.refusals.specs.declared.Verdict.{Verdict}
-use Rattle.refusals.specs.Verdicts.{numberIn}
+use Rattle.refusals.specs.Verdicts.{numberIn, allButLast, periodChecks, portionChecks, setChecks}
+use Rattle.refusals.proofs.Order.{refused-before, accepted-before, first-here, first-skip}
+use Rattle.refusals.proofs.Order.{first-nowhere}
 
+settle-some : {A : Type 0} (table : List Check) (v : Unit {0} → Option A) (r : Refusal)
+    → numberIn (Verdict.Refused r) ≡ firstOf table
+    → settle table v ≡ refused (numberOf r)
+unfolding settle numberIn
+settle-some table v r e = rw (sym e, settle)
+
+-- what an accepted call has passed: no condition of the table holds
+pub accepted-holds : (table : List Check) {r : Verdict} → numberIn r ≡ firstOf table → r ≡ Verdict.Accepted
+    → NoneHolds table
+unfolding numberIn isNone
+accepted-holds table e q = none-holds table (rw (sym e ∙ ap numberIn q, isNone) tt)
+
+-- a whole table
 module _ {A : Type 0} (table : List Check) (v : Unit {0} → Option A) {r : Verdict}
     (e : numberIn r ≡ firstOf table) where
   pub settle-refused : {x : Refusal} → r ≡ Verdict.Refused x → settle table v ≡ refused (numberOf x)
-  unfolding settle numberIn
-  settle-refused q = rw (sym e ∙ ap numberIn q, settle)
+  settle-refused {x} q = settle-some table v x (sym (ap numberIn q) ∙ e)
 
   pub settle-accepted : r ≡ Verdict.Accepted → settle table v ≡ valueOf (v tt)
   unfolding numberIn
   settle-accepted q = settle-none table v (sym e ∙ ap numberIn q)
+
+-- all of a table but its last condition c
+module _ {A : Type 0} (table : List Check) (c : Check) (v : Unit {0} → Option A) {r : Verdict}
+    (e : numberIn r ≡ firstOf table) where
+  pub settle-early : {x : Refusal} → r ≡ Verdict.Refused x
+      → settle (table ++ (c ∷ [])) v ≡ refused (numberOf x)
+  settle-early {x} q = settle-some _ v x (refused-before table (c ∷ []) e q)
+
+  pub settle-last : r ≡ Verdict.Accepted → (c .1) tt ≡ true → settle (table ++ (c ∷ [])) v ≡ refused (c .0)
+  unfolding settle
+  settle-last q h = rw (accepted-before table (c ∷ []) e q ∙ sym (first-here c [] refl h), settle)
+
+  pub settle-over : r ≡ Verdict.Accepted → (c .1) tt ≡ false
+      → settle (table ++ (c ∷ [])) v ≡ valueOf (v tt)
+  settle-over q h =
+      settle-none _ v (accepted-before table (c ∷ []) e q ∙ first-skip c [] refl h ∙ sym first-nowhere)
+
+module _ (p : ℕ) (ts : List ℕ) (answer work : ℕ) where
+  pub period-last : (f : Polynomial)
+      → periodTable p (factorDegreeOutOfRange (prime p) f) (notMonic (prime p) f) f ts answer work
+      ≡ periodChecks p f ts answer work ++ ((17, λ _. isNone (periodPower (prime p) f ts)) ∷ [])
+  unfolding periodTable periodChecks allButLast
+  period-last f = refl
+
+  pub portion-last : (f : Polynomial) (v : ℕ)
+      → portionTable p f v ts answer work
+      ≡ portionChecks p f v ts answer work
+      ++ ((17, λ _. not (annihilatesKnown (prime p) (product (prime p) ((f, v) ∷ [])) ts)) ∷ [])
+  unfolding portionTable portionChecks allButLast
+  portion-last f v = refl
+
+  pub set-last : (fs : List Polynomial) (us : List ℕ)
+      → setTable p
+      (holdsForSome (factorDegreeOutOfRange (prime p)) fs)
+      (holdsForSome (notMonic (prime p)) fs)
+      (named fs us)
+      ts
+      answer
+      work
+      ≡ setChecks p fs us ts answer work
+      ++ ((17, λ _. not (annihilatesKnown (prime p) (product (prime p) (named fs us)) ts)) ∷ [])
+  unfolding setTable setChecks allButLast
+  set-last fs us = refl

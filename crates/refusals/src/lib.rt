@@ -1,5 +1,8 @@
 // The conditions of the numbered list of refusals in their order, one function for each call: the first that holds, up
 // to 16. Each answers for any numbers and slices of any length, and changes no lent byte.
+pub mod factors;
+pub mod ratings;
+
 use arith::prime_in_range;
 use checks::lists::continuation_degree_out_of_range;
 use checks::lists::factor_degree_out_of_range;
@@ -11,7 +14,6 @@ use checks::numbers::lent_too_short;
 use checks::numbers::place_out_of_range;
 use meaning::Refusal;
 ghost use mathlib.Core.Path.{_≡_};
-ghost use lib.ListN.{length};
 ghost use Rattle.meaning.specs.Conditions.{notPrime};
 ghost use Rattle.meaning.specs.Result.{firstOf};
 ghost use Rattle.meaning.specs.Free.{freeTable};

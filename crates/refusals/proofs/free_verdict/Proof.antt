@@ -1,6 +1,6 @@
 -- `free_verdict` meets its contract: the terms decide, or else the lent bytes.
 -- Assumes nothing.
-use mathlib.Core.Path.{sym, ap, _∙_}
+use mathlib.Core.Path.{sym, _∙_}
 use mathlib.Core.List.{List}
 use lib.ListN.{drop}
 use denote.Ref.{now}
@@ -10,7 +10,7 @@ use Rattle.meaning.specs.Free.{freeTable}
 use Rattle.meaning.specs.Answers.{numberOf}
 use Rattle.refusals.specs.Verdicts.{numberIn, termsTable}
 use Rattle.refusals.proofs.Order.{Passed, first-here, first-skip, first-nowhere}
-use Rattle.refusals.proofs.Order.{first-refused, first-passed}
+use Rattle.refusals.proofs.Order.{refused-before, accepted-before}
 use Rattle.refusals.proofs.free_verdict.Statement.{statement}
 use Rattle.refusals.proofs.free_verdict.Tie as tie
 
@@ -21,11 +21,12 @@ abbrev table : tie.Start → List Check
 table s = freeTable (s .args .p) (now (s .args .terms)) (s .args .answer) (s .args .work)
 
 passed-3 : (c : tie.After-enum-told) → Passed 3 (table (c .before .before .before .before))
-unfolding numberIn termsTable freeTable
+unfolding termsTable freeTable
 passed-3 c =
     let s = c .before .before .before .before in
-    first-passed (terms s) (drop 3 (table s))
-    (sym (ap numberIn (c .enum-told .given .1)) ∙ c .before .before .terms-verdict .ensures)
+    accepted-before (terms s) (drop 3 (table s))
+    (c .before .before .terms-verdict .ensures)
+    (c .enum-told .given .1)
 
 terms-verdict-requires : tie.Need-terms-verdict-requires
 terms-verdict-requires c κs = search needs
@@ -40,11 +41,12 @@ lent-too-short-requires : tie.Need-lent-too-short-requires
 lent-too-short-requires c κs = search needs
 
 returns : tie.Need-returns
-unfolding numberIn termsTable freeTable
+unfolding termsTable freeTable
 returns c =
     let v = c .before .before .before in
-    first-refused (terms (v .before .before)) (drop 3 (table (v .before .before)))
-    (sym (ap numberIn (c .before .r .given .1)) ∙ v .terms-verdict .ensures)
+    refused-before (terms (v .before .before)) (drop 3 (table (v .before .before)))
+    (v .terms-verdict .ensures)
+    (c .before .r .given .1)
 
 returns-2 : tie.Need-returns-2
 unfolding numberIn numberOf freeTable

@@ -1,0 +1,87 @@
+-- `factors::factor_verdict` meets its contract: each condition that does not hold is passed over.
+-- Assumes nothing.
+use mathlib.Core.Path.{sym, _∙_}
+use mathlib.Core.List.{List}
+use denote.Ref.{now}
+use borrow.Author.Needs.{needs}
+use Rattle.meaning.specs.Result.{Check}
+use Rattle.meaning.specs.Answers.{numberOf}
+use Rattle.refusals.specs.Verdicts.{numberIn, oneFactorTable}
+use Rattle.refusals.proofs.Order.{Passed, first-here, first-skip, first-nowhere}
+use Rattle.refusals.proofs.factors.factor_verdict.Statement.{statement}
+use Rattle.refusals.proofs.factors.factor_verdict.Tie as tie
+
+abbrev table : tie.Start → List Check
+table s = oneFactorTable (s .args .p) (now (s .args .factor))
+
+abbrev at-1 : tie.Else1 → tie.Start
+at-1 c = c .before .before .before
+
+passed-1 : (c : tie.Else1) → Passed 1 (table (at-1 c))
+unfolding oneFactorTable
+passed-1 c = first-skip _ _ (c .before .factor-degree-out-of-range .ensures) (c .if1 .left)
+
+abbrev at-2 : tie.Else2 → tie.Start
+at-2 c = at-1 (c .before .before)
+
+passed-2 : (c : tie.Else2) → Passed 2 (table (at-2 c))
+unfolding oneFactorTable
+passed-2 c =
+    passed-1 (c .before .before)
+    ∙ first-skip _ _ (c .before .not-monic .ensures) (c .if2 .left)
+
+abbrev at-3 : tie.Else3 → tie.Start
+at-3 c = at-2 (c .before .before)
+
+passed-3 : (c : tie.Else3) → Passed 3 (table (at-3 c))
+unfolding oneFactorTable
+passed-3 c =
+    passed-2 (c .before .before)
+    ∙ first-skip _ _ (c .before .reducible .ensures) (c .if3 .left)
+
+factor-degree-out-of-range-requires : tie.Need-factor-degree-out-of-range-requires
+factor-degree-out-of-range-requires c κs = search needs
+
+returns : tie.Need-returns
+unfolding numberIn numberOf oneFactorTable
+returns c = first-here _ _ (c .before .factor-degree-out-of-range .ensures) (c .if1 .taken)
+
+not-monic-requires : tie.Need-not-monic-requires
+not-monic-requires c κs = search needs
+
+returns-2 : tie.Need-returns-2
+unfolding numberIn numberOf oneFactorTable
+returns-2 c =
+    first-here _ _ (c .before .not-monic .ensures) (c .if2 .taken)
+    ∙ sym (passed-1 (c .before .before))
+
+reducible-requires : tie.Need-reducible-requires
+reducible-requires c κs =
+    let e = c .before .before in
+    record {
+      fieldExists = e .before .before .before .pre;
+      degreeInRange = sym (e .before .factor-degree-out-of-range .ensures) ∙ e .if1 .left;
+      monicOver = sym (c .before .not-monic .ensures) ∙ c .if2 .left;
+    }
+
+returns-3 : tie.Need-returns-3
+unfolding numberIn numberOf oneFactorTable
+returns-3 c =
+    first-here _ _ (c .before .reducible .ensures) (c .if3 .taken)
+    ∙ sym (passed-2 (c .before .before))
+
+returns-4 : tie.Need-returns-4
+unfolding numberIn oneFactorTable
+returns-4 c = first-nowhere ∙ sym (passed-3 c)
+
+pub factor-verdict-spec : {M : Type 1} → statement M
+factor-verdict-spec =
+    tie.close
+    (tie.spec
+    factor-degree-out-of-range-requires
+    returns
+    not-monic-requires
+    returns-2
+    reducible-requires
+    returns-3
+    returns-4)

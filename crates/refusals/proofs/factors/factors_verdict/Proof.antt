@@ -1,0 +1,139 @@
+-- `factors::factors_verdict` meets its contract: each condition that does not hold is passed over.
+-- Assumes nothing.
+use mathlib.Core.Path.{sym, _∙_}
+use mathlib.Core.List.{List}
+use mathlib.Core.Path.{_≡_, ap}
+use lib.ListN.{length}
+use denote.Ref.{now}
+use borrow.Author.Needs.{needs}
+use Rattle.meaning.specs.Result.{Check}
+use Rattle.meaning.specs.Answers.{numberOf}
+use Rattle.meaning.specs.Conditions.{factorCountOutOfRange}
+use Rattle.factor_checks.specs.Contents.{contents}
+use Rattle.factor_checks.proofs.Contents.{contents-length}
+use Rattle.refusals.specs.Verdicts.{numberIn, factorsTable}
+use Rattle.refusals.proofs.Order.{Passed, first-here, first-skip, first-nowhere}
+use Rattle.refusals.proofs.factors.factors_verdict.Statement.{statement}
+use Rattle.refusals.proofs.factors.factors_verdict.Tie as tie
+
+abbrev table : tie.Start → List Check
+table s = factorsTable (s .args .p) (contents (now (s .args .factors)))
+
+counted : (c : tie.After-factor-count-out-of-range)
+    → c .factor-count-out-of-range .result
+    ≡ factorCountOutOfRange (length (contents (now (c .before .args .factors))))
+counted c =
+    c .factor-count-out-of-range .ensures
+    ∙ ap factorCountOutOfRange (sym (contents-length (now (c .before .args .factors))))
+
+abbrev at-1 : tie.Else1 → tie.Start
+at-1 c = c .before .before
+
+passed-1 : (c : tie.Else1) → Passed 1 (table (at-1 c))
+unfolding factorsTable
+passed-1 c = first-skip _ _ (counted (c .before)) (c .if1 .left)
+
+abbrev at-2 : tie.Else2 → tie.Start
+at-2 c = at-1 (c .before .before)
+
+passed-2 : (c : tie.Else2) → Passed 2 (table (at-2 c))
+unfolding factorsTable
+passed-2 c =
+    passed-1 (c .before .before)
+    ∙ first-skip _ _ (c .before .some-degree-out-of-range .ensures) (c .if2 .left)
+
+abbrev at-3 : tie.Else3 → tie.Start
+at-3 c = at-2 (c .before .before)
+
+passed-3 : (c : tie.Else3) → Passed 3 (table (at-3 c))
+unfolding factorsTable
+passed-3 c =
+    passed-2 (c .before .before)
+    ∙ first-skip _ _ (c .before .some-not-monic .ensures) (c .if3 .left)
+
+abbrev at-4 : tie.Else4 → tie.Start
+at-4 c = at-3 (c .before .before)
+
+passed-4 : (c : tie.Else4) → Passed 4 (table (at-4 c))
+unfolding factorsTable
+passed-4 c =
+    passed-3 (c .before .before)
+    ∙ first-skip _ _ (c .before .some-reducible .ensures) (c .if4 .left)
+
+abbrev at-5 : tie.Else5 → tie.Start
+at-5 c = at-4 (c .before .before)
+
+passed-5 : (c : tie.Else5) → Passed 5 (table (at-5 c))
+unfolding factorsTable
+passed-5 c =
+    passed-4 (c .before .before)
+    ∙ first-skip _ _ (c .before .two-equal .ensures) (c .if5 .left)
+
+factor-count-out-of-range-requires : tie.Need-factor-count-out-of-range-requires
+factor-count-out-of-range-requires c κs = search needs
+
+returns : tie.Need-returns
+unfolding numberIn numberOf factorsTable
+returns c = first-here _ _ (counted (c .before)) (c .if1 .taken)
+
+some-degree-out-of-range-requires : tie.Need-some-degree-out-of-range-requires
+some-degree-out-of-range-requires c κs = search needs
+
+returns-2 : tie.Need-returns-2
+unfolding numberIn numberOf factorsTable
+returns-2 c =
+    first-here _ _ (c .before .some-degree-out-of-range .ensures) (c .if2 .taken)
+    ∙ sym (passed-1 (c .before .before))
+
+some-not-monic-requires : tie.Need-some-not-monic-requires
+some-not-monic-requires c κs = search needs
+
+returns-3 : tie.Need-returns-3
+unfolding numberIn numberOf factorsTable
+returns-3 c =
+    first-here _ _ (c .before .some-not-monic .ensures) (c .if3 .taken)
+    ∙ sym (passed-2 (c .before .before))
+
+some-reducible-requires : tie.Need-some-reducible-requires
+some-reducible-requires c κs =
+    let e = c .before .before in
+    record {
+      fieldExists = e .before .before .before .before .pre;
+      degreesInRange = sym (e .before .some-degree-out-of-range .ensures) ∙ e .if2 .left;
+      monicOver = sym (c .before .some-not-monic .ensures) ∙ c .if3 .left;
+    }
+
+returns-4 : tie.Need-returns-4
+unfolding numberIn numberOf factorsTable
+returns-4 c =
+    first-here _ _ (c .before .some-reducible .ensures) (c .if4 .taken)
+    ∙ sym (passed-3 (c .before .before))
+
+two-equal-requires : tie.Need-two-equal-requires
+two-equal-requires c κs = search needs
+
+returns-5 : tie.Need-returns-5
+unfolding numberIn numberOf factorsTable
+returns-5 c =
+    first-here _ _ (c .before .two-equal .ensures) (c .if5 .taken)
+    ∙ sym (passed-4 (c .before .before))
+
+returns-6 : tie.Need-returns-6
+unfolding numberIn factorsTable
+returns-6 c = first-nowhere ∙ sym (passed-5 c)
+
+pub factors-verdict-spec : {M : Type 1} → statement M
+factors-verdict-spec =
+    tie.close
+    (tie.spec
+    factor-count-out-of-range-requires
+    returns
+    some-degree-out-of-range-requires
+    returns-2
+    some-not-monic-requires
+    returns-3
+    some-reducible-requires
+    returns-4
+    two-equal-requires
+    returns-5
+    returns-6)
