@@ -1,5 +1,8 @@
 -- Packing coefficients into a word, from the last to the first.
 --
+--   packed-none, packed-next, packed-all == the word of no coefficient, of one more, of all from a place on
+--   packed-fits      == the word with one more fits
+--
 -- Assumes nothing.
 use Prim.Native.Nat.{ℕ, suc, _+_, _*_, _-_, _%_, _^_, _≤_, _<_}
 use mathlib.Core.Path.{_≡_, sym, ap, _∙_, subst}

@@ -1,5 +1,8 @@
 -- A polynomial that grows in the bytes that hold it.
 --
+--   growing-rows     == the rows of the product with f(x^q) fit the array in which they are summed
+--   grown            == the sum, copied over the bytes, is the product
+--
 -- Assumes nothing.
 use Prim.Native.Nat.{ℕ, zero, suc, _+_, _*_, _-_, _≤_}
 use mathlib.Core.Path.{_≡_, refl, sym, ap, _∙_}

@@ -29,8 +29,8 @@ fn product(field: GaloisField, f: &[u8], q: usize, a: &[u8], into: &mut [u8])
     }
 }
 
-// Multiplies the polynomial of degree n in `answer` by f(x^q), and hands back the new degree. The product stands
-// in an array of its own until it is whole.
+// Multiplies the polynomial of degree n in `answer` by f(x^q), and hands back the new degree. The product
+// stands in an array of its own until it is whole.
 pub fn times_spread(field: GaloisField, f: &[u8], q: usize, answer: &mut [u8], n: usize) -> usize
     requires { ⌜ WellFormed field ⌝ }
     requires { ⌜ Growing (now f) q 1 (now answer) n ⌝ }
