@@ -2,19 +2,21 @@
 --
 --   AcceptedTerms     == terms that 7 and 8 do not turn down
 --   Passes            == one factor that 6, 10, 11, 12 and 14 do not turn down
+--   count-accepted, terms-accepted, … == what it says that a condition does not hold
+--   rated-power       == the power and the repeat bound of an answer with a power
 --   set-answer, portion-answer, period-answer == the answer of the way on accepted factors, terms and lent
 --                        bytes, from the powers that are found
 -- Assumes nothing.
-use Prim.Native.Nat.{ℕ, _≤_}
+use Prim.Native.Nat.{ℕ, _≤_, _<_}
 use native.Mathlib.Omega.{arith}
-use mathlib.Core.Path.{_≡_, refl, sym, ap, _∙_}
+use mathlib.Core.Path.{_≡_, refl, sym, ap, subst, _∙_}
 use mathlib.Core.Bool.{Bool, true, false, not, _||_, true≢false}
 use mathlib.Core.List.{List, [], _∷_}
-use mathlib.Core.Option.{some}
+use mathlib.Core.Option.{Option, some}
 use lib.ListN.{length}
-use lib.Dec.{T, T-not, eqb, ltb, ltb→lt, eqb→eq}
-use Rattle.meaning.specs.Search.{isNone, holdsForSome}
-use Rattle.meaning.specs.Field.{prime, areElements}
+use lib.Dec.{T, T-not, eqb, ltb, ltb→lt, lt→ltb, eqb→eq}
+use Rattle.meaning.specs.Search.{bind, isNone, holdsForSome}
+use Rattle.meaning.specs.Field.{prime, primeInRange, areElements}
 use Rattle.meaning.specs.Polynomial.{Polynomial, degree, power, product}
 use Rattle.meaning.specs.Sequence.{annihilatesKnown}
 use Rattle.meaning.specs.Result.{answered, Rated}
@@ -28,6 +30,7 @@ use Rattle.meaning.specs.Portion.{setPowers, setRating, setTable, setAnswer, ra
 use Rattle.meaning.specs.Portion.{factorTable, acceptedFactors, leastAt, portionTable, ratePortion}
 use Rattle.meaning.proofs.Tables.{NoneHolds, none-holds}
 use Rattle.bridge.proofs.Searches.{T-false, T-not-false, answered-settle, bind-some, mapOption-some}
+use Rattle.bridge.proofs.Searches.{false-T, not-false, or-false, some-bind, some-mapOption}
 use Rattle.bridge.proofs.Products.{factorsOf-named, length-named}
 
 -- terms that 7 and 8 do not turn down
@@ -75,6 +78,37 @@ pub accepted-count :
     → factorCountOutOfRange (length fs) ≡ false
 unfolding acceptedFactors factorTable
 accepted-count p fs vs h = none-holds (factorTable p fs vs) h .1 .0
+
+-- What it says that a condition does not hold
+pub count-accepted : (n : ℕ) → countOutOfRange n ≡ false → (1 ≤ n) × (n ≤ 4096)
+unfolding countOutOfRange
+count-accepted n h =
+    let z = or-false (eqb n 0) (ltb 4096 n) h in
+    let a : ¬ (n ≡ 0) = λ e. false-T (z .0) (subst (λ m. T (eqb m 0)) (sym e) tt) in
+    let b : ¬ (4096 < n) = λ l. false-T (z .1) (lt→ltb 4096 n l) in
+    (omega arith, omega arith)
+
+pub terms-accepted :
+    (p : ℕ) (ts : List ℕ) → termOutOfField (prime p) ts ≡ false → T (areElements (prime p) ts)
+unfolding termOutOfField
+terms-accepted p ts h = not-false (areElements (prime p) ts) h
+
+pub prime-accepted : (p : ℕ) → notPrime p ≡ false → T (primeInRange p)
+unfolding notPrime
+prime-accepted p h = not-false (primeInRange p) h
+
+pub enough-accepted : (d : ℕ) (ts : List ℕ) → fewerTermsThan d ts ≡ false → d ≤ length ts
+unfolding fewerTermsThan
+enough-accepted d ts h =
+    let b : ¬ (length ts < d) = λ l. false-T h (lt→ltb (length ts) d l) in
+    omega arith
+
+pub total-accepted : (l : List (Polynomial × ℕ)) → upperPowersOutOfRange l ≡ false → totalDegree l ≤ 4096
+unfolding upperPowersOutOfRange
+total-accepted l h =
+    let z = or-false (holdsForSome (λ (f : Polynomial × ℕ). eqb (f .1) 0) l) (ltb 4096 (totalDegree l)) h in
+    let b : ¬ (4096 < totalDegree l) = λ k. false-T (z .1) (lt→ltb 4096 (totalDegree l) k) in
+    omega arith
 
 -- THE SET WAY
 module _
@@ -170,7 +204,7 @@ one-passes p f vs h =
     }
 
 -- the answer with a power, where the repeat bound is known
-pub rating-of : (p : ℕ) (f : Polynomial) (r b : ℕ) → Rated PowerFigures
+unfoldable pub rating-of : (p : ℕ) (f : Polynomial) (r b : ℕ) → Rated PowerFigures
 rating-of p f r b =
     record {
       figures = record { power = r; degree = degree (power (prime p) f r); bound = b };
@@ -193,6 +227,17 @@ pub power-rated :
     → powerRating (prime p) f r ≡ some (rating-of p f r b)
 unfolding powerRating rating-of
 power-rated p f r b e = mapOption-some _ e
+
+-- the power and the bound of an answer with a power
+pub rated-power :
+    (p : ℕ) (f : Polynomial) (o : Option ℕ) {a : Rated PowerFigures}
+    → bind o (powerRating (prime p) f) ≡ some a
+    → (r b : ℕ) × (o ≡ some r) × (repeatBound (prime p) f r ≡ some b) × (rating-of p f r b ≡ a)
+unfolding powerRating rating-of
+rated-power p f o e =
+    let (r, y, z) = some-bind o (powerRating (prime p) f) e in
+    let (b, s, t) = some-mapOption _ (repeatBound (prime p) f r) z in
+    (r, b, y, s, t)
 
 -- THE PORTION WAY
 pub portion-answer :

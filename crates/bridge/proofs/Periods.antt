@@ -15,6 +15,7 @@
 --   PeriodSearch F f ts step p w == these three for code: what the power p^w decides, the size, and what the
 --                     search finds; `period-search` for any field, `prime-period-search` over GF(p) with the
 --                     stride
+--   periodPower-size == the degree of the power found is at most N
 --   periodPower-minimal == f to the power found is the minimal polynomial of the repetition
 --
 -- Assumes nothing.
@@ -23,7 +24,7 @@ use mathlib.Core.Path.{_≡_, sym, ap, ap₂, subst, _∙_}
 use mathlib.Core.Logic.{_≢_}
 use mathlib.Core.Bool.{Bool, not}
 use mathlib.Core.List.{List}
-use mathlib.Core.Option.{Option, none, some}
+use mathlib.Core.Option.{Option, none, some, Option·some-injective}
 use native.Mathlib.Nat as ℕ
 use native.Mathlib.Omega.{arith}
 use lib.ListN.{length, getD, take, length-take}
@@ -327,3 +328,30 @@ prime-period-search p I f ts a b c l h w m =
     (λ e r.
     period-search I f ts a b c l h w m e r (strideOnKnown (prime p) f)
     (prime-steps p I f (monic-nonempty (prime p) f a) (monic-elements (prime p) f a)))
+
+-- the degree of the power found
+pub periodPower-size :
+    {F : Field} (I : IsField F) (f : Polynomial)
+    → T (isMonicOver F f)
+    → 1 ≤ degree f
+    → T (irreducible F f)
+    → (ts : List ℕ)
+    → 0 < length ts
+    → T (areElements F ts)
+    → {r : ℕ}
+    → periodPower F f ts ≡ some r
+    → r * degree f ≤ length ts
+periodPower-size {F} I f a b c ts l h {r} e = elim (T-decided (allZero ts)) [
+  | yes z ↦
+      let n : 0 ≡ r = Option·some-injective 0 r (sym (periodPower-zeros I f ts z) ∙ e) in
+      subst (λ n. n * degree f ≤ length ts) n (omega (arith, ℕ.zero-mul (degree f)))
+  | no z ↦
+      let (w, m, v) = valuation (I .characteristic .prime) (length ts) l in
+      let rest : m % F .characteristic ≢ 0 = λ y. v .rest (ℕ.dvd-of-mod-eq-zero (F .characteristic) y) in
+      let x = periodPower-least F f ts l e in
+      let whole = period-whole I f a b c ts l w m (v .product) rest r (x .annihilates) in
+      let below = x .smallest (F .characteristic ^ w)
+      (period-endless F (power F f (F .characteristic ^ w)) ts l whole) in
+      ℕ.le-trans (ℕ.mul-le-mul-right (degree f) below)
+      (period-size I f a b c ts l w m (v .product) rest h z whole)
+]

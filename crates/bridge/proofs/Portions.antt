@@ -9,7 +9,7 @@
 --                     ts: one factor after the other up to `portionAt`
 --   leastAt-portion == `leastAt` is the least power of factor i that annihilates `portionAt`, at most its
 --                     upper power; `leastAt-search` and `prime-leastAt` say that the search finds it
---   leastAt-exists, setPowers-exists == it is always found
+--   leastAt-exists, setPowers-exists == it is always found; `leastAt-upper`: at most the upper power
 --   onward-continues, onward-unique == `onward` is the one sequence of the field that begins with the first D
 --                     terms and that the product to the upper powers annihilates; `onward-cut` for a stretch
 --   part-onward, onward-part == a product with a lower power of one factor annihilates `onward` exactly where
@@ -259,6 +259,11 @@ module _ {F : Field} (I : IsField F) (l : List (Polynomial × ℕ)) (nonempties 
   leastAt-exists i =
       least-exists (powerAt l i) (λ r. annihilatesKnown F (product F (withPower i r l)) first) (powerAt l i)
       (ℕ.le-refl (powerAt l i)) (upper-annihilates i)
+
+  pub leastAt-upper : (i : ℕ) {r : ℕ} → leastAt F l ts i ≡ some r → r ≤ powerAt l i
+  unfolding leastAt
+  leastAt-upper i e =
+      least-some (powerAt l i) (λ r. annihilatesKnown F (product F (withPower i r l)) first) e .0
 
   pub setPowers-exists : (rs : List ℕ) × (setPowers F l ts ≡ some rs)
   unfolding setPowers

@@ -10,8 +10,9 @@
 --   least-found, least-missing == the converses
 --   together-range == `together` of the answers of a range has each of the answers, in order
 --   settle-answered, answered-settle, settle-refused == what a settled table says of its conditions
---   FirstAt n table == a condition numbered n holds and those before it do not; `firstOf-before`: so it is
---                     where the table refuses by n
+--   FirstAt n table == a condition numbered n holds and those before it do not, as a tuple with a part for
+--                     each; `firstOf-before`, `settle-before`: so it is where the table refuses by n
+--   map-answered, map-refused == what `mapResult` says of a result
 --
 -- Membership is `List·Memᴰ`, as data.
 -- Assumes nothing.
@@ -27,9 +28,9 @@ use mathlib.Core.List.{List·Nodup, Pairwise·nil, Pairwise·cons}
 use mathlib.Core.Option.{Option, none, some, Option·some-injective, Option·none-ne-some, Option·some-ne-none}
 use lib.ListN.{length, getD, length-map, List·getD-map}
 use lib.Seq.{ext-getD}
-use lib.Dec.{T}
+use lib.Dec.{T, eqb, eqb-refl}
 use Rattle.meaning.specs.Search.{range, holdsForAll, holdsForSome, least, mapOption, bind, isNone, together}
-use Rattle.meaning.specs.Result.{Check, refused, answered, firstOf, settle, valueOf}
+use Rattle.meaning.specs.Result.{Check, Result, refused, answered, firstOf, settle, valueOf, mapResult}
 use Rattle.meaning.proofs.Tables.{firstOf-skip, NoneHolds, firstOf-none, none-holds, settle-none, least-zero}
 use Rattle.algebra.proofs.Number.{Least}
 
@@ -602,14 +603,54 @@ firstOf-holds (c ∷ table) {n} e = go (firstOf-holds table) ((c .1) tt) refl
         (d, List·Memᴰ·tail m, z, p)
 
 -- Which condition decides: one numbered n, and none before it
+abbrev pub Turn : Bool → Bool → Type 0 → Type 0
+Turn true holds Later = (holds ≡ true) ⊎ Later
+Turn false holds Later = (holds ≡ false) × Later
+
 abbrev pub FirstAt : ℕ → List Check → Type 0
 FirstAt n [] = ⊥
-FirstAt n (c ∷ table) = ((c .0 ≡ n) × ((c .1) tt ≡ true)) ⊎ (((c .1) tt ≡ false) × FirstAt n table)
+FirstAt n (c ∷ table) = Turn (eqb (c .0) n) ((c .1) tt) (FirstAt n table)
+
+turn :
+    (named holds : Bool) {Later : Type 0}
+    → (holds ≡ true → T named)
+    → (holds ≡ false → Later)
+    → Turn named holds Later
+turn true true h k = inl refl
+turn true false h k = inr (k refl)
+turn false true h k = absurd (h refl)
+turn false false h k = (refl, k refl)
 
 pub firstOf-before : (table : List Check) {n : ℕ} → firstOf table ≡ some n → FirstAt n table
 firstOf-before [] e = Option·none-ne-some _ (sym (firstOf-none [] tt) ∙ e)
-firstOf-before (c ∷ table) {n} e = go (firstOf-before table) ((c .1) tt) refl
-  where
-    go : (firstOf table ≡ some n → FirstAt n table) → (b : Bool) → (c .1) tt ≡ b → FirstAt n (c ∷ table)
-    go rest true h = inl (Option·some-injective _ _ (sym (firstOf-stop c table h) ∙ e), h)
-    go rest false h = inr (h, rest (sym (firstOf-skip c table h) ∙ e))
+firstOf-before (c ∷ table) {n} e =
+    turn (eqb (c .0) n) ((c .1) tt)
+    (λ h.
+    subst (λ m. T (eqb (c .0) m)) (Option·some-injective _ _ (sym (firstOf-stop c table h) ∙ e))
+    (eqb-refl (c .0)))
+    (λ h. firstOf-before table (sym (firstOf-skip c table h) ∙ e))
+
+pub settle-before :
+    {A : Type 0} (v : Unit {0} → Option A) (table : List Check) {n : ℕ}
+    → 0 < n
+    → settle table v ≡ refused n
+    → FirstAt n table
+settle-before v table l e = elim (settle-refused v table e) [
+  | inl f ↦ firstOf-before table f
+  | inr (_, _, z) ↦ absurd (omega (arith, z))
+]
+
+-- Results
+pub map-answered :
+    {A B : Type 0} (f : A → B) (r : Result A) {b : B}
+    → mapResult f r ≡ answered b
+    → (a : A) × (r ≡ answered a) × (f a ≡ b)
+unfolding mapResult
+map-answered f (refused n) e = absurd (let z : _≡_ {A = ℕ} 0 1 = cc in omega arith)
+map-answered f (answered a) e = (a, refl, cc)
+
+pub map-refused :
+    {A B : Type 0} (f : A → B) (r : Result A) {n : ℕ} → mapResult f r ≡ refused n → r ≡ refused n
+unfolding mapResult
+map-refused f (refused n) e = ap {B = Result _} refused (cc)
+map-refused f (answered a) e = absurd (let z : _≡_ {A = ℕ} 0 1 = cc in omega arith)

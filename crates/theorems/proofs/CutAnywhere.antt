@@ -1,67 +1,48 @@
 -- Demand 3: the same polynomial wherever the stretch is cut, however long it is, and whichever way rates it.
 -- Assumes nothing.
-use Prim.Native.Nat.{ℕ, suc, _+_, _*_, _≤_, _<_}
-use native.Mathlib.Nat.{zero-add, le-trans, mul-pos, add-zero}
+use Prim.Native.Nat.{ℕ, _+_, _*_, _≤_}
+use native.Mathlib.Nat.{zero-add, le-trans, mul-pos}
 use native.Mathlib.Omega.{arith}
 use mathlib.Core.Path.{_≡_, refl, sym, ap, subst, fun-ext, _∙_}
 use mathlib.Core.Logic.{_≢_}
 use mathlib.Core.Bool.{true, false, true≢false}
 use mathlib.Core.List.{List, [], _∷_}
 use mathlib.Core.Option.{some}
-use lib.ListN.{length, getD, take}
-use lib.Seq.{take-at}
+use lib.ListN.{length, getD}
 use lib.Dec.{T, eqb, ltb}
 use Rattle.meaning.specs.declared.PowerRating.{PowerRating}
-use Rattle.meaning.specs.declared.SetRating.{SetRating}
-use Rattle.meaning.specs.declared.FreeRating.{FreeRating}
 use Rattle.meaning.specs.Search.{holdsForSome}
 use Rattle.meaning.specs.Polynomial.{Polynomial, degree, power, product}
-use Rattle.meaning.specs.Sequence.{Sequence, InField, AnnihilatesEndless, cut, periodic, Period, MinimalPolynomial}
-use Rattle.meaning.specs.Sequence.{annihilatesKnown}
+use Rattle.meaning.specs.Sequence.{Sequence, InField, AnnihilatesEndless, cut, periodic, Period}
+use Rattle.meaning.specs.Sequence.{MinimalPolynomial, annihilatesKnown}
 use Rattle.meaning.specs.Result.{Result, answered, Rated, mapResult, figuresOf, written, answerAfter}
-use Rattle.meaning.specs.Conditions.{named, totalDegree, acceptedLent, upperPowersOutOfRange, factorCountOutOfRange}
+use Rattle.meaning.specs.Conditions.{named, totalDegree, upperPowersOutOfRange, factorCountOutOfRange}
 use Rattle.meaning.specs.Power.{PowerFigures, isX, repeatBound}
 use Rattle.meaning.specs.Period.{ratePeriod}
 use Rattle.meaning.specs.Portion.{acceptedFactors, factorTable, factorsOf, setPowers, setRating, onward}
 use Rattle.meaning.specs.Portion.{ratePortion}
-use Rattle.meaning.specs.Free.{Choice, FreeFigures}
-use Rattle.meaning.specs.Answers.{SetTold, toldPower, toldSet, toldFree, setFiguresTold}
-use Rattle.meaning.specs.Calls.{PeriodCall, PortionCall, SetCall, FreeCall, LentAfter}
-use Rattle.theorems.specs.Promises.{GF, Returns, CutAnywhere}
-use Rattle.bridge.proofs.Interpretation.{IsField}
+use Rattle.meaning.specs.Answers.{toldPower, setFiguresTold}
+use Rattle.meaning.specs.Calls.{LentAfter}
+use Rattle.theorems.specs.Promises.{GF, Returns, SetReturns, PortionReturns, PeriodReturns, FreeReturns}
+use Rattle.theorems.specs.Promises.{CutAnywherePromise}
+use Rattle.bridge.proofs.Interpretation.{IsField, inRange-isField, characteristic-two}
 use Rattle.bridge.proofs.Polynomials.{monic-nonempty}
-use Rattle.bridge.proofs.Products.{MonicFactors, monics-nonempty, factorsOf-named, length-factorsOf, product-elements}
-use Rattle.bridge.proofs.Products.{product-single}
-use Rattle.bridge.proofs.Irreducibles.{Factors, factors-monics, accepted-prime, accepted-uppers, accepted-different}
+use Rattle.bridge.proofs.Products.{MonicFactors, monics-nonempty, factorsOf-named, length-factorsOf}
+use Rattle.bridge.proofs.Products.{product-elements, product-single}
+use Rattle.bridge.proofs.Irreducibles.{Factors, factors-monics, accepted-prime, accepted-uppers}
+use Rattle.bridge.proofs.Irreducibles.{accepted-different}
 use Rattle.bridge.proofs.Searches.{or-false, false-T, some-head}
 use Rattle.bridge.proofs.Actions.{length-cut, cut-elements, endless-known, periodic-cut, actAt-shift}
 use Rattle.bridge.proofs.Minimal.{minimal-unique, leastPower-exists}
 use Rattle.bridge.proofs.Periods.{least-periodPower, periodPower-minimal}
 use Rattle.bridge.proofs.Fitting.{stretch-answer, accepts-free}
-use Rattle.bridge.proofs.Portions.{setPowers-exists, setPowers-minimal, onward-cut, portion-found, portion-minimal}
+use Rattle.bridge.proofs.Portions.{setPowers-exists, setPowers-minimal, onward-cut, portion-found}
+use Rattle.bridge.proofs.Portions.{portion-minimal}
 use Rattle.bridge.proofs.RepeatBounds.{repeatBound-exists}
-use Rattle.theorems.proofs.Minimality.{accepted-field, named-factors, one-factor}
-use Rattle.bridge.proofs.Accepted.{AcceptedTerms, set-answer, accepted-count, portion-answer, period-answer, rating-of}
-use Rattle.bridge.proofs.Accepted.{rating-degree, rating-polynomial}
+use Rattle.theorems.proofs.Ways.{written-returns, one-factor, one-total}
+use Rattle.bridge.proofs.Accepted.{AcceptedTerms, set-answer, accepted-count, portion-answer, period-answer}
+use Rattle.bridge.proofs.Accepted.{rating-of, rating-degree, rating-polynomial}
 use Rattle.bridge.proofs.Cutting.{shifted, shifted-minimal, product-constant}
-
-whole : (h : Polynomial) → 0 < length h → length h ≡ suc (degree h)
-unfolding degree
-whole h l = omega arith
-
--- What a call returns, from the bytes that it leaves.
-pub returned :
-    (g h : Polynomial) (answer answer′ : List ℕ)
-    → 0 < length h
-    → h ≡ g
-    → answer′ ≡ written h answer
-    → Returns g (degree h) answer′
-unfolding written
-returned g h answer answer′ l e b =
-    record {
-      degree-told = ap degree e;
-      coefficients = ap (take (suc (degree h))) b ∙ take-at h _ (suc (degree h)) (whole h l) ∙ e;
-    }
 
 -- acceptance depends on the upper powers of the factors alone
 same-table :
@@ -76,16 +57,14 @@ unfolding named
 named-one f [] = refl
 named-one f (v ∷ vs) = refl
 
-one-total : (f : Polynomial) (v : ℕ) → totalDegree ((f, v) ∷ []) ≡ v * degree f
-unfolding totalDegree
-one-total f v = add-zero (v * degree f)
-
 -- The total degree of accepted factors is positive: there is one, with an upper power and a degree above 0.
 nonzero-upper :
     (f : Polynomial) (v : ℕ) (l : List (Polynomial × ℕ)) → upperPowersOutOfRange ((f, v) ∷ l) ≡ false → v ≢ 0
 unfolding upperPowersOutOfRange
 nonzero-upper f v l h e =
-    let z = or-false (holdsForSome (λ (g : Polynomial × ℕ). eqb (g .1) 0) ((f, v) ∷ l)) (ltb 4096 (totalDegree ((f, v) ∷ l))) h in
+    let z =
+    or-false (holdsForSome (λ (g : Polynomial × ℕ). eqb (g .1) 0) ((f, v) ∷ l))
+    (ltb 4096 (totalDegree ((f, v) ∷ l))) h in
     false-T (z .0)
     (some-head (λ (g : Polynomial × ℕ). eqb (g .1) 0) (f, v) l (subst (λ n. T (eqb n 0)) (sym e) tt))
 
@@ -109,10 +88,10 @@ module _
     l = named fs vs
 
     I : IsField (GF p)
-    I = accepted-field p fs vs accepted
+    I = inRange-isField p (accepted-prime p fs vs accepted)
 
     factors : Factors (GF p) (factorsOf l)
-    factors = named-factors p fs vs accepted
+    factors = subst (Factors (GF p)) (sym (factorsOf-named fs vs)) (accepted-different p fs vs accepted)
 
     monics : MonicFactors (GF p) l
     monics = factors-monics I l factors
@@ -163,9 +142,16 @@ module _
     same-as-g : (h : Polynomial) (k : ℕ) → MinimalPolynomial (GF p) h (shifted s k) → h ≡ g
     same-as-g h k x = minimal-unique I h g (shifted s k) x (minimal-from k)
 
-    one-accepted : (f : Polynomial) (v : ℕ) → fs ≡ f ∷ [] → named fs vs ≡ (f, v) ∷ [] → T (acceptedFactors p (f ∷ []) (v ∷ []))
+    -- one pair is one factor
+    only-factor : (f : Polynomial) (v : ℕ) → named fs vs ≡ (f, v) ∷ [] → fs ≡ f ∷ []
+    unfolding factorsOf
+    only-factor f v one = sym (factorsOf-named fs vs) ∙ ap factorsOf one
+
+    one-accepted :
+        (f : Polynomial) (v : ℕ) → named fs vs ≡ (f, v) ∷ [] → T (acceptedFactors p (f ∷ []) (v ∷ []))
     unfolding named
-    one-accepted f v e one =
+    one-accepted f v one =
+        let e = only-factor f v one in
         subst T (same-table p (f ∷ []) vs (v ∷ []) (ap (λ (gs : List Polynomial). named gs vs) (sym e) ∙ one))
         (subst (λ (gs : List Polynomial). T (acceptedFactors p gs vs)) e accepted)
 
@@ -184,15 +170,7 @@ module _
     known-annihilated : (k m : ℕ) → T (annihilatesKnown (GF p) (product (GF p) l) (cut s k m))
     known-annihilated k m = endless-known (GF p) (product (GF p) l) s k m annihilated
 
-    set-way :
-        (k m : ℕ)
-        → totalDegree l ≤ m
-        → m ≤ 4096
-        → (answer work : List ℕ)
-        → T (acceptedLent (length answer) (length work))
-        → (r : SetRating) (answer′ work′ : List ℕ)
-        → SetCall p fs vs (cut s k m) answer work r answer′ work′
-        → (a : SetTold) × (toldSet (r .outcome) ≡ answered a) × Returns g (a .degree) answer′
+    set-way : (k m : ℕ) → totalDegree l ≤ m → m ≤ 4096 → SetReturns p fs vs (cut s k m) g
     unfolding figuresOf mapResult answerAfter setRating setFiguresTold rated
     set-way k m e few answer work lent r answer′ work′ c =
         let result =
@@ -201,16 +179,14 @@ module _
         lent (enough k m e) (known-annihilated k m) (powers k m .0) (powers k m .1) in (
           _,
           c .rating ∙ ap (λ x. mapResult setFiguresTold (figuresOf x)) result,
-          returned g (rated k m) answer answer′ (monic-nonempty (GF p) (rated k m) (rated-minimal k m e .monic))
+          written-returns g (rated k m) answer answer′
+              (monic-nonempty (GF p) (rated k m) (rated-minimal k m e .monic))
               (same-as-g (rated k m) k (rated-minimal k m e))
               (c .lent .answerBytes ∙ ap (λ x. answerAfter x answer) result),
         )
 
-    characteristic-two : 1 < GF p .characteristic
-    characteristic-two = I .characteristic .prime .large
-
     bound-of : (f : Polynomial) (r : ℕ) → (b : ℕ) × (repeatBound (GF p) f r ≡ some b)
-    bound-of f r = repeatBound-exists (GF p) f r characteristic-two
+    bound-of f r = repeatBound-exists (GF p) f r (characteristic-two I)
 
     -- what an answer with a power of f returns, where that power is minimal from some place on
     power-returns :
@@ -227,28 +203,28 @@ module _
       rating-of p f r b .figures,
       c ∙ ap figuresOf e,
       subst (λ d. Returns g d answer′) (rating-degree p f r b)
-          (returned g (power (GF p) f r) answer answer′ (monic-nonempty (GF p) (power (GF p) f r) (x .monic))
+          (written-returns g (power (GF p) f r) answer answer′
+          (monic-nonempty (GF p) (power (GF p) f r) (x .monic))
           (same-as-g (power (GF p) f r) k x)
-          (lent .answerBytes ∙ ap (λ y. answerAfter y answer) e ∙ ap (λ h. written h answer) (rating-polynomial p f r b))),
+          (lent .answerBytes
+          ∙ ap (λ y. answerAfter y answer) e
+          ∙ ap (λ h. written h answer) (rating-polynomial p f r b))),
     )
 
     -- THE PORTION WAY
     portion-way :
         (f : Polynomial) (v : ℕ)
-        → fs ≡ f ∷ []
         → named fs vs ≡ (f, v) ∷ []
         → (k m : ℕ)
         → totalDegree (named fs vs) ≤ m
         → m ≤ 4096
-        → (answer work : List ℕ)
-        → T (acceptedLent (length answer) (length work))
-        → (r : PowerRating) (answer′ work′ : List ℕ)
-        → PortionCall p f v (cut s k m) answer work r answer′ work′
-        → (a : PowerFigures) × (toldPower r ≡ answered a) × Returns g (a .degree) answer′
-    portion-way f v e one k m d few answer work lent told answer′ work′ c =
-        let h = subst (λ (n : List (Polynomial × ℕ)). T (annihilatesKnown (GF p) (product (GF p) n) (cut s k m))) one (known-annihilated k m) in
+        → PortionReturns p f v (cut s k m) g
+    portion-way f v one k m d few answer work lent told answer′ work′ c =
+        let h =
+        subst (λ (n : List (Polynomial × ℕ)). T (annihilatesKnown (GF p) (product (GF p) n) (cut s k m))) one
+        (known-annihilated k m) in
         let t = terms k m (le-trans total-positive d) few in
-        let x = one-factor p f (v ∷ []) (one-accepted f v e one) in
+        let x = one-factor p f (v ∷ []) (one-accepted f v one) in
         let size : v * degree f ≤ length (cut s k m) =
         subst (λ n. n ≤ length (cut s k m)) (ap totalDegree one ∙ one-total f v) (enough k m d) in
         let found = portion-found I f (x .monic) v (cut s k m) (t .inField) size in
@@ -256,10 +232,13 @@ module _
         power-returns f (found .0) (bound .0) k
         (subst (MinimalPolynomial (GF p) (power (GF p) f (found .0)))
         (ap (λ (n : List (Polynomial × ℕ)). onward (GF p) n (cut s k m)) (sym one) ∙ continued k m d)
-        (portion-minimal I f (x .monic) v (cut s k m) (t .inField) size (x .positive) (x .irreducibility) (found .1)))
+        (portion-minimal I f (x .monic) v (cut s k m) (t .inField) size (x .positive) (x .irreducibility)
+        (found .1)))
         (ratePortion p f v (cut s k m) (length answer) (length work))
-        (portion-answer p f v (cut s k m) (length answer) (length work) (found .0) (bound .0) (one-accepted f v e one) t lent
-        (subst (λ (n : List (Polynomial × ℕ)). totalDegree n ≤ length (cut s k m)) one (enough k m d)) h (found .1) (bound .1))
+        (portion-answer p f v (cut s k m) (length answer) (length work) (found .0) (bound .0)
+        (one-accepted f v one) t lent
+        (subst (λ (n : List (Polynomial × ℕ)). totalDegree n ≤ length (cut s k m)) one (enough k m d)) h
+        (found .1) (bound .1))
         told answer work answer′ work′ (c .rating) (c .lent)
 
     -- THE PERIOD WAY
@@ -269,17 +248,14 @@ module _
         → (k n : ℕ)
         → Period s n
         → n ≤ 4096
-        → (answer work : List ℕ)
-        → T (acceptedLent (length answer) (length work))
-        → (r : PowerRating) (answer′ work′ : List ℕ)
-        → PeriodCall p f (cut s k n) answer work r answer′ work′
-        → (a : PowerFigures) × (toldPower r ≡ answered a) × Returns g (a .degree) answer′
+        → PeriodReturns p f (cut s k n) g
     period-way f e k n period few answer work lent told answer′ work′ c =
         let one : T (acceptedFactors p (f ∷ []) vs) =
         subst (λ (gs : List Polynomial). T (acceptedFactors p gs vs)) e accepted in
         let x = one-factor p f vs one in
         let t = terms k n (period .positive) few in
-        let same : periodic (cut s k n) ≡ shifted s k = fun-ext (periodic-cut s k n (period .positive) (period .repeats)) in
+        let same : periodic (cut s k n) ≡ shifted s k =
+        fun-ext (periodic-cut s k n (period .positive) (period .repeats)) in
         let v = getD vs 0 0 in
         let whole : AnnihilatesEndless (GF p) (power (GF p) f v) s =
         subst (λ (h : Polynomial). AnnihilatesEndless (GF p) h s)
@@ -292,47 +268,46 @@ module _
         (subst (AnnihilatesEndless (GF p) (power (GF p) f v)) (sym same)
         (λ j. actAt-shift (GF p) (power (GF p) f v) s k j ∙ whole (k + j))) in
         let found =
-        least-periodPower I f (x .monic) (x .positive) (x .irreducibility) (cut s k n) (t .atLeastOne) (least .2) in
+        least-periodPower I f (x .monic) (x .positive) (x .irreducibility) (cut s k n) (t .atLeastOne)
+        (least .2) in
         let bound = bound-of f (least .0) in
         power-returns f (least .0) (bound .0) k
         (subst (MinimalPolynomial (GF p) (power (GF p) f (least .0))) same
-        (periodPower-minimal I f (x .monic) (x .positive) (x .irreducibility) (cut s k n) (t .atLeastOne) found))
+        (periodPower-minimal I f (x .monic) (x .positive) (x .irreducibility) (cut s k n) (t .atLeastOne)
+        found))
         (ratePeriod p f (cut s k n) (length answer) (length work))
-        (period-answer p f (cut s k n) (length answer) (length work) (least .0) (bound .0) vs one t lent found (bound .1))
+        (period-answer p f (cut s k n) (length answer) (length work) (least .0) (bound .0) vs one t lent found
+        (bound .1))
         told answer work answer′ work′ (c .rating) (c .lent)
 
     -- THE FREE WAY
-    free-way :
-        (k m : ℕ)
-        → 2 * degree g ≤ m
-        → 1 ≤ m
-        → m ≤ 4096
-        → (answer work : List ℕ)
-        → T (acceptedLent (length answer) (length work))
-        → (pick : Choice) (r : FreeRating) (answer′ work′ : List ℕ)
-        → FreeCall pick p (cut s k m) answer work r answer′ work′
-        → (a : FreeFigures) × (toldFree r ≡ answered a) × Returns g (a .degree) answer′
+    free-way : (k m : ℕ) → 2 * degree g ≤ m → 1 ≤ m → m ≤ 4096 → FreeReturns p (cut s k m) g
     unfolding figuresOf mapResult answerAfter
     free-way k m twice least few answer work lent pick told answer′ work′ c =
         let t = terms k m least few in
         let result =
         stretch-answer p (product (GF p) l) g s annihilated (product-elements I l) constant minimal k m twice
         (length answer) (length work) pick
-        (accepts-free p (cut s k m) (length answer) (length work) (accepted-prime p fs vs accepted) (t .atLeastOne) (t .notMany)
-        (t .inField) lent) in (
+        (accepts-free p (cut s k m) (length answer) (length work) (accepted-prime p fs vs accepted)
+        (t .atLeastOne) (t .notMany) (t .inField) lent) in (
           record { degree = degree g; unique = true },
           c .rating ∙ ap figuresOf result,
-          returned g g answer answer′ (monic-nonempty (GF p) g (minimal .monic)) refl
+          written-returns g g answer answer′ (monic-nonempty (GF p) g (minimal .monic)) refl
               (c .lent .answerBytes ∙ ap (λ y. answerAfter y answer) result),
         )
 
-    pub cut-anywhere : CutAnywhere p fs vs s
-    cut-anywhere =
-        record {
-          g = g;
-          minimal = minimal;
-          set-way = set-way;
-          portion-way = portion-way;
-          period-way = period-way;
-          free-way = free-way;
-        }
+pub cut-anywhere : CutAnywherePromise
+cut-anywhere p fs vs s accepted noneX inField annihilated =
+    record {
+      g = g p fs vs s accepted noneX inField annihilated;
+      minimal = minimal p fs vs s accepted noneX inField annihilated;
+      set-way = λ k m enough few. set-way p fs vs s accepted noneX inField annihilated k m enough few;
+      portion-way =
+          λ f v one k m enough few.
+          portion-way p fs vs s accepted noneX inField annihilated f v one k m enough few;
+      period-way =
+          λ f one k n repeats few.
+          period-way p fs vs s accepted noneX inField annihilated f one k n repeats few;
+      free-way =
+          λ k m twice terms few. free-way p fs vs s accepted noneX inField annihilated k m twice terms few;
+    }

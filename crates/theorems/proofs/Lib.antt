@@ -1,5 +1,5 @@
 pub mod Words
-pub mod Minimality
+pub mod Ways
 pub mod CutAnywhere
 pub mod Promises
 pub mod Instance

@@ -1,0 +1,402 @@
+-- Demand 2: what the calls of the four ways return is right, from their contracts alone.
+-- Assumes nothing.
+use Prim.Native.Nat.{ℕ, suc, _*_, _^_, _≤_, _<_}
+use native.Mathlib.Nat.{mul-le-mul-right, le-trans, add-zero}
+use native.Mathlib.Omega.{arith}
+use mathlib.Core.Path.{_≡_, refl, sym, ap, subst, _∙_}
+use mathlib.Core.Logic.{_⊎_, inl, inr}
+use mathlib.Core.Bool.{Bool, true, false, not}
+use mathlib.Core.List.{List, [], _∷_}
+use mathlib.Core.Option.{some, Option·some-injective}
+use lib.ListN.{length, take}
+use lib.Seq.{take-at}
+use lib.Dec.{T, T-not}
+use Rattle.meaning.specs.declared.PowerRating.{PowerRating}
+use Rattle.meaning.specs.declared.SetRating.{SetRating}
+use Rattle.meaning.specs.Search.{holdsForSome}
+use Rattle.meaning.specs.Field.{primeInRange, areElements}
+use Rattle.meaning.specs.Polynomial.{Polynomial, degree, isMonicOver, power, product, irreducible}
+use Rattle.meaning.specs.Sequence.{Sequence, InField, periodic, annihilatesKnown, MinimalPolynomial}
+use Rattle.meaning.specs.Sequence.{AnnihilatesEndless}
+use Rattle.meaning.specs.Result.{Check, Result, Rated, answered, refused, figuresOf, mapResult, answerAfter}
+use Rattle.meaning.specs.Result.{written}
+use Rattle.meaning.specs.Conditions.{named, totalDegree, notPrime, factorDegreeOutOfRange, notMonic}
+use Rattle.meaning.specs.Conditions.{isReducible}
+use Rattle.meaning.specs.Power.{PowerFigures, repeatBound}
+use Rattle.meaning.specs.Period.{NoPower, periodPower, ratePeriod, periodAnswer, periodTable}
+use Rattle.meaning.specs.Portion.{acceptedFactors, factorsOf, leastAt, onward, portionTable, ratePortion}
+use Rattle.meaning.specs.Portion.{SetFigures, setRating, setPowers, setTable, setAnswer, rateSet}
+use Rattle.meaning.specs.Free.{Choice, Fits, leastDegree, isUnique, freePolynomial, freeRating, freeTable}
+use Rattle.meaning.specs.Free.{rateFree, IsLeastDegree}
+use Rattle.meaning.specs.Answers.{SetTold, toldPower, toldSet, setFiguresTold, setPadded}
+use Rattle.meaning.specs.Calls.{PeriodCall, PortionCall, SetCall}
+use Rattle.meaning.proofs.Tables.{NoneHolds}
+use Rattle.theorems.specs.Promises.{GF, listIn, Returns, BoundTold, PeriodPromise, PeriodAnswered}
+use Rattle.theorems.specs.Promises.{PortionPromise, PortionAnswered, SetPromise, SetAnswered}
+use Rattle.theorems.specs.Promises.{FreePromise, FreeAnswered, NoneBegins}
+use Rattle.bridge.proofs.Searches.{settle-answered, settle-before, map-answered, map-refused, some-bind}
+use Rattle.bridge.proofs.Searches.{some-mapOption, true-T, not-false, isNone-none}
+use Rattle.bridge.proofs.Interpretation.{IsField, prime-pos, inRange-isField, inRange-prime}
+use Rattle.bridge.proofs.Polynomials.{monic-nonempty, getD-below}
+use Rattle.bridge.proofs.Products.{accepted-monic, factorsOf-named, monics-nonempty, product-single}
+use Rattle.bridge.proofs.Irreducibles.{Factors, accepted-degree, accepted-irreducible, accepted-factors}
+use Rattle.bridge.proofs.Irreducibles.{factors-monics, single-factor}
+use Rattle.bridge.proofs.Portions.{setPowers-minimal, annihilated-agrees, nothing-continues, portion-least}
+use Rattle.bridge.proofs.Portions.{portion-minimal, onward-continues, leastAt-upper}
+use Rattle.bridge.proofs.Periods.{periodPower-least, periodPower-minimal, periodPower-none, periodPower-size}
+use Rattle.bridge.proofs.Fitting.{leastDegree-least, fits-only, isUnique-le, le-isUnique, polynomial-one}
+use Rattle.bridge.proofs.Fitting.{polynomial-some}
+use Rattle.bridge.proofs.RepeatBounds.{prime-repeatBound-bits, repeatBound-meaning}
+use Rattle.bridge.proofs.Accepted.{count-accepted, terms-accepted, prime-accepted, enough-accepted}
+use Rattle.bridge.proofs.Accepted.{total-accepted, rating-of, rating-polynomial, rated-power, one-passes}
+
+-- What a call returns, from the bytes that it leaves.
+whole : (h : Polynomial) → 0 < length h → length h ≡ suc (degree h)
+unfolding degree
+whole h l = omega arith
+
+pub written-returns :
+    (g h : Polynomial) (answer answer′ : List ℕ)
+    → 0 < length h
+    → h ≡ g
+    → answer′ ≡ written h answer
+    → Returns g (degree h) answer′
+unfolding written
+written-returns g h answer answer′ l e b =
+    record {
+      degree-told = ap degree e;
+      coefficients = ap (take (suc (degree h))) b ∙ take-at h _ (suc (degree h)) (whole h l) ∙ e;
+    }
+
+-- ONE FACTOR that 6, 10, 11 and 12 let pass
+pub record OneFactor (p : ℕ) (f : Polynomial) : Type 1 where
+  pub isField : IsField (GF p)
+  pub inRange : T (primeInRange p)
+  pub ten : factorDegreeOutOfRange (GF p) f ≡ false
+  pub monic : T (isMonicOver (GF p) f)
+  pub positive : 1 ≤ degree f
+  pub irreducibility : T (irreducible (GF p) f)
+
+one-factor-of :
+    (p : ℕ) (f : Polynomial)
+    → notPrime p ≡ false
+    → factorDegreeOutOfRange (GF p) f ≡ false
+    → notMonic (GF p) f ≡ false
+    → isReducible (GF p) f ≡ false
+    → OneFactor p f
+one-factor-of p f six ten eleven twelve =
+    let m = accepted-monic (GF p) f eleven in
+    record {
+      isField = inRange-isField p (prime-accepted p six);
+      inRange = prime-accepted p six;
+      ten = ten;
+      monic = m;
+      positive = accepted-degree (GF p) f (monic-nonempty (GF p) f m) ten;
+      irreducibility = accepted-irreducible (GF p) f twelve;
+    }
+
+pub one-factor : (p : ℕ) (f : Polynomial) (vs : List ℕ) → T (acceptedFactors p (f ∷ []) vs) → OneFactor p f
+one-factor p f vs h =
+    let x = one-passes p f vs h in one-factor-of p f (x .six) (x .ten) (x .eleven) (x .twelve)
+
+-- the bound that is told
+bound-told :
+    (p : ℕ) (f : Polynomial)
+    → OneFactor p f
+    → (r b : ℕ) (s : Sequence)
+    → InField (GF p) s
+    → MinimalPolynomial (GF p) (power (GF p) f r) s
+    → r * degree f ≤ 4096
+    → repeatBound (GF p) f r ≡ some b
+    → BoundTold p f r b s
+bound-told p f x r b s inField min few e =
+    let (small, P) = inRange-prime p (x .inRange) in
+    let bits : b < 2 ^ 64 =
+    prime-repeatBound-bits p f r b (monic-nonempty (GF p) f (x .monic)) (prime-pos P) small (x .ten) few e in
+    record {
+      value = e;
+      bits64 = bits;
+      meaning =
+          λ c.
+          repeatBound-meaning (x .isField) f (x .monic) (x .positive) (x .irreducibility) r b c e bits s
+          inField (min .annihilates);
+    }
+
+-- what an answer with a power returns
+power-returns :
+    (p : ℕ) (f : Polynomial) (r b : ℕ) (s : Sequence) (result : Result (Rated PowerFigures))
+    (answer answer′ : List ℕ)
+    → MinimalPolynomial (GF p) (power (GF p) f r) s
+    → result ≡ answered (rating-of p f r b)
+    → answer′ ≡ answerAfter result answer
+    → Returns (power (GF p) f r) (degree (power (GF p) f r)) answer′
+unfolding answerAfter
+power-returns p f r b s result answer answer′ min e lent =
+    let g = power (GF p) f r in
+    written-returns g g answer answer′ (monic-nonempty (GF p) g (min .monic)) refl
+    (lent ∙ ap (λ y. answerAfter y answer) e ∙ ap (λ h. written h answer) (rating-polynomial p f r b))
+
+-- the last condition of a table
+the-last : {A : Type 0} → A ⊎ ⊥ → A
+the-last (inl a) = a
+the-last (inr b) = absurd b
+
+not-continued :
+    (p : ℕ) (g : Polynomial) (ts : List ℕ) → not (annihilatesKnown (GF p) g ts) ≡ true → NoneBegins p g ts
+not-continued p g ts h =
+    nothing-continues (GF p) g ts (T-not (annihilatesKnown (GF p) g ts) (true-T h))
+
+-- THE PERIOD WAY
+periodic-inField :
+    (p : ℕ) → IsField (GF p) → (ts : List ℕ) → T (areElements (GF p) ts) → InField (GF p) (periodic ts)
+unfolding periodic
+periodic-inField p I ts h k = getD-below I ts h _
+
+period-rated :
+    (p : ℕ) (f : Polynomial) (ts answer work : List ℕ) (r : PowerRating) (answer′ work′ : List ℕ)
+    → PeriodCall p f ts answer work r answer′ work′
+    → (a : PowerFigures)
+    → toldPower r ≡ answered a
+    → PeriodAnswered p f ts a answer′
+unfolding ratePeriod periodAnswer periodTable figuresOf rating-of
+period-rated p f ts answer work r answer′ work′ c a e =
+    let result = ratePeriod p f ts (length answer) (length work) in
+    let (b, q, v) = map-answered (λ x. x .figures) result (sym (c .rating) ∙ e) in
+    let (h, w) =
+    settle-answered _
+    (periodTable p (factorDegreeOutOfRange (GF p) f) (notMonic (GF p) f) f ts (length answer) (length work))
+    q in
+    let x = one-factor-of p f (h .0) (h .1 .1 .1 .0) (h .1 .1 .1 .1 .0) (h .1 .1 .1 .1 .1 .0) in
+    let (n, bound, y, z, t) = rated-power p f (periodPower (GF p) f ts) w in
+    let count = count-accepted (length ts) (h .1 .0) in
+    let els = terms-accepted p ts (h .1 .1 .0) in
+    let min =
+    periodPower-minimal (x .isField) f (x .monic) (x .positive) (x .irreducibility) ts (count .0) y in
+    let few =
+    periodPower-size (x .isField) f (x .monic) (x .positive) (x .irreducibility) ts (count .0) els y in
+    let returns =
+    power-returns p f n bound (periodic ts) result answer answer′ min (q ∙ ap answered (sym t))
+    (c .lent .answerBytes) in
+    subst (λ a. PeriodAnswered p f ts a answer′) (ap (λ b. b .figures) t ∙ v)
+    (record {
+      least = periodPower-least (GF p) f ts (count .0) y;
+      minimal = subst (λ h. MinimalPolynomial (GF p) h (periodic ts)) (sym (returns .coefficients)) min;
+      returns = returns;
+      bound =
+          bound-told p f x n bound (periodic ts) (periodic-inField p (x .isField) ts els) min
+          (le-trans few (count .1)) z;
+    })
+
+period-seventeen :
+    (p : ℕ) (f : Polynomial) (ts answer work : List ℕ) (r : PowerRating) (answer′ work′ : List ℕ)
+    → PeriodCall p f ts answer work r answer′ work′
+    → toldPower r ≡ refused 17
+    → NoPower (GF p) f ts
+unfolding ratePeriod periodAnswer periodTable figuresOf
+period-seventeen p f ts answer work r answer′ work′ c e =
+    let q =
+    map-refused (λ x. x .figures) (ratePeriod p f ts (length answer) (length work)) (sym (c .rating) ∙ e) in
+    let h =
+    settle-before _
+    (periodTable p (factorDegreeOutOfRange (GF p) f) (notMonic (GF p) f) f ts (length answer) (length work))
+    (omega arith) q in
+    let x = one-factor-of p f (h .0) (h .1 .1 .1 .0) (h .1 .1 .1 .1 .0) (h .1 .1 .1 .1 .1 .0) in
+    let count = count-accepted (length ts) (h .1 .0) in
+    periodPower-none (x .isField) f (x .monic) (x .positive) (x .irreducibility) ts (count .0)
+    (isNone-none (true-T (the-last (h .1 .1 .1 .1 .1 .1 .1))))
+
+pub period-promise : PeriodPromise
+period-promise p f ts answer work r answer′ work′ c =
+    record {
+      rated = period-rated p f ts answer work r answer′ work′ c;
+      seventeen = period-seventeen p f ts answer work r answer′ work′ c;
+    }
+
+-- THE PORTION WAY
+pub one-total : (f : Polynomial) (v : ℕ) → totalDegree ((f, v) ∷ []) ≡ v * degree f
+unfolding totalDegree
+one-total f v = add-zero (v * degree f)
+
+portion-rated :
+    (p : ℕ) (f : Polynomial) (v : ℕ) (ts answer work : List ℕ) (r : PowerRating) (answer′ work′ : List ℕ)
+    → PortionCall p f v ts answer work r answer′ work′
+    → (a : PowerFigures)
+    → toldPower r ≡ answered a
+    → PortionAnswered p f v ts a answer′
+unfolding ratePortion portionTable figuresOf rating-of factorsOf
+portion-rated p f v ts answer work r answer′ work′ c a e =
+    let result = ratePortion p f v ts (length answer) (length work) in
+    let one : List (Polynomial × ℕ) = (f, v) ∷ [] in
+    let (b, q, u) = map-answered (λ x. x .figures) result (sym (c .rating) ∙ e) in
+    let (h, w) = settle-answered _ (portionTable p f v ts (length answer) (length work)) q in
+    let x = one-factor-of p f (h .0) (h .1 .1 .1 .0) (h .1 .1 .1 .1 .0) (h .1 .1 .1 .1 .1 .0) in
+    let (n, bound, y, z, t) = rated-power p f (leastAt (GF p) one ts 0) w in
+    let els = terms-accepted p ts (h .1 .1 .0) in
+    let enough = enough-accepted (totalDegree one) ts (h .1 .1 .1 .1 .1 .1 .1 .0) in
+    let size : v * degree f ≤ length ts = subst (λ d. d ≤ length ts) (one-total f v) enough in
+    let monics =
+    factors-monics (x .isField) one (single-factor (GF p) f (x .monic) (x .positive) (x .irreducibility)) in
+    let s = onward (GF p) one ts in
+    let min =
+    portion-minimal (x .isField) f (x .monic) v ts els size (x .positive) (x .irreducibility) y in
+    let upper : n ≤ v = leastAt-upper (x .isField) one (monics-nonempty (GF p) one monics) ts 0 y in
+    let few : n * degree f ≤ 4096 =
+    le-trans (mul-le-mul-right (degree f) upper)
+    (subst (λ d. d ≤ 4096) (one-total f v) (total-accepted one (h .1 .1 .1 .1 .1 .1 .0))) in
+    let returns =
+    power-returns p f n bound s result answer answer′ min (q ∙ ap answered (sym t)) (c .lent .answerBytes) in
+    subst (λ a. PortionAnswered p f v ts a answer′) (ap (λ b. b .figures) t ∙ u)
+    (record {
+      agrees =
+          annihilated-agrees (x .isField) one monics ts els enough
+          (not-false (annihilatesKnown (GF p) (product (GF p) one) ts) (h .1 .1 .1 .1 .1 .1 .1 .1 .1 .0));
+      least = portion-least (x .isField) f (x .monic) v ts els size y;
+      minimal = subst (λ h. MinimalPolynomial (GF p) h s) (sym (returns .coefficients)) min;
+      returns = returns;
+      bound =
+          bound-told p f x n bound s (onward-continues (x .isField) one monics ts els enough .inField) min few
+          z;
+    })
+
+portion-seventeen :
+    (p : ℕ) (f : Polynomial) (v : ℕ) (ts answer work : List ℕ) (r : PowerRating) (answer′ work′ : List ℕ)
+    → PortionCall p f v ts answer work r answer′ work′
+    → toldPower r ≡ refused 17
+    → NoneBegins p (power (GF p) f v) ts
+unfolding ratePortion portionTable figuresOf
+portion-seventeen p f v ts answer work r answer′ work′ c e s z =
+    let q =
+    map-refused (λ x. x .figures) (ratePortion p f v ts (length answer) (length work))
+    (sym (c .rating) ∙ e) in
+    let h = settle-before _ (portionTable p f v ts (length answer) (length work)) (omega arith) q in
+    let x = one-factor-of p f (h .0) (h .1 .1 .1 .0) (h .1 .1 .1 .1 .0) (h .1 .1 .1 .1 .1 .0) in
+    let same = product-single (x .isField) f v (monic-nonempty (GF p) f (x .monic)) in
+    not-continued p (product (GF p) ((f, v) ∷ [])) ts (the-last (h .1 .1 .1 .1 .1 .1 .1 .1 .1)) s
+    (subst (λ g. AnnihilatesEndless (GF p) g s) (sym same) z)
+
+pub portion-promise : PortionPromise
+portion-promise p f v ts answer work r answer′ work′ c =
+    record {
+      rated = portion-rated p f v ts answer work r answer′ work′ c;
+      seventeen = portion-seventeen p f v ts answer work r answer′ work′ c;
+    }
+
+-- THE SET WAY
+module _ (p : ℕ) (fs : List Polynomial) (vs ts answer work : List ℕ) (r : SetRating) (answer′ work′ : List ℕ)
+    (c : SetCall p fs vs ts answer work r answer′ work′)
+  where
+    abbrev l : List (Polynomial × ℕ)
+    l = named fs vs
+
+    abbrev result : Result (Rated SetFigures)
+    result = rateSet p fs vs ts (length answer) (length work)
+
+    abbrev table : List Check
+    table =
+        setTable p (holdsForSome (factorDegreeOutOfRange (GF p)) fs) (holdsForSome (notMonic (GF p)) fs) l ts
+        (length answer) (length work)
+
+    set-factors : NoneHolds table → Factors (GF p) (factorsOf l)
+    unfolding setTable
+    set-factors h =
+        let same = factorsOf-named fs vs in
+        accepted-factors (GF p) (factorsOf l)
+        (ap (holdsForSome (factorDegreeOutOfRange (GF p))) same ∙ h .1 .1 .1 .1 .0)
+        (ap (holdsForSome (notMonic (GF p))) same ∙ h .1 .1 .1 .1 .1 .0)
+        (h .1 .1 .1 .1 .1 .1 .0)
+        (h .1 .1 .1 .1 .1 .1 .1 .0)
+
+    set-rated :
+        (a : SetTold) → toldSet (r .outcome) ≡ answered a → SetAnswered p fs vs ts a (r .powers) answer′
+    unfolding rateSet setAnswer setTable figuresOf mapResult setRating setFiguresTold setPadded answerAfter
+    set-rated a e =
+        let (b′, q′, u′) = map-answered setFiguresTold (figuresOf result) (sym (c .rating) ∙ e) in
+        let (b, q, u) = map-answered (λ x. x .figures) result q′ in
+        let (h, w) = settle-answered _ table q in
+        let (rs, y, t) = some-mapOption (setRating (GF p) l) (setPowers (GF p) l ts) w in
+        let I = inRange-isField p (prime-accepted p (h .0)) in
+        let factors = set-factors h in
+        let els = terms-accepted p ts (h .1 .1 .0) in
+        let enough = enough-accepted (totalDegree l) ts (h .1 .1 .1 .1 .1 .1 .1 .1 .1 .0) in
+        let meaning = setPowers-minimal I l factors ts els enough y in
+        let g = product (GF p) (named (factorsOf l) rs) in
+        let rated : result ≡ answered (setRating (GF p) l rs) = q ∙ ap answered (sym t) in
+        let returns =
+        written-returns (product (GF p) (named fs rs)) g answer answer′
+        (monic-nonempty (GF p) g (meaning .minimal .monic))
+        (ap (λ (gs : List Polynomial). product (GF p) (named gs rs)) (factorsOf-named fs vs))
+        (c .lent .answerBytes ∙ ap (λ x. answerAfter x answer) rated) in
+        subst (λ a. SetAnswered p fs vs ts a (r .powers) answer′)
+        (ap setFiguresTold (ap (λ b. b .figures) t ∙ u) ∙ u′)
+        (record {
+          powers = rs;
+          count-told = refl;
+          places = c .powers ∙ ap (λ x. setPadded (figuresOf x)) rated;
+          agrees =
+              annihilated-agrees I l (factors-monics I l factors) ts els enough
+              (not-false (annihilatesKnown (GF p) (product (GF p) l) ts)
+              (h .1 .1 .1 .1 .1 .1 .1 .1 .1 .1 .1 .0));
+          meaning = meaning;
+          minimal =
+              subst (λ h. MinimalPolynomial (GF p) h (onward (GF p) l ts))
+              (ap (λ (gs : List Polynomial). product (GF p) (named gs rs)) (factorsOf-named fs vs)
+              ∙ sym (returns .coefficients))
+              (meaning .minimal);
+          returns = returns;
+        })
+
+    set-seventeen : toldSet (r .outcome) ≡ refused 17 → NoneBegins p (product (GF p) l) ts
+    unfolding rateSet setAnswer setTable figuresOf
+    set-seventeen e =
+        let q =
+        map-refused (λ x. x .figures) result
+        (map-refused setFiguresTold (figuresOf result) (sym (c .rating) ∙ e)) in
+        let h = settle-before _ table (omega arith) q in
+        not-continued p (product (GF p) l) ts (the-last (h .1 .1 .1 .1 .1 .1 .1 .1 .1 .1 .1))
+
+pub set-promise : SetPromise
+set-promise p fs vs ts answer work r answer′ work′ c =
+    record {
+      rated = set-rated p fs vs ts answer work r answer′ work′ c;
+      seventeen = set-seventeen p fs vs ts answer work r answer′ work′ c;
+    }
+
+-- THE FREE WAY
+free-fits :
+    (p : ℕ) (I : IsField (GF p)) (pick : Choice) (ts : List ℕ) (L : ℕ) (g : Polynomial)
+    → IsLeastDegree (GF p) ts L
+    → (isUnique ts L ≡ false → Fits (GF p) ts L (pick p ts))
+    → freePolynomial pick p ts L ≡ some g
+    → Fits (GF p) ts L g
+free-fits p I pick ts L g x chosen e = go (isUnique ts L) refl
+  where
+    go : (u : Bool) → isUnique ts L ≡ u → Fits (GF p) ts L g
+    go true u =
+        subst (Fits (GF p) ts L)
+        (Option·some-injective _ _ (sym (polynomial-one p I pick x u (x .fits)) ∙ e)) (x .fits)
+    go false u =
+        subst (Fits (GF p) ts L)
+        (Option·some-injective _ _ (sym (polynomial-some pick p ts L u) ∙ e)) (chosen u)
+
+pub free-promise : FreePromise
+unfolding rateFree freeRating freeTable figuresOf answerAfter
+free-promise pick p ts answer work r answer′ work′ c a e =
+    let result = rateFree pick p ts (length answer) (length work) in
+    let (b, q, u) = map-answered (λ x. x .figures) result (sym (c .rating) ∙ e) in
+    let (h, w) = settle-answered _ (freeTable p ts (length answer) (length work)) q in
+    let (L, y, z) = some-bind (leastDegree (GF p) ts) (freeRating pick p ts) w in
+    let (g, s, t) = some-mapOption _ (freePolynomial pick p ts L) z in
+    let I = inRange-isField p (prime-accepted p (h .0)) in
+    let least = leastDegree-least I y in
+    let fits = free-fits p I pick ts L g least (c .chosen (h .0) (h .1 .0) (h .1 .1 .0) L y) s in
+    let back : listIn answer′ L ≡ g =
+    subst (λ d. listIn answer′ d ≡ g) (fits .ofDegree)
+    (written-returns g g answer answer′ (monic-nonempty (GF p) g (fits .monic)) refl
+    (c .lent .answerBytes ∙ ap (λ x. answerAfter x answer) (q ∙ ap answered (sym t))) .coefficients) in
+    subst (λ a. FreeAnswered p ts a answer′) (ap (λ b. b .figures) t ∙ u)
+    (record {
+      least = least;
+      fits = subst (Fits (GF p) ts L) (sym back) fits;
+      word = (isUnique-le ts L, le-isUnique ts L);
+      only = λ o k x. fits-only I least (isUnique-le ts L o) x fits ∙ sym back;
+    })
