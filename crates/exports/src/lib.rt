@@ -1,0 +1,34 @@
+// The public calls for programs in other languages, on numbers and byte slices: each function is the call of crate
+// rater that it names, on every input. A call with refusals answers its status, which is 0 where it is accepted and
+// else the number of the refusal. What it answers beside goes into lent numbers, which a refusal leaves as they were.
+use answers::number_of;
+use meaning::Irreducibility;
+ghost use Rattle.meaning.specs.Calls.{PrimeCall};
+ghost use Rattle.meaning.specs.Irreducibility.{askIrreducible};
+ghost use Rattle.exports.specs.Exported.{Question};
+
+// Whether n is a prime from 2 to 251.
+#[no_mangle]
+pub extern "C" fn rater_prime_in_range(n: u64) -> bool
+    ensures { λ r. ⌜ PrimeCall n r ⌝ }
+{
+    rater::prime_in_range(n)
+}
+
+// Whether a polynomial is irreducible: leaves 1 for yes and 0 for no.
+#[no_mangle]
+pub extern "C" fn rater_is_irreducible(p: u64, coefficients: &[u8], yes: &mut u8) -> u64
+    ensures { λ r. ⌜ Question (askIrreducible p (now (coefficients .entry))) (now (yes .entry)) r (now (yes .exit)) ⌝ }
+{
+    match rater::is_irreducible(p, coefficients) {
+        Irreducibility::Irreducible => {
+            *yes = 1;
+            0
+        }
+        Irreducibility::HasFactors => {
+            *yes = 0;
+            0
+        }
+        Irreducibility::Refused(r) => number_of(r),
+    }
+}
