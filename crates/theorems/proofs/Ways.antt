@@ -187,29 +187,30 @@ period-rated p f ts answer work r answer′ work′ c a e =
           (le-trans few (count .1)) z;
     })
 
-period-seventeen :
-    (p : ℕ) (f : Polynomial) (ts answer work : List ℕ) (r : PowerRating) (answer′ work′ : List ℕ)
-    → PeriodCall p f ts answer work r answer′ work′
-    → toldPower r ≡ refused 17
+period-none :
+    (p : ℕ) (f : Polynomial) (ts : List ℕ) (answer work : ℕ)
+    → ratePeriod p f ts answer work ≡ refused 17
     → NoPower (GF p) f ts
-unfolding ratePeriod periodAnswer periodTable figuresOf
-period-seventeen p f ts answer work r answer′ work′ c e =
-    let q =
-    map-refused (λ x. x .figures) (ratePeriod p f ts (length answer) (length work)) (sym (c .rating) ∙ e) in
+unfolding ratePeriod periodAnswer periodTable
+period-none p f ts answer work e =
     let h =
     settle-before _
-    (periodTable p (factorDegreeOutOfRange (GF p) f) (notMonic (GF p) f) f ts (length answer) (length work))
-    (omega arith) q in
+    (periodTable p (factorDegreeOutOfRange (GF p) f) (notMonic (GF p) f) f ts answer work) (omega arith) e in
     let x = one-factor-of p f (h .0) (h .1 .1 .1 .0) (h .1 .1 .1 .1 .0) (h .1 .1 .1 .1 .1 .0) in
     let count = count-accepted (length ts) (h .1 .0) in
     periodPower-none (x .isField) f (x .monic) (x .positive) (x .irreducibility) ts (count .0)
     (isNone-none (true-T (the-last (h .1 .1 .1 .1 .1 .1 .1))))
 
 pub period-promise : PeriodPromise
+unfolding figuresOf
 period-promise p f ts answer work r answer′ work′ c =
     record {
       rated = period-rated p f ts answer work r answer′ work′ c;
-      seventeen = period-seventeen p f ts answer work r answer′ work′ c;
+      seventeen =
+          λ e.
+          period-none p f ts (length answer) (length work)
+          (map-refused (λ x. x .figures) (ratePeriod p f ts (length answer) (length work))
+          (sym (c .rating) ∙ e));
     }
 
 -- THE PORTION WAY
@@ -258,27 +259,28 @@ portion-rated p f v ts answer work r answer′ work′ c a e =
           z;
     })
 
-portion-seventeen :
-    (p : ℕ) (f : Polynomial) (v : ℕ) (ts answer work : List ℕ) (r : PowerRating) (answer′ work′ : List ℕ)
-    → PortionCall p f v ts answer work r answer′ work′
-    → toldPower r ≡ refused 17
+portion-none :
+    (p : ℕ) (f : Polynomial) (v : ℕ) (ts : List ℕ) (answer work : ℕ)
+    → ratePortion p f v ts answer work ≡ refused 17
     → NoneBegins p (power (GF p) f v) ts
-unfolding ratePortion portionTable figuresOf
-portion-seventeen p f v ts answer work r answer′ work′ c e s z =
-    let q =
-    map-refused (λ x. x .figures) (ratePortion p f v ts (length answer) (length work))
-    (sym (c .rating) ∙ e) in
-    let h = settle-before _ (portionTable p f v ts (length answer) (length work)) (omega arith) q in
+unfolding ratePortion portionTable
+portion-none p f v ts answer work e s z =
+    let h = settle-before _ (portionTable p f v ts answer work) (omega arith) e in
     let x = one-factor-of p f (h .0) (h .1 .1 .1 .0) (h .1 .1 .1 .1 .0) (h .1 .1 .1 .1 .1 .0) in
     let same = product-single (x .isField) f v (monic-nonempty (GF p) f (x .monic)) in
     not-continued p (product (GF p) ((f, v) ∷ [])) ts (the-last (h .1 .1 .1 .1 .1 .1 .1 .1 .1)) s
     (subst (λ g. AnnihilatesEndless (GF p) g s) (sym same) z)
 
 pub portion-promise : PortionPromise
+unfolding figuresOf
 portion-promise p f v ts answer work r answer′ work′ c =
     record {
       rated = portion-rated p f v ts answer work r answer′ work′ c;
-      seventeen = portion-seventeen p f v ts answer work r answer′ work′ c;
+      seventeen =
+          λ e.
+          portion-none p f v ts (length answer) (length work)
+          (map-refused (λ x. x .figures) (ratePortion p f v ts (length answer) (length work))
+          (sym (c .rating) ∙ e));
     }
 
 -- THE SET WAY
@@ -345,20 +347,29 @@ module _ (p : ℕ) (fs : List Polynomial) (vs ts answer work : List ℕ) (r : Se
           returns = returns;
         })
 
-    set-seventeen : toldSet (r .outcome) ≡ refused 17 → NoneBegins p (product (GF p) l) ts
-    unfolding rateSet setAnswer setTable figuresOf
-    set-seventeen e =
-        let q =
-        map-refused (λ x. x .figures) result
-        (map-refused setFiguresTold (figuresOf result) (sym (c .rating) ∙ e)) in
-        let h = settle-before _ table (omega arith) q in
-        not-continued p (product (GF p) l) ts (the-last (h .1 .1 .1 .1 .1 .1 .1 .1 .1 .1 .1))
+set-none :
+    (p : ℕ) (fs : List Polynomial) (vs ts : List ℕ) (answer work : ℕ)
+    → rateSet p fs vs ts answer work ≡ refused 17
+    → NoneBegins p (product (GF p) (named fs vs)) ts
+unfolding rateSet setAnswer setTable
+set-none p fs vs ts answer work e =
+    let h =
+    settle-before _
+    (setTable p (holdsForSome (factorDegreeOutOfRange (GF p)) fs) (holdsForSome (notMonic (GF p)) fs)
+    (named fs vs) ts answer work) (omega arith) e in
+    not-continued p (product (GF p) (named fs vs)) ts (the-last (h .1 .1 .1 .1 .1 .1 .1 .1 .1 .1 .1))
 
 pub set-promise : SetPromise
+unfolding figuresOf
 set-promise p fs vs ts answer work r answer′ work′ c =
     record {
       rated = set-rated p fs vs ts answer work r answer′ work′ c;
-      seventeen = set-seventeen p fs vs ts answer work r answer′ work′ c;
+      seventeen =
+          λ e.
+          set-none p fs vs ts (length answer) (length work)
+          (map-refused (λ x. x .figures) (rateSet p fs vs ts (length answer) (length work))
+          (map-refused setFiguresTold (figuresOf (rateSet p fs vs ts (length answer) (length work)))
+          (sym (c .rating) ∙ e)));
     }
 
 -- THE FREE WAY
