@@ -1,4 +1,5 @@
--- That no hypothesis of the promises is idle, by computed examples over GF(2).
+-- That demand 3 fails with x among the factors, with D − 1 terms and with 2L − 1 terms, by computed
+-- examples over GF(2).
 --
 --   FactorX      == with x among the factors the statement `CutAnywhere` is false: two cuts of one sequence
 --                   are rated differently
