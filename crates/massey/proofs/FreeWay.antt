@@ -1,0 +1,126 @@
+-- The shortest recurrence is the answer of the free way.
+--
+--   inverts-primes   == the inverse of `arith` inverts in GF(p) for every prime in range
+--   free-chosen      == the choice of the program fits, wherever the free way answers `some`
+--   free-passes, free-accepted == what is known where no refusal of the free way holds
+--   free-answered, free-lent == the answer of the free way, and the lent bytes after it
+--   free-unique, free-several == the contract of the public call, by the two words
+--
+-- Assumes nothing.
+use Prim.Native.Nat.{ℕ, _*_, _≤_, _<_}
+use mathlib.Core.Path.{_≡_, refl, sym, ap, subst, _∙_}
+use mathlib.Core.Bool.{Bool, true, false, _||_, true≢false}
+use mathlib.Core.List.{List}
+use mathlib.Core.Option.{none}
+use native.Mathlib.Decide.{decLt}
+use native.Mathlib.Omega.{arith}
+use lib.ListN.{length}
+use lib.Dec.{T, eqb, ltb, lt→ltb}
+use Rattle.meaning.specs.declared.FreeRating.{FreeRating}
+use Rattle.meaning.specs.Field.{prime, primeInRange}
+use Rattle.meaning.specs.Conditions.{notPrime, countOutOfRange, lentTooShort}
+use Rattle.meaning.specs.Result.{Result, answered, firstOf, mapResult, Rated, figuresOf, answerAfter}
+use Rattle.meaning.specs.Result.{workAfter}
+use Rattle.meaning.specs.Free.{isUnique, FreeFigures, ChosenFits, freeTable, rateFree}
+use Rattle.meaning.specs.Answers.{toldFree}
+use Rattle.meaning.specs.Calls.{LentAfter, FreeCall}
+use Rattle.meaning.proofs.Tables.{NoneHolds, none-holds}
+use Rattle.bridge.proofs.Searches.{false-T, not-false, none-isNone}
+use Rattle.bridge.proofs.Interpretation.{inRange-isField}
+use Rattle.bridge.proofs.Fitting.{le-isUnique, gt-isUnique}
+use Rattle.bridge.proofs.MasseySteps.{masseyPolynomial}
+use Rattle.bridge.proofs.MasseyAnswer.{InvertsPrimes, massey-chosen, massey-answer}
+use Rattle.arith.specs.declared.field.GaloisField.{GaloisField}
+use Rattle.arith.specs.Represented.{fieldOf, FieldOfPrime}
+use Rattle.arith.specs.Inverse.{inverse}
+use Rattle.arith.proofs.Inverse.{inverse-product}
+use Rattle.massey.specs.Shortest.{ShortestRecurrence, freeChoice}
+
+pub inverts-primes : InvertsPrimes inverse
+inverts-primes p q a l h = inverse-product (inRange-isField p q) l h
+
+pub free-chosen : (p : ℕ) (ts : List ℕ) → ChosenFits freeChoice p ts
+free-chosen = massey-chosen inverse inverts-primes
+
+-- What the refusals of the free way have let pass
+pub record FreeAccepted (p : ℕ) (ts : List ℕ) (answer work : ℕ) : Type 0 where
+  pub isPrime : T (primeInRange p)
+  pub count : length ts ≤ 4096
+  pub answerRoom : 4097 ≤ answer
+  pub workRoom : 8192 ≤ work
+
+both-false : (b c : Bool) → (b || c) ≡ false → (b ≡ false) × (c ≡ false)
+both-false true c e = absurd (true≢false e)
+both-false false c e = (refl, e)
+
+not-below : (m n : ℕ) → ltb m n ≡ false → n ≤ m
+not-below m n e = elim (decLt m n) [ yes l ↦ absurd (false-T e (lt→ltb m n l)) | no l ↦ omega arith ]
+
+module _ (p : ℕ) (ts : List ℕ) (answer work : ℕ) (e : firstOf (freeTable p ts answer work) ≡ none) where
+  pub free-passes : NoneHolds (freeTable p ts answer work)
+  free-passes = none-holds (freeTable p ts answer work) (none-isNone e)
+
+  pub free-accepted : FreeAccepted p ts answer work
+  unfolding freeTable notPrime countOutOfRange lentTooShort
+  free-accepted =
+      let (a, (b, (_, (d, _)))) = free-passes in
+      let (x, y) = both-false (ltb answer 4097) (ltb work 8192) d in
+      record {
+        isPrime = not-false (primeInRange p) a;
+        count = not-below 4096 (length ts) (both-false (eqb (length ts) 0) (ltb 4096 (length ts)) b .1);
+        answerRoom = not-below answer 4097 x;
+        workRoom = not-below work 8192 y;
+      }
+
+-- The answer
+module _ {p : ℕ} {field : GaloisField} {ts answer work : List ℕ} {L : ℕ} {answer′ work′ : List ℕ}
+    (f : FieldOfPrime p field) (e : firstOf (freeTable p ts (length answer) (length work)) ≡ none)
+    (s : ShortestRecurrence (fieldOf field) ts answer work L answer′ work′) where
+  shortest : ShortestRecurrence (prime p) ts answer work L answer′ work′
+  shortest = subst (λ F. ShortestRecurrence F ts answer work L answer′ work′) (f .isField) s
+
+  abbrev ratingOf : ℕ → Result (Rated FreeFigures)
+  ratingOf d =
+      answered
+      (record {
+        figures = record { degree = d; unique = isUnique ts d };
+        polynomial = masseyPolynomial (prime p) (inverse (prime p)) ts;
+      })
+
+  pub free-answered : rateFree freeChoice p ts (length answer) (length work) ≡ ratingOf L
+  free-answered =
+      massey-answer inverse inverts-primes p ts (length answer) (length work)
+      (free-passes p ts (length answer) (length work) e)
+      ∙ ap ratingOf (sym (shortest .degree))
+
+  pub free-lent :
+      LentAfter (rateFree freeChoice p ts (length answer) (length work)) answer work answer′ work′
+  unfolding answerAfter workAfter
+  free-lent =
+      subst (λ r. LentAfter r answer work answer′ work′) (sym free-answered)
+      (record { answerBytes = shortest .answerBytes; workBytes = shortest .workBytes })
+
+  told : (u : Bool) → isUnique ts L ≡ u → figuresOf (rateFree freeChoice p ts (length answer) (length work))
+      ≡ answered (record { degree = L; unique = u })
+  unfolding figuresOf mapResult
+  told u i = rw (free-answered, i, figuresOf, mapResult)
+
+  pub free-unique :
+      2 * L ≤ length ts → FreeCall freeChoice p ts answer work (FreeRating.Unique L) answer′ work′
+  unfolding toldFree
+  free-unique l =
+      record {
+        rating = sym (told true (le-isUnique ts L l));
+        chosen = free-chosen p ts;
+        lent = free-lent;
+      }
+
+  pub free-several :
+      length ts < 2 * L → FreeCall freeChoice p ts answer work (FreeRating.Several L) answer′ work′
+  unfolding toldFree
+  free-several l =
+      record {
+        rating = sym (told false (gt-isUnique ts L l));
+        chosen = free-chosen p ts;
+        lent = free-lent;
+      }

@@ -1,0 +1,5 @@
+pub mod Lent
+pub mod Parts
+pub mod Halves
+pub mod Standing
+pub mod FreeWay
