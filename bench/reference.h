@@ -1,0 +1,15 @@
+// Sums of products, updates and irreducibility by trial division in C.
+#include <stdbool.h>
+#include <stddef.h>
+#include <stdint.h>
+
+// c0·s0 + c1·s1 + … modulo p, with one remainder at the end
+uint8_t c_dot(uint32_t p, const uint8_t *c, const uint8_t *s, size_t n);
+
+// leaves a + c·b modulo p in a: by a multiplication with 65536 / p, and by a division
+void c_update(uint16_t p, uint8_t *restrict a, uint8_t c, const uint8_t *restrict b, size_t n);
+void c_update_by_division(uint16_t p, uint8_t *restrict a, uint8_t c, const uint8_t *restrict b, size_t n);
+
+// whether a polynomial of degree d is irreducible: a word with a bit for each coefficient, or bytes
+bool c_irreducible_binary(uint64_t f, int d);
+bool c_irreducible(uint32_t p, const uint8_t *f, int d);

@@ -1,0 +1,47 @@
+// Leaves of the arithmetic on slices, for benchmarks from another language. Where what a leaf requires does not hold,
+// the answer is 0, and all bytes stay as they were.
+use arith::GaloisField;
+use arith::prime_in_range;
+ghost use mathlib.Core.Path.{_≡_};
+ghost use lib.ListN.{length};
+ghost use Rattle.meaning.specs.Field.{prime};
+ghost use Rattle.meaning.specs.Sequence.{actAt, known};
+ghost use Rattle.arith.specs.Slices.{combined};
+ghost use Rattle.leaves.specs.Suited.{suited, whereSuited};
+
+// Whether `first` is at most `second` and at most 65,536, and p is a prime in range.
+fn suits(p: u64, first: usize, second: usize) -> bool
+    ensures { λ r. ⌜ r ≡ suited p first second ⌝ }
+{
+    if second < first {
+        return false;
+    }
+    if 65536 < first {
+        return false;
+    }
+    prime_in_range(p)
+}
+
+// The sum of products c0·s0 + c1·s1 + … modulo p.
+#[no_mangle]
+pub extern "C" fn leaf_dot(p: u64, c: &[u8], s: &[u8]) -> u8
+    ensures { λ r. ⌜ r ≡ whereSuited (suited p (length (now (c .entry))) (length (now (s .entry))))
+        (actAt (prime p) (now (c .entry)) (known (now (s .entry))) 0) 0 ⌝ }
+{
+    if suits(p, c.len(), s.len()) {
+        GaloisField::of_prime(p).dot(c, s)
+    } else {
+        0
+    }
+}
+
+// The update a + c·b of a modulo p, as far as b goes.
+#[no_mangle]
+pub extern "C" fn leaf_update(p: u64, a: &mut [u8], c: u8, b: &[u8])
+    ensures { λ _. ⌜ now (a .exit) ≡ whereSuited (suited p (length (now (b .entry))) (length (now (a .entry))))
+        (combined (prime p) (now (a .entry)) c (now (b .entry))) (now (a .entry)) ⌝ }
+{
+    if suits(p, b.len(), a.len()) {
+        GaloisField::of_prime(p).add_multiple(a, c, b);
+    }
+}
