@@ -12,6 +12,16 @@ mod exported {
             count: usize,
             yes: *mut u8,
         ) -> u64;
+        pub fn rater_continue_sequence(
+            p: u64,
+            polynomial: *const u8,
+            coefficients: usize,
+            start: *const u8,
+            terms: usize,
+            buffer: *mut u8,
+            size: usize,
+            place: usize,
+        ) -> u64;
     }
 }
 
@@ -38,4 +48,26 @@ pub fn is_irreducible(p: u64, f: &[u8]) -> Answer<bool> {
         (Err(n), MARK) => Err(n),
         _ => panic!("status {status} with the lent number {yes}"),
     }
+}
+
+// Fills the buffer from the place on with the continuation of the starting terms.
+pub fn continue_sequence(
+    p: u64,
+    g: &[u8],
+    start: &[u8],
+    buffer: &mut [u8],
+    place: usize,
+) -> Answer<()> {
+    answer(unsafe {
+        exported::rater_continue_sequence(
+            p,
+            g.as_ptr(),
+            g.len(),
+            start.as_ptr(),
+            start.len(),
+            buffer.as_mut_ptr(),
+            buffer.len(),
+            place,
+        )
+    })
 }

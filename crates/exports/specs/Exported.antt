@@ -2,12 +2,16 @@
 --
 --   statusOf r        == 0 where the call is accepted, and else the number of the refusal
 --   yesAfter r n      == the lent number n afterwards: 1 for yes, 0 for no, and n as it was where refused
---   Question r n s n′ == an exported question with the result r answers the status s, and leaves n′ in the lent
---                        number n
+--   Question r n s n′ == an exported question with the result r answers the status s, and leaves n′ in the
+--                        lent number n
+--   Filled r b s b′   == an exported filling with the result r answers the status s, and leaves b′ in the
+--                        buffer b
 use Prim.Native.Nat.{ℕ}
 use mathlib.Core.Path.{_≡_}
 use mathlib.Core.Bool.{Bool, true, false}
+use mathlib.Core.List.{List}
 use Rattle.meaning.specs.Result.{Result, refused, answered}
+use Rattle.meaning.specs.Calls.{bufferAfter}
 
 unfoldable pub statusOf : {A : Type 0} → Result A → ℕ
 statusOf (refused n) = n
@@ -21,3 +25,7 @@ yesAfter (answered false) n = 0
 pub record Question (result : Result Bool) (n status n′ : ℕ) : Type 0 where
   pub told : status ≡ statusOf result
   pub lent : n′ ≡ yesAfter result n
+
+pub record Filled (result : Result (List ℕ)) (buffer : List ℕ) (status : ℕ) (buffer′ : List ℕ) : Type 0 where
+  pub told : status ≡ statusOf result
+  pub lent : buffer′ ≡ bufferAfter result buffer

@@ -2,10 +2,12 @@
 // rater that it names, on every input. A call with refusals answers its status, which is 0 where it is accepted and
 // else the number of the refusal. What it answers beside goes into lent numbers, which a refusal leaves as they were.
 use answers::number_of;
+use meaning::Filling;
 use meaning::Irreducibility;
 ghost use Rattle.meaning.specs.Calls.{PrimeCall};
 ghost use Rattle.meaning.specs.Irreducibility.{askIrreducible};
-ghost use Rattle.exports.specs.Exported.{Question};
+ghost use Rattle.meaning.specs.Continuation.{continueSequence};
+ghost use Rattle.exports.specs.Exported.{Question, Filled};
 
 // Whether n is a prime from 2 to 251.
 #[no_mangle]
@@ -30,5 +32,24 @@ pub extern "C" fn rater_is_irreducible(p: u64, coefficients: &[u8], yes: &mut u8
             0
         }
         Irreducibility::Refused(r) => number_of(r),
+    }
+}
+
+// Fills the buffer from the place on with the continuation.
+#[no_mangle]
+pub extern "C" fn rater_continue_sequence(
+    p: u64,
+    polynomial: &[u8],
+    start: &[u8],
+    buffer: &mut [u8],
+    place: usize,
+) -> u64
+    ensures { λ r. ⌜ Filled
+        (continueSequence p (now (polynomial .entry)) (now (start .entry)) place (now (buffer .entry)))
+        (now (buffer .entry)) r (now (buffer .exit)) ⌝ }
+{
+    match rater::continue_sequence(p, polynomial, start, buffer, place) {
+        Filling::Filled => 0,
+        Filling::Refused(r) => number_of(r),
     }
 }

@@ -3,30 +3,30 @@
 use Prim.Native.Nat.{ℕ}
 use mathlib.Core.Path.{_≡_, sym, ap, _∙_}
 use mathlib.Core.Bool.{Bool, true, false}
-use mathlib.Core.Option.{some}
 use Rattle.meaning.specs.declared.Refusal.{Refusal}
 use Rattle.meaning.specs.declared.Irreducibility.{Irreducibility}
 use Rattle.meaning.specs.Field.{prime}
 use Rattle.meaning.specs.Polynomial.{Polynomial, irreducible}
-use Rattle.meaning.specs.Result.{Result, answered, firstOf, valueOf}
+use Rattle.meaning.specs.Result.{answered, firstOf, valueOf}
 use Rattle.meaning.specs.Irreducibility.{irreducibleTable, askIrreducible}
 use Rattle.meaning.specs.Answers.{toldIrreducible}
 use Rattle.meaning.specs.Calls.{IrreducibleCall}
 use Rattle.refusals.specs.declared.Verdict.{Verdict}
 use Rattle.refusals.specs.Verdicts.{numberIn}
-use Rattle.refusals.proofs.Settled.{settle-refused, settle-accepted}
+use Rattle.refusals.proofs.Settled.{accepted-holds, settle-refused, settle-accepted}
 use Rattle.irreducible.specs.Trial.{Accepted}
-use Rattle.rater.proofs.Accepting.{accepted-none}
 
 module _ (p : ℕ) (f : Polynomial) {v : Verdict} (e : numberIn v ≡ firstOf (irreducibleTable p f)) where
-  pub question-refused : {x : Refusal} → v ≡ Verdict.Refused x → IrreducibleCall p f (Irreducibility.Refused x)
+  pub question-refused : {x : Refusal}
+      → v ≡ Verdict.Refused x
+      → IrreducibleCall p f (Irreducibility.Refused x)
   unfolding toldIrreducible askIrreducible
   question-refused q = record { answer = sym (settle-refused (irreducibleTable p f) _ e q) }
 
   pub question-accepted : v ≡ Verdict.Accepted → Accepted p f
   unfolding irreducibleTable
   question-accepted q =
-      let h = accepted-none (irreducibleTable p f) e q in
+      let h = accepted-holds (irreducibleTable p f) e q in
       record { fieldExists = h .0; degreeInRange = h .1 .0; monicOver = h .1 .1 .0 }
 
   asked : v ≡ Verdict.Accepted → {b : Bool} → b ≡ irreducible (prime p) f → askIrreducible p f ≡ answered b

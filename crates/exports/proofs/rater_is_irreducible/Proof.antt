@@ -29,7 +29,8 @@ returns-2 c = told-no _ (c .before .before .is-irreducible .ensures .answer) (c 
 returns-3 : tie.Need-returns-3
 returns-3 c =
     let v = c .before .before in
-    told-refused _ (v .before .before .is-irreducible .ensures .answer) (v .r .given .1) (c .number-of .ensures)
+    told-refused _ (v .before .before .is-irreducible .ensures .answer) (v .r .given .1)
+    (c .number-of .ensures)
 
 pub rater-is-irreducible-spec : {M : Type 1} → statement M
 rater-is-irreducible-spec =

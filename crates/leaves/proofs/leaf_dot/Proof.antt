@@ -27,7 +27,8 @@ returns : tie.Need-returns
 returns c =
     let t = c .before .before in
     let a = t .before .before .before .before .args in
-    suited-yes _ _ _ (t .before .suits .ensures) (λ F. actAt F (now (a .c)) (known (now (a .s))) 0) 0 (t .if1 .taken)
+    suited-yes _ _ _ (t .before .suits .ensures) (λ F. actAt F (now (a .c)) (known (now (a .s))) 0) 0
+    (t .if1 .taken)
     (c .before .of-prime .ensures .isField)
     (c .dot .ensures)
 

@@ -28,7 +28,8 @@ returns c =
     let f = u .before .before in
     let t = f .before in
     let a = t .before .before .before .before .args in
-    suited-yes _ _ _ (t .before .suits .ensures) (λ F. combined F (now (a .a)) (a .c) (now (a .b))) (now (a .a))
+    suited-yes _ _ _ (t .before .suits .ensures) (λ F. combined F (now (a .a)) (a .c) (now (a .b)))
+    (now (a .a))
     (t .if1 .taken)
     (f .of-prime .ensures .isField)
     (u .add-multiple .ensures)

@@ -1,0 +1,5 @@
+pub mod Cycles
+pub mod Summing
+pub mod Places
+pub mod Blocks
+pub mod Afterwards
