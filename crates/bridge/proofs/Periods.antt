@@ -38,7 +38,7 @@ use Rattle.meaning.specs.Period.{periodPower, NoPower}
 use Rattle.algebra.proofs.Power.{power as algebra-power}
 use Rattle.algebra.proofs.Action.{Kills}
 use Rattle.algebra.proofs.Cut.{Periodic}
-use Rattle.algebra.proofs.Period.{Valuation, valuation, valuation-le, periodic-power, periodic-size}
+use Rattle.algebra.proofs.Period.{valuation-le, periodic-power, periodic-size}
 use Rattle.bridge.proofs.Searches.{T-same, T-decided, least-some, least-none, least-found}
 use Rattle.bridge.proofs.Searches.{least-missing, least-exists, least-narrower, least-same}
 use Rattle.bridge.proofs.Searches.{isNone-none, none-isNone}
@@ -54,6 +54,8 @@ use Rattle.bridge.proofs.Continuations.{take-elements}
 use Rattle.bridge.proofs.KnownActions.{allZero, getD-allZero, allZero-take, endless-part, take-stretch}
 use Rattle.bridge.proofs.KnownActions.{annihilatesPeriod-all, actOnPeriod-zeros, strideOnKnown}
 use Rattle.bridge.proofs.PowerSearch.{Steps, prime-steps, powerFound, powerFound-zeros, portion-search}
+-- what code proofs take of the exponent of p in N
+pub use Rattle.algebra.proofs.Period.{Valuation, valuation}
 
 -- In words; any list
 module _ (F : Field) (f : Polynomial) (ts : List ℕ) where

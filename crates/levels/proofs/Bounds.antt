@@ -1,4 +1,7 @@
 -- The repeat bound of an accepted factor as the product that is computed: nothing on the way exceeds 64 bits.
+--
+--   size-base         == the size of a well-formed field is a base of levels
+--
 -- Assumes nothing.
 use Prim.Native.Nat.{ℕ, _*_, _-_, _^_, _/_, _≤_, _<_}
 use mathlib.Core.Path.{_≡_, ap, sym, subst, _∙_}
@@ -16,7 +19,13 @@ use Rattle.bridge.proofs.Interpretation.{prime-size}
 use Rattle.bridge.proofs.Irreducibles.{accepted-degree}
 use Rattle.bridge.proofs.RepeatBounds.{Level, accepted-half, power-degree-bound, prime-repeatBound-bits}
 use Rattle.bridge.proofs.RepeatBounds.{prime-repeatBound-value}
+use Rattle.arith.specs.declared.field.GaloisField.{GaloisField}
+use Rattle.arith.specs.Represented.{WellFormed}
+use Rattle.arith.proofs.Represented.{size-least, size-most}
 use Rattle.levels.specs.Levels.{Base}
+
+pub size-base : {field : GaloisField} → WellFormed field → Base (field .size)
+size-base good = record { low = size-least good; high = size-most good }
 
 half-fits : (p : ℕ) (f : Polynomial) → 0 < length f → factorDegreeOutOfRange (prime p) f ≡ false
     → p ^ (degree f / 2) ≤ 65536

@@ -1,0 +1,3 @@
+pub mod Searching
+pub mod Acting
+pub mod Writing
