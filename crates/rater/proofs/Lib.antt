@@ -1,2 +1,3 @@
 pub mod Question
 pub mod Filling
+pub mod Lent
