@@ -1,3 +1,4 @@
 pub mod Question
 pub mod Filling
 pub mod Lent
+pub mod SetWay

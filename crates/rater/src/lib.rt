@@ -2,7 +2,9 @@
 // and its contract, a record of crate meaning, fixes the whole answer and every lent byte afterwards.
 mod continuing;
 mod questions;
+mod sets;
 
 pub use continuing::continue_sequence;
 pub use questions::is_irreducible;
 pub use questions::prime_in_range;
+pub use sets::rate_set;
