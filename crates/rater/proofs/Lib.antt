@@ -2,3 +2,4 @@ pub mod Question
 pub mod Filling
 pub mod Lent
 pub mod SetWay
+pub mod FreeAnswer
