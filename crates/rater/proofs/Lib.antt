@@ -3,3 +3,6 @@ pub mod Filling
 pub mod Lent
 pub mod SetWay
 pub mod FreeAnswer
+pub mod OneFactor
+pub mod PeriodAnswer
+pub mod PortionAnswer

@@ -1,0 +1,33 @@
+-- What the contract of an answer with one factor cites, beside crate meaning. o is the power that a way found.
+--
+--   ratingFound F f o == the answer with f to the power found, or 17 where none was found
+--   Answerable F f o  == f is monic over F, of a degree that 10 lets pass, and f to the power found has a degree
+--                        of at most 4,096
+--   FoundRated F f o answer r answer′ == r tells the answer, and the answer bytes have become answer′
+use Prim.Native.Nat.{ℕ, _*_, _≤_}
+use mathlib.Core.Path.{_≡_}
+use mathlib.Core.Bool.{false}
+use mathlib.Core.List.{List}
+use mathlib.Core.Option.{Option, none, some}
+use lib.Dec.{T}
+use Rattle.meaning.specs.declared.PowerRating.{PowerRating}
+use Rattle.meaning.specs.Field.{Field}
+use Rattle.meaning.specs.Polynomial.{Polynomial, degree, isMonicOver}
+use Rattle.meaning.specs.Result.{Result, refused, valueOf, Rated, figuresOf, answerAfter}
+use Rattle.meaning.specs.Conditions.{factorDegreeOutOfRange}
+use Rattle.meaning.specs.Power.{PowerFigures, powerRating}
+use Rattle.meaning.specs.Answers.{toldPower}
+
+unfoldable pub ratingFound : Field → Polynomial → Option ℕ → Result (Rated PowerFigures)
+ratingFound F f none = refused 17
+ratingFound F f (some r) = valueOf (powerRating F f r)
+
+pub record Answerable (F : Field) (f : Polynomial) (o : Option ℕ) : Type 0 where
+  pub monic : T (isMonicOver F f)
+  pub degreeInRange : factorDegreeOutOfRange F f ≡ false
+  pub small : (r : ℕ) → o ≡ some r → r * degree f ≤ 4096
+
+pub record FoundRated (F : Field) (f : Polynomial) (o : Option ℕ) (answer : List ℕ) (r : PowerRating)
+    (answer′ : List ℕ) : Type 0 where
+  pub rating : toldPower r ≡ figuresOf (ratingFound F f o)
+  pub answerBytes : answer′ ≡ answerAfter (ratingFound F f o) answer
