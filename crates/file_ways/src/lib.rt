@@ -1,0 +1,1 @@
+// The ways of rating on what a file holds.
