@@ -40,7 +40,7 @@ module _ (result : Result Bool) {a : Irreducibility} (e : toldIrreducible a ≡ 
   unfolding toldIrreducible statusOf yesAfter
   told-refused q i = question (told q) i refl
 
-status-map : {A B : Type 0} (f : A → B) (r : Result A) → statusOf (mapResult f r) ≡ statusOf r
+pub status-map : {A B : Type 0} (f : A → B) (r : Result A) → statusOf (mapResult f r) ≡ statusOf r
 unfolding statusOf mapResult
 status-map f (refused n) = refl
 status-map f (answered a) = refl
