@@ -2,11 +2,14 @@
 // rater that it names, on every input. A call with refusals answers its status, which is 0 where it is accepted and
 // else the number of the refusal. What it answers beside goes into lent numbers, which a refusal leaves as they were.
 mod free;
+mod one_factor;
 
 use answers::number_of;
 pub use free::rater_rate_free;
 use meaning::Filling;
 use meaning::Irreducibility;
+pub use one_factor::rater_rate_period;
+pub use one_factor::rater_rate_portion;
 ghost use Rattle.meaning.specs.Calls.{PrimeCall};
 ghost use Rattle.meaning.specs.Irreducibility.{askIrreducible};
 ghost use Rattle.meaning.specs.Continuation.{continueSequence};
