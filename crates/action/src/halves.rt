@@ -1,8 +1,7 @@
-// The two halves of the work bytes: tested, cleared and loaded.
+// The two halves of the work bytes: tested and loaded.
 ghost use mathlib.Core.Path.{_≡_};
-ghost use Prim.Native.Nat.{_-_, _≤_};
+ghost use Prim.Native.Nat.{_-_};
 ghost use lib.ListN.{length};
-ghost use Rattle.meaning.specs.Result.{cleared};
 ghost use Rattle.bridge.proofs.KnownActions.{allZero};
 ghost use Rattle.action.specs.Halves.{Halves, Placed};
 
@@ -17,17 +16,6 @@ pub fn all_zero(part: &[u8]) -> bool
         }
     }
     true
-}
-
-// Leaves zeros in the first 8,192 work bytes, and the others as they were.
-pub fn clear(work: &mut [u8])
-    requires { ⌜ 8192 ≤ length (now work) ⌝ }
-    ensures { λ _. ⌜ now (work .exit) ≡ cleared (now (work .entry)) ⌝ }
-{
-    // the first i bytes are 0, and the others as they were
-    for i in 0..8192 {
-        work[i] = 0;
-    }
 }
 
 // Leaves the terms at the front of half h of the work bytes, and the other half and all beyond as they were.

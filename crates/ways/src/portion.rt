@@ -11,10 +11,10 @@ ghost use Rattle.ways.specs.Portion.{SetInput, OthersActed, PowerFoundAt
 ghost use Rattle.ways.specs.Portion.{PowersSearched, SetSearched, SetFound, PortionFound};
 use crate::period::Found;
 use action::all_zero;
-use action::clear;
 use action::load;
 use arith::GaloisField;
 use factor_checks::total_degree;
+use lent::clear;
 use levels::level_reaching;
 use powers::Place;
 use powers::act_power;

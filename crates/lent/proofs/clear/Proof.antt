@@ -1,4 +1,4 @@
--- `action::halves::clear` meets its contract. The invariant: the first i bytes are 0, and the others as
+-- `clear` meets its contract. The invariant: the first i bytes are 0, and the others as
 -- they were. The measure is what is left of the 8,192. Assumes nothing.
 use Prim.Native.Nat.{_-_, _≤_}
 use mathlib.Core.Path.{_≡_, refl, ap, _∙_}
@@ -9,8 +9,8 @@ use borrow.Author.Fill.{fill-none, fill-more}
 use borrow.Author.Needs.{needs}
 use Rattle.meaning.specs.Result.{cleared}
 use native.Mathlib.Omega.{arith}
-use Rattle.action.proofs.halves.clear.Statement.{statement}
-use Rattle.action.proofs.halves.clear.Tie as tie
+use Rattle.lent.proofs.clear.Statement.{statement}
+use Rattle.lent.proofs.clear.Tie as tie
 
 abbrev Inv-loop : tie.InvT-loop
 Inv-loop work₀ i₀ work i =
