@@ -10,3 +10,4 @@ pub mod Lines
 pub mod Lent
 pub mod Determined
 pub mod CallRows
+pub mod Stretches

@@ -1,0 +1,252 @@
+-- Computed rows: three sequences over GF(2), and contracts that are met on stretches of them. The factor is
+-- x + 1, or x for the last of them.
+--
+--   alternating, ones, oneThenZeros == 1, 0, 1, 0, …; 1, 1, 1, …; 1 and then zeros
+--   …-inField             == it is a sequence of GF(2)
+--   …-annihilated         == the factor to its upper power annihilates it
+--   accepted-…            == the factor with its upper power is accepted; `plain`: it is not x
+--   lent                  == the lent bytes are accepted
+--   …-set, …-portion, …-period, …-free == the call of that way is met on a stretch, by an answer with its
+--                            bytes
+--   three-…               == of the terms 0, 1, 0: their least degree is 2, two polynomials fit them, and the
+--                            free way may return the first
+-- Assumes nothing.
+use Prim.Native.Nat.{ℕ, zero, suc}
+use mathlib.Core.Path.{_≡_, refl, sym, ap, subst, _∙_}
+use mathlib.Core.Bool.{true, false, true≢false}
+use mathlib.Core.List.{List, [], _∷_}
+use mathlib.Core.Option.{some, Option·some-injective}
+use lib.ListN.{length, replicate}
+use lib.Dec.{lit≤, T}
+use Rattle.meaning.specs.declared.Refusal.{Refusal}
+use Rattle.meaning.specs.declared.PowerRating.{PowerRating}
+use Rattle.meaning.specs.declared.SetRating.{SetRating}
+use Rattle.meaning.specs.declared.SetOutcome.{SetOutcome}
+use Rattle.meaning.specs.declared.FreeRating.{FreeRating}
+use Rattle.meaning.specs.Search.{holdsForSome}
+use Rattle.meaning.specs.Field.{prime}
+use Rattle.meaning.specs.Polynomial.{Polynomial, product}
+use Rattle.meaning.specs.Sequence.{Sequence, InField, AnnihilatesEndless, cut}
+use Rattle.meaning.specs.Conditions.{named, acceptedLent}
+use Rattle.meaning.specs.Power.{isX}
+use Rattle.meaning.specs.Portion.{acceptedFactors}
+use Rattle.meaning.specs.Free.{Choice, Fits, leastDegree, isUnique}
+use Rattle.meaning.specs.Calls.{PeriodCall, PortionCall, SetCall, FreeCall}
+use Rattle.meaning.proofs.Computed.{computed}
+use Rattle.meaning.proofs.Rows.{x+1}
+
+-- the lent bytes, the work bytes afterwards, and the answer bytes after x² + 1, x + 1, x², x and 1
+abbrev pub answer : List ℕ
+answer = replicate 4097 7
+
+abbrev pub work : List ℕ
+work = replicate 8192 9
+
+abbrev pub clean : List ℕ
+clean = replicate 8192 0
+
+abbrev pub after-x²+1 : List ℕ
+after-x²+1 = 1 ∷ 0 ∷ 1 ∷ replicate 4094 7
+
+abbrev pub after-x+1 : List ℕ
+after-x+1 = 1 ∷ 1 ∷ replicate 4095 7
+
+abbrev pub after-x² : List ℕ
+after-x² = 0 ∷ 0 ∷ 1 ∷ replicate 4094 7
+
+abbrev pub after-x : List ℕ
+after-x = 0 ∷ 1 ∷ replicate 4095 7
+
+abbrev pub after-1 : List ℕ
+after-1 = 1 ∷ replicate 4096 7
+
+pub lent : T (acceptedLent (length answer) (length work))
+unfolding computed
+lent = tt
+
+-- what the set way answers with one factor
+abbrev pub rated : ℕ → ℕ → SetRating
+rated degree power =
+    record { outcome = SetOutcome.Rated degree 1; powers = power ∷ 0 ∷ 0 ∷ 0 ∷ 0 ∷ 0 ∷ 0 ∷ 0 ∷ [] }
+
+abbrev pub tooFewTerms : SetRating
+tooFewTerms =
+    record { outcome = SetOutcome.Refused Refusal.TooFewTerms; powers = 0 ∷ 0 ∷ 0 ∷ 0 ∷ 0 ∷ 0 ∷ 0 ∷ 0 ∷ [] }
+
+-- THE FACTOR x + 1
+abbrev pub factors : List Polynomial
+factors = x+1 ∷ []
+
+pub accepted-2 : T (acceptedFactors 2 factors (2 ∷ []))
+unfolding computed
+accepted-2 = tt
+
+pub accepted-3 : T (acceptedFactors 2 factors (3 ∷ []))
+unfolding computed
+accepted-3 = tt
+
+pub plain : holdsForSome isX factors ≡ false
+unfolding computed
+plain = refl
+
+-- 1, 0, 1, 0, …
+unfoldable pub alternating : Sequence
+alternating zero = 1
+alternating (suc zero) = 0
+alternating (suc (suc k)) = alternating k
+
+pub alternating-inField : InField (prime 2) alternating
+unfolding computed alternating
+alternating-inField zero = lit≤ tt
+alternating-inField (suc zero) = lit≤ tt
+alternating-inField (suc (suc k)) = alternating-inField k
+
+pub alternating-annihilated-2 :
+    AnnihilatesEndless (prime 2) (product (prime 2) (named factors (2 ∷ []))) alternating
+unfolding computed alternating
+alternating-annihilated-2 zero = refl
+alternating-annihilated-2 (suc zero) = refl
+alternating-annihilated-2 (suc (suc k)) = alternating-annihilated-2 k
+
+pub alternating-annihilated-3 :
+    AnnihilatesEndless (prime 2) (product (prime 2) (named factors (3 ∷ []))) alternating
+unfolding computed alternating
+alternating-annihilated-3 zero = refl
+alternating-annihilated-3 (suc zero) = refl
+alternating-annihilated-3 (suc (suc k)) = alternating-annihilated-3 k
+
+-- three terms from place 1 on, the period from place 3 on, four terms from place 1 on
+pub alternating-set :
+    SetCall 2 factors (3 ∷ []) (cut alternating 1 3) answer work (rated 2 2) after-x²+1 clean
+unfolding computed alternating
+alternating-set =
+    record { rating = refl; powers = refl; lent = record { answerBytes = refl; workBytes = refl } }
+
+pub alternating-portion :
+    PortionCall 2 x+1 3 (cut alternating 1 3) answer work (PowerRating.Rated 2 2 2) after-x²+1 clean
+unfolding computed alternating
+alternating-portion = record { rating = refl; lent = record { answerBytes = refl; workBytes = refl } }
+
+pub alternating-period :
+    PeriodCall 2 x+1 (cut alternating 3 2) answer work (PowerRating.Rated 2 2 2) after-x²+1 clean
+unfolding computed alternating
+alternating-period = record { rating = refl; lent = record { answerBytes = refl; workBytes = refl } }
+
+-- the program's choice does not matter: the word is `one`
+four-least : leastDegree (prime 2) (cut alternating 1 4) ≡ some 2
+unfolding computed alternating
+four-least = refl
+
+four-unique : true ≡ isUnique (cut alternating 1 4) 2
+unfolding computed alternating
+four-unique = refl
+
+pub alternating-free :
+    (pick : Choice) → FreeCall pick 2 (cut alternating 1 4) answer work (FreeRating.Unique 2) after-x²+1 clean
+unfolding computed alternating
+alternating-free pick =
+    record {
+      rating = refl;
+      chosen =
+          λ _ _ _ e f u.
+          absurd
+          (true≢false
+          (four-unique
+          ∙ ap (isUnique (cut alternating 1 4)) (Option·some-injective 2 e (sym four-least ∙ f))
+          ∙ u));
+      lent = record { answerBytes = refl; workBytes = refl };
+    }
+
+-- with the upper power 2, two terms from place 0 on
+pub alternating-short :
+    SetCall 2 factors (2 ∷ []) (cut alternating 0 2) answer work (rated 2 2) after-x²+1 clean
+unfolding computed alternating
+alternating-short =
+    record { rating = refl; powers = refl; lent = record { answerBytes = refl; workBytes = refl } }
+
+-- 1, 1, 1, … with the upper power 2: two terms, and one too few
+unfoldable pub ones : Sequence
+ones k = 1
+
+pub ones-inField : InField (prime 2) ones
+unfolding computed ones
+ones-inField k = lit≤ tt
+
+pub ones-annihilated : AnnihilatesEndless (prime 2) (product (prime 2) (named factors (2 ∷ []))) ones
+unfolding computed ones
+ones-annihilated k = refl
+
+pub ones-set : SetCall 2 factors (2 ∷ []) (cut ones 0 2) answer work (rated 1 1) after-x+1 clean
+unfolding computed ones
+ones-set = record { rating = refl; powers = refl; lent = record { answerBytes = refl; workBytes = refl } }
+
+pub ones-refused : SetCall 2 factors (2 ∷ []) (cut ones 0 1) answer work tooFewTerms answer work
+unfolding computed ones
+ones-refused = record { rating = refl; powers = refl; lent = record { answerBytes = refl; workBytes = refl } }
+
+-- THE FACTOR x
+abbrev pub x : List Polynomial
+x = (0 ∷ 1 ∷ []) ∷ []
+
+pub accepted-x : T (acceptedFactors 2 x (1 ∷ []))
+unfolding computed
+accepted-x = tt
+
+-- 1, and then zeros: one term from place 0 on, and one from place 1 on
+unfoldable pub oneThenZeros : Sequence
+oneThenZeros zero = 1
+oneThenZeros (suc k) = 0
+
+pub oneThenZeros-inField : InField (prime 2) oneThenZeros
+unfolding computed oneThenZeros
+oneThenZeros-inField zero = lit≤ tt
+oneThenZeros-inField (suc k) = lit≤ tt
+
+pub oneThenZeros-annihilated :
+    AnnihilatesEndless (prime 2) (product (prime 2) (named x (1 ∷ []))) oneThenZeros
+unfolding computed oneThenZeros
+oneThenZeros-annihilated zero = refl
+oneThenZeros-annihilated (suc k) = refl
+
+pub oneThenZeros-set-0 : SetCall 2 x (1 ∷ []) (cut oneThenZeros 0 1) answer work (rated 1 1) after-x clean
+unfolding computed oneThenZeros
+oneThenZeros-set-0 =
+    record { rating = refl; powers = refl; lent = record { answerBytes = refl; workBytes = refl } }
+
+pub oneThenZeros-set-1 : SetCall 2 x (1 ∷ []) (cut oneThenZeros 1 1) answer work (rated 0 0) after-1 clean
+unfolding computed oneThenZeros
+oneThenZeros-set-1 =
+    record { rating = refl; powers = refl; lent = record { answerBytes = refl; workBytes = refl } }
+
+-- THE TERMS 0, 1, 0 of 1, 0, 1, 0, …
+abbrev pub three : List ℕ
+three = 0 ∷ 1 ∷ 0 ∷ []
+
+pub three-least : leastDegree (prime 2) three ≡ some 2
+unfolding computed
+three-least = refl
+
+pub three-first : Fits (prime 2) three 2 (0 ∷ 0 ∷ 1 ∷ [])
+unfolding computed
+three-first = record { monic = tt; ofDegree = refl; annihilates = tt }
+
+pub three-second : Fits (prime 2) three 2 (1 ∷ 0 ∷ 1 ∷ [])
+unfolding computed
+three-second = record { monic = tt; ofDegree = refl; annihilates = tt }
+
+-- a program that picks x²
+abbrev pub picked : Choice
+picked p ts = 0 ∷ 0 ∷ 1 ∷ []
+
+pub three-free : FreeCall picked 2 three answer work (FreeRating.Several 2) after-x² clean
+unfolding computed
+three-free =
+    record {
+      rating = refl;
+      chosen =
+          λ _ _ _ e f _.
+          subst (λ n. Fits (prime 2) three n (0 ∷ 0 ∷ 1 ∷ []))
+          (Option·some-injective _ _ (sym three-least ∙ f))
+          three-first;
+      lent = record { answerBytes = refl; workBytes = refl };
+    }
