@@ -8,18 +8,16 @@
 --
 -- Assumes nothing.
 use Prim.Native.Nat.{ℕ, _%_, _≤_, _<_}
-use mathlib.Core.Path.{_≡_, refl}
+use mathlib.Core.Path.{_≡_}
 use native.Mathlib.Nat.{mod-lt}
 use native.Mathlib.Omega.{arith}
-use Rattle.meaning.specs.Field.{prime}
-use Rattle.algebra.proofs.Number.{Prime}
-use Rattle.bridge.proofs.Interpretation.{IsField, inRange-isField, inRange-prime}
+use Rattle.bridge.proofs.Interpretation.{IsField, Prime, prime-size, inRange-isField, inRange-prime}
 use Rattle.arith.specs.Represented.{fieldOf, WellFormed}
 use Rattle.arith.specs.declared.field.GaloisField.{GaloisField}
 
 pub field-size : (f : GaloisField) → fieldOf f .size ≡ f .size
-unfolding fieldOf prime
-field-size f = refl
+unfolding fieldOf
+field-size f = prime-size (f .size)
 
 module _ {f : GaloisField} (w : WellFormed f) where
   pub field-isField : IsField (fieldOf f)

@@ -3,8 +3,9 @@
 --   IsField F      == the interface: a field of `algebra` on a type K, the number that stands for an element
 --                     and the element that a number stands for, under which sum and product of F are those
 --                     of K. Every number stands for an element, also one beyond the size
---   prime-isField  == GF(p) meets it, for every prime p together; `prime-size`, `prime-add`, `prime-mul` and
---                     `prime-characteristic-number` say what its parts are
+--   prime-isField  == GF(p) meets it, for every prime p together
+--   prime-size, prime-characteristic-number, prime-add, prime-mul == the parts of GF(p) in plain numbers;
+--                     prime-add-remainder, prime-add-product, prime-multiple, prime-negative: what follows
 --   isPrime-prime, prime-isPrime, isPrime-meaning, meaning-isPrime
 --                  == the prime test of `meaning` is primality, in the words of `algebra` and of `meaning`
 --   inRange-isField == GF(p) is a field for every p that refusal 6 admits
@@ -24,6 +25,7 @@ use mathlib.Core.Bool.{Bool, true, false, not}
 use mathlib.Core.List.{map, List·Mem, List·Memᴰ, mem-map-of-mem}
 use mathlib.Mathlib.Data.List.Nodup.{map-on}
 use native.Mathlib.Nat.{mod-eq-of-lt, dvd-of-mod-eq-zero, mul-div-cancel', dvd-refl, ℕ-set, pow-zero, pow-suc}
+use native.Mathlib.Nat.{mod-add-mod, add-mod-mod, zero-mul, zero-mod, suc-mul}
 use native.Mathlib.Decide.{decLt}
 use native.Mathlib.Omega.{arith}
 use lib.ListN.{length-map}
@@ -111,6 +113,30 @@ prime-add p a b = refl
 pub prime-mul : (p a b : ℕ) → (prime p .mul) a b ≡ a * b % p
 unfolding prime
 prime-mul p a b = refl
+
+-- a remainder is added as the number is
+pub prime-add-remainder : (p a b : ℕ) → (prime p .add) (a % p) b ≡ (prime p .add) a b
+prime-add-remainder p a b = prime-add p (a % p) b ∙ mod-add-mod a p b ∙ sym (prime-add p a b)
+
+pub prime-add-product : (p a c b : ℕ) → (prime p .add) a ((prime p .mul) c b) ≡ (a + c * b) % p
+prime-add-product p a c b =
+    prime-add p a _ ∙ ap (λ x. (a + x) % p) (prime-mul p c b) ∙ add-mod-mod a (c * b) p
+
+pub prime-multiple : (p n a : ℕ) → multiple (prime p) n a ≡ n * a % p
+unfolding multiple
+prime-multiple p zero a = sym (ap (λ x. x % p) (zero-mul a) ∙ zero-mod p)
+prime-multiple p (suc n) a =
+    prime-add p a (multiple (prime p) n a)
+    ∙ ap (λ x. (a + x) % p) (prime-multiple p n a)
+    ∙ add-mod-mod a (n * a) p
+    ∙ ap (λ x. x % p) (omega (arith, suc-mul n a))
+
+pub prime-negative : (p a : ℕ) → negative (prime p) a ≡ (prime p .mul) (p - 1) a
+unfolding negative
+prime-negative p a =
+    ap (λ n. multiple (prime p) (n - 1) a) (prime-characteristic-number p)
+    ∙ prime-multiple p (p - 1) a
+    ∙ sym (prime-mul p (p - 1) a)
 
 -- The prime test
 pub isPrime-prime : (n : ℕ) → T (isPrime n) → Prime n

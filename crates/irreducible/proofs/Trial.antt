@@ -14,7 +14,7 @@ use mathlib.Core.Bool.{not}
 use mathlib.Core.List.{List, [], _∷_, _++_}
 use lib.ListN.{length, getD, take, drop, length-drop, take-append-drop}
 use lib.Dec.{T, eqb, eqb→eq, eqb-refl, T-not, not-T}
-use native.Mathlib.Nat.{mul-div-le, le-div-iff-mul-le, pos-of-ne-zero}
+use native.Mathlib.Nat.{mul-div-le, pos-of-ne-zero}
 use native.Mathlib.Omega.{arith}
 use Rattle.meaning.specs.Search.{range, holdsForAll, holdsForSome}
 use Rattle.meaning.specs.Field.{Field, areElements, negative}

@@ -1,9 +1,9 @@
 -- `lists::term_out_of_field` meets its contract.
 -- Assumes nothing.
-use mathlib.Core.Path.{_∙_, ap}
+use mathlib.Core.Path.{_∙_, ap₂, sym}
 use lib.Dec.{leb}
 use borrow.Author.Needs.{needs}
-use Rattle.meaning.specs.Field.{prime}
+use Rattle.bridge.proofs.Interpretation.{prime-size}
 use Rattle.checks.proofs.Coefficients.{empty-terms-pass}
 use Rattle.checks.proofs.Largest.{terms-largest}
 use Rattle.checks.proofs.lists.term_out_of_field.Statement.{statement}
@@ -19,8 +19,8 @@ cast-result : tie.Need-cast-result
 cast-result c = search needs
 
 returns-2 : tie.Need-returns-2
-unfolding prime
-returns-2 c = ap (leb _) (c .largest .ensures) ∙ terms-largest _ _ (c .before .if1 .left)
+returns-2 c =
+    ap₂ leb (sym (prime-size _)) (c .largest .ensures) ∙ terms-largest _ _ (c .before .if1 .left)
 
 pub term-out-of-field-spec : {M : Type 1} → statement M
 term-out-of-field-spec = tie.close (tie.spec returns largest-requires cast-result returns-2)

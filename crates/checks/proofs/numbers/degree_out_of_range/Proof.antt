@@ -2,7 +2,7 @@
 -- Assumes nothing.
 use borrow.Author.Needs.{needs}
 use borrow.Author.Tests.{eq-eqb, ne-eqb, lt-ltb, le-ltb}
-use Rattle.meaning.specs.Field.{prime}
+use Rattle.bridge.proofs.Interpretation.{prime-size}
 use Rattle.checks.proofs.Tests.{degree-tests}
 use Rattle.checks.proofs.numbers.degree_out_of_range.Statement.{statement}
 use Rattle.checks.proofs.numbers.degree_out_of_range.Tie as tie
@@ -17,10 +17,10 @@ power-exceeds-requires : tie.Need-power-exceeds-requires
 power-exceeds-requires c κs = search needs
 
 returns-3 : tie.Need-returns-3
-unfolding prime
 returns-3 c =
     simp (
       degree-tests,
+      prime-size,
       ne-eqb _ _ (c .before .before .if1 .left),
       le-ltb _ _ (c .before .if2 .left),
       c .power-exceeds .ensures,

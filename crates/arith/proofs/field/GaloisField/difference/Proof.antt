@@ -1,9 +1,9 @@
 -- `arith::GaloisField::difference` meets its contract: −b is (p − 1)·b. Assumes nothing.
 use native.Mathlib.Omega.{arith}
 use borrow.Author.Needs.{needs}
+use Rattle.bridge.proofs.Interpretation.{prime-negative}
 use Rattle.arith.specs.Represented.{fieldOf}
 use Rattle.arith.proofs.Represented.{size-least, size-most}
-use Rattle.arith.proofs.Numbers.{negative-prime}
 use Rattle.arith.proofs.field.GaloisField.difference.Statement.{statement}
 use Rattle.arith.proofs.field.GaloisField.difference.Tie as tie
 
@@ -20,7 +20,7 @@ returns : tie.Need-returns
 unfolding fieldOf
 returns c =
     let a = c .before .before .args in
-    cc (negative-prime (a .self .size) (a .b))
+    cc (prime-negative (a .self .size) (a .b))
 
 pub difference-spec : {M : Type 1} → statement M
 difference-spec =
