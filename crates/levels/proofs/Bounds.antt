@@ -4,7 +4,7 @@
 --
 -- Assumes nothing.
 use Prim.Native.Nat.{ℕ, _*_, _-_, _^_, _/_, _≤_, _<_}
-use mathlib.Core.Path.{_≡_, ap, sym, subst, _∙_}
+use mathlib.Core.Path.{_≡_, subst}
 use mathlib.Core.Bool.{false}
 use mathlib.Core.List.{[], _∷_}
 use mathlib.Core.Option.{some}

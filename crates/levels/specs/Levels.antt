@@ -3,8 +3,8 @@
 --   Base p            == p is a number from 2 to 251
 --   IsLevel p l       == l is a power of p with its exponent
 --   Reaching p r l    == l is the least power of p that is at least r
---   Dividing p n l    == l is the largest power of p that divides n: n is the power times `rest`, which p does not
---                        divide
+--   Dividing p n l    == l is the largest power of p that divides n: n is the power times `rest`, which p
+--                        does not divide
 use Prim.Native.Nat.{ℕ, _*_, _^_, _%_, _≤_}
 use mathlib.Core.Path.{_≡_}
 use mathlib.Core.Logic.{_≢_}

@@ -1,5 +1,5 @@
-// The powers of p that the ratings need: those that reach a number, those that divide it, and the repeat bound made
-// of them. Assumes 2 ≤ p ≤ 251 and numbers up to 4,096, so that nothing wraps.
+// The powers of p that the ratings need: those that reach a number, those that divide it, and the repeat
+// bound made of them. Assumes 2 ≤ p ≤ 251 and numbers up to 4,096, so that nothing wraps.
 ghost use mathlib.Core.Path.{_≡_};
 ghost use mathlib.Core.Bool.{false};
 ghost use mathlib.Core.Option.{some};
@@ -76,7 +76,8 @@ fn is_x(f: &[u8]) -> bool
     f[1] == 1
 }
 
-// The number that the least period of what f^r annihilates does not exceed: 1 for r = 0, 0 for f = x and r above 0.
+// The number that the least period of what f^r annihilates does not exceed: 1 for r = 0, 0 for f = x and r
+// above 0.
 pub fn repeat_bound(field: GaloisField, f: &[u8], r: u64) -> u64
     requires { ⌜ WellFormed field ⌝ }
     requires { ⌜ (0 < length (now f)) × (factorDegreeOutOfRange (fieldOf field) (now f) ≡ false) ⌝ }

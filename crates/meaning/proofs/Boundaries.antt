@@ -162,7 +162,8 @@ pub record Boundaries : Type 0 where
   pub mode1upper256 : ofFile (headed 1 (4 ∷ 1 ∷ 1 ∷ 0 ∷ 1 ∷ (replicate 31 0 ++ (term 1 ++ end)))) ≡ some 5
   pub mode2none : ofFile (headed 2 (term 1 ++ end)) ≡ some 5
   pub mode2eight : ofFile (box 7 ++ (field 11 ++ (mode 2 ++ (eight ++ (term 1 ++ end))))) ≡ some 15
-  pub mode2nine : ofFile (box 7 ++ (field 11 ++ (mode 2 ++ (eight ++ (factor 1 1 (8 ∷ []) ++ (term 1 ++ end))))))
+  pub mode2nine : ofFile
+      (box 7 ++ (field 11 ++ (mode 2 ++ (eight ++ (factor 1 1 (8 ∷ []) ++ (term 1 ++ end))))))
       ≡ some 5
   pub mode3none : ofFile (headed 3 (term 1 ++ end)) ≡ none
   pub mode3one : ofFile (headed 3 (factor 1 1 (1 ∷ []) ++ (term 1 ++ end))) ≡ some 5

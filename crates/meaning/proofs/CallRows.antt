@@ -1,5 +1,5 @@
--- Computed rows for the contracts: each is met by the right answer with the right bytes, accepted and refused, and not by
--- the wrong raters that paper 01 names.
+-- Computed rows for the contracts: each is met by the right answer with the right bytes, accepted and
+-- refused, and not by the wrong raters that paper 01 names.
 --
 --   CallRows  == the table of answers that meet their contracts      call-rows  == every row holds
 --   WrongRaters == the table of wrong answers that do not            wrong-raters == every row holds
@@ -66,10 +66,22 @@ pub record CallRows : Type 0 where
       (PowerRating.Rated 4 4 4)
       (1 ∷ 0 ∷ 0 ∷ 0 ∷ 1 ∷ replicate 4094 7)
       cleared
-  pub periodF : PeriodCall 2 x²+x+1 (0 ∷ 0 ∷ 0 ∷ 1 ∷ []) answer work (PowerRating.Refused Refusal.NotAnnihilated) answer cleared
-  pub periodTwelve : PeriodCall 2 x²+1 (0 ∷ []) answer work (PowerRating.Refused Refusal.Reducible) answer work
-  pub portionG : PortionCall 2 x+1 2 (1 ∷ 0 ∷ []) answer work (PowerRating.Rated 2 2 2) (1 ∷ 0 ∷ 1 ∷ replicate 4096 7) cleared
-  pub portionL : PortionCall 2 x+1 1 (1 ∷ 0 ∷ []) answer work (PowerRating.Refused Refusal.NotAnnihilated) answer cleared
+  pub periodF : PeriodCall 2 x²+x+1 (0 ∷ 0 ∷ 0 ∷ 1 ∷ []) answer work
+      (PowerRating.Refused Refusal.NotAnnihilated)
+      answer
+      cleared
+  pub periodTwelve : PeriodCall 2 x²+1 (0 ∷ []) answer work
+      (PowerRating.Refused Refusal.Reducible)
+      answer
+      work
+  pub portionG : PortionCall 2 x+1 2 (1 ∷ 0 ∷ []) answer work
+      (PowerRating.Rated 2 2 2)
+      (1 ∷ 0 ∷ 1 ∷ replicate 4096 7)
+      cleared
+  pub portionL : PortionCall 2 x+1 1 (1 ∷ 0 ∷ []) answer work
+      (PowerRating.Refused Refusal.NotAnnihilated)
+      answer
+      cleared
   pub setK : SetCall 2 (x+1 ∷ x²+x+1 ∷ []) (1 ∷ 1 ∷ []) (0 ∷ 1 ∷ 1 ∷ []) answer work
       (record { outcome = SetOutcome.Rated 2 2; powers = 0 ∷ 1 ∷ 0 ∷ 0 ∷ 0 ∷ 0 ∷ 0 ∷ 0 ∷ [] })
       (1 ∷ 1 ∷ 1 ∷ replicate 4096 7)
@@ -78,11 +90,24 @@ pub record CallRows : Type 0 where
       (record { outcome = SetOutcome.Refused Refusal.FactorCount; powers = eightZeros })
       answer
       work
-  pub freeH : FreeCall square 2 (1 ∷ 0 ∷ []) answer work (FreeRating.Unique 1) (0 ∷ 1 ∷ replicate 4097 7) cleared
-  pub freeI : FreeCall square 2 (0 ∷ 1 ∷ []) answer work (FreeRating.Several 2) (0 ∷ 0 ∷ 1 ∷ replicate 4096 7) cleared
-  pub freeSixteen : FreeCall square 2 (0 ∷ 1 ∷ []) answer [] (FreeRating.Refused Refusal.LentTooShort) answer []
-  pub continueN : ContinueCall 2 x²+x+1 (0 ∷ 1 ∷ []) (9 ∷ 9 ∷ 9 ∷ 9 ∷ []) 1 Filling.Filled (9 ∷ 0 ∷ 1 ∷ 1 ∷ [])
-  pub continueSeven : ContinueCall 2 x²+x+1 (0 ∷ 1 ∷ []) (9 ∷ 9 ∷ []) 2 (Filling.Refused Refusal.CountOutOfRange) (9 ∷ 9 ∷ [])
+  pub freeH : FreeCall square 2 (1 ∷ 0 ∷ []) answer work
+      (FreeRating.Unique 1)
+      (0 ∷ 1 ∷ replicate 4097 7)
+      cleared
+  pub freeI : FreeCall square 2 (0 ∷ 1 ∷ []) answer work
+      (FreeRating.Several 2)
+      (0 ∷ 0 ∷ 1 ∷ replicate 4096 7)
+      cleared
+  pub freeSixteen : FreeCall square 2 (0 ∷ 1 ∷ []) answer []
+      (FreeRating.Refused Refusal.LentTooShort)
+      answer
+      []
+  pub continueN : ContinueCall 2 x²+x+1 (0 ∷ 1 ∷ []) (9 ∷ 9 ∷ 9 ∷ 9 ∷ []) 1
+      Filling.Filled
+      (9 ∷ 0 ∷ 1 ∷ 1 ∷ [])
+  pub continueSeven : ContinueCall 2 x²+x+1 (0 ∷ 1 ∷ []) (9 ∷ 9 ∷ []) 2
+      (Filling.Refused Refusal.CountOutOfRange)
+      (9 ∷ 9 ∷ [])
   pub ratedB : FileCall square fileB answer work
       (record { sender = 7; outcome = FileOutcome.Powers 4 4 1; powers = 4 ∷ 0 ∷ 0 ∷ 0 ∷ 0 ∷ 0 ∷ 0 ∷ 0 ∷ [] })
       (1 ∷ 0 ∷ 0 ∷ 0 ∷ 1 ∷ replicate 4094 7)
@@ -135,12 +160,14 @@ unfolding computed mode-number
 square-fileB rs found free =
     absurd
     (lit-distinct
-    (ap (λ (ss : List RouteRecord). mode-number (modeOf (byteOf 3 ss))) (records-same _ rs found) ∙ ap mode-number free))
+    (ap (λ (ss : List RouteRecord). mode-number (modeOf (byteOf 3 ss))) (records-same _ rs found)
+    ∙ ap mode-number free))
 
 square-fileI : FileChosenFits square fileI
 unfolding computed
 square-fileI rs found free =
-    subst (λ (ss : List RouteRecord). ChosenFits square (byteOf 2 ss) (termsOf ss)) (records-same _ rs found) square-I
+    subst (λ (ss : List RouteRecord). ChosenFits square (byteOf 2 ss) (termsOf ss)) (records-same _ rs found)
+    square-I
 
 square-refused : FileChosenFits square (box 7 ++ end)
 unfolding computed is-refused
@@ -161,27 +188,56 @@ call-rows =
       portionG = record { rating = refl; lent = record { answerBytes = refl; workBytes = refl } };
       portionL = record { rating = refl; lent = record { answerBytes = refl; workBytes = refl } };
       setK = record { rating = refl; powers = refl; lent = record { answerBytes = refl; workBytes = refl } };
-      setNine = record { rating = refl; powers = refl; lent = record { answerBytes = refl; workBytes = refl } };
-      freeH = record { rating = refl; chosen = square-H; lent = record { answerBytes = refl; workBytes = refl } };
-      freeI = record { rating = refl; chosen = square-I; lent = record { answerBytes = refl; workBytes = refl } };
-      freeSixteen = record { rating = refl; chosen = square-I; lent = record { answerBytes = refl; workBytes = refl } };
+      setNine =
+          record { rating = refl; powers = refl; lent = record { answerBytes = refl; workBytes = refl } };
+      freeH =
+          record { rating = refl; chosen = square-H; lent = record { answerBytes = refl; workBytes = refl } };
+      freeI =
+          record { rating = refl; chosen = square-I; lent = record { answerBytes = refl; workBytes = refl } };
+      freeSixteen =
+          record { rating = refl; chosen = square-I; lent = record { answerBytes = refl; workBytes = refl } };
       continueN = record { filling = refl; bufferBytes = refl };
       continueSeven = record { filling = refl; bufferBytes = refl };
-      ratedB = record { sender = refl; rating = refl; powers = refl; chosen = square-fileB; lent = record { answerBytes = refl; workBytes = refl } };
-      ratedI = record { sender = refl; rating = refl; powers = refl; chosen = square-fileI; lent = record { answerBytes = refl; workBytes = refl } };
-      ratedFour = record { sender = refl; rating = refl; powers = refl; chosen = square-refused; lent = record { answerBytes = refl; workBytes = refl } };
+      ratedB =
+          record {
+            sender = refl;
+            rating = refl;
+            powers = refl;
+            chosen = square-fileB;
+            lent = record { answerBytes = refl; workBytes = refl };
+          };
+      ratedI =
+          record {
+            sender = refl;
+            rating = refl;
+            powers = refl;
+            chosen = square-fileI;
+            lent = record { answerBytes = refl; workBytes = refl };
+          };
+      ratedFour =
+          record {
+            sender = refl;
+            rating = refl;
+            powers = refl;
+            chosen = square-refused;
+            lent = record { answerBytes = refl; workBytes = refl };
+          };
       recordTwo = record { found = refl; part = refl };
       recordRefused = record { found = refl; part = refl };
     }
 
--- THE WRONG RATERS, on row A (a portion, with x³ + x + 1 and the upper power 6) and on row B (a period, with x + 1)
+-- THE WRONG RATERS, on row A (a portion, with x³ + x + 1 and the upper power 6) and on row B (a period, with
+-- x + 1)
 
 abbrev termsA : List ℕ
 termsA = 0 ∷ 1 ∷ 0 ∷ 1 ∷ 0 ∷ 0 ∷ 0 ∷ 0 ∷ 1 ∷ 0 ∷ 1 ∷ 1 ∷ 0 ∷ 1 ∷ 0 ∷ 1 ∷ 1 ∷ 0 ∷ []
 
 -- what a wrong rater answers on row A or B; the bytes afterwards may be any
 abbrev AnswersA : PowerRating → Type 0
-AnswersA r = (answer′ work′ : List ℕ) → PortionCall 2 (1 ∷ 1 ∷ 0 ∷ 1 ∷ []) 6 termsA answer work r answer′ work′ → ⊥
+AnswersA r =
+    (answer′ work′ : List ℕ)
+    → PortionCall 2 (1 ∷ 1 ∷ 0 ∷ 1 ∷ []) 6 termsA answer work r answer′ work′
+    → ⊥
 
 abbrev AnswersB : PowerRating → Type 0
 AnswersB r = (answer′ work′ : List ℕ) → PeriodCall 2 x+1 (0 ∷ 0 ∷ 0 ∷ 1 ∷ []) answer work r answer′ work′ → ⊥
@@ -235,5 +291,6 @@ wrong-raters =
       refuses-all = λ a w c. differ 1000 4 (ap power-of (c .rating)) refl;
       nothing-written = λ w c. differ 7 1 (ap (λ (l : List ℕ). getD l 0 0) (c .lent .answerBytes)) refl;
       work-not-cleared = λ a c. differ 9 0 (ap (λ (l : List ℕ). getD l 0 0) (c .lent .workBytes)) refl;
-      refused-and-written = λ a w e c. differ 1 7 (ap (λ (l : List ℕ). getD l 0 0) (sym e ∙ c .lent .answerBytes)) refl;
+      refused-and-written =
+          λ a w e c. differ 1 7 (ap (λ (l : List ℕ). getD l 0 0) (sym e ∙ c .lent .answerBytes)) refl;
     }

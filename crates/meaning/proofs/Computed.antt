@@ -1,5 +1,5 @@
--- One name that opens every executable definition of specs/, so that a row computes under `unfolding computed`.
--- Each other name opens one file, or a part of it.
+-- One name that opens every executable definition of specs/, so that a row computes under `unfolding
+-- computed`. Each other name opens one file, or a part of it.
 -- Assumes nothing.
 use Rattle.meaning.specs.Search.{range, holdsForAll, holdsForSome, firstThat, mapOption, bind, isNone}
 use Rattle.meaning.specs.Search.{least, together}

@@ -1,9 +1,10 @@
--- What an answer tells determines it: no two answers tell the same. With the equations of the contracts, whatever meets a
--- contract is one answer.
+-- What an answer tells determines it: no two answers tell the same. With the equations of the contracts,
+-- whatever meets a contract is one answer.
 --
 --   refusalOf n   == the refusal with the number n, none for a number that is not 1 to 17
 --   …-determined  == two answers that tell the same are the same
---   period-call-determined and its like == two runs of a call on the same input agree in the answer and in every byte
+--   period-call-determined and its like == two runs of a call on the same input agree in the answer and in
+--                    every byte
 -- Assumes nothing.
 use Prim.Native.Nat.{ℕ}
 use mathlib.Core.Path.{_≡_, refl, sym, ap, _∙_}
@@ -85,7 +86,10 @@ refusal-number NotAnnihilated = refl
 some-same : {A : Type 0} (a b : A) → some a ≡ some b → a ≡ b
 some-same a b e = cc
 
-determined : {A B : Type 0} (f : A → B) (g : B → Option A) → ((a : A) → g (f a) ≡ some a) → (a b : A) → f a ≡ f b → a ≡ b
+determined : {A B : Type 0} (f : A → B) (g : B → Option A) → ((a : A) → g (f a) ≡ some a)
+    → (a b : A)
+    → f a ≡ f b
+    → a ≡ b
 determined f g back a b e = some-same a b (sym (back a) ∙ ap g e ∙ back b)
 
 -- the answer that a refusal by number tells
@@ -98,7 +102,8 @@ refusing-number f r = ap (mapOption f) (refusal-number r)
 
 irreducibility : Result Bool → Option Irreducibility
 irreducibility (refused n) = refusing Irreducibility.Refused n
-irreducibility (answered b) = elim b [ true ↦ some Irreducibility.Irreducible | false ↦ some Irreducibility.HasFactors ]
+irreducibility (answered b) =
+    elim b [ true ↦ some Irreducibility.Irreducible | false ↦ some Irreducibility.HasFactors ]
 
 irreducibility-told : (r : Irreducibility) → irreducibility (toldIrreducible r) ≡ some r
 unfolding irreducibility toldIrreducible
@@ -148,7 +153,10 @@ set-determined = determined toldSet set set-told
 free : Result FreeFigures → Option FreeRating
 free (refused n) = refusing FreeRating.Refused n
 free (answered a) =
-    elim (a .unique) [ true ↦ some (FreeRating.Unique (a .degree)) | false ↦ some (FreeRating.Several (a .degree)) ]
+    elim (a .unique) [
+      | true ↦ some (FreeRating.Unique (a .degree))
+      | false ↦ some (FreeRating.Several (a .degree))
+    ]
 
 free-told : (r : FreeRating) → free (toldFree r) ≡ some r
 unfolding free toldFree
@@ -250,8 +258,10 @@ pub file-call-determined :
 file-call-determined {r = r} {s = s} c d =
     let senders = c .sender ∙ sym (d .sender) in
     let outcomes = file-determined (r .outcome) (s .outcome) (c .rating ∙ sym (d .rating)) in
-    let places = c .powers ∙ sym (d .powers) in
-    (λ i. record { sender = senders i; outcome = outcomes i; powers = places i }, lent-determined (c .lent) (d .lent))
+    let places = c .powers ∙ sym (d .powers) in (
+      λ i. record { sender = senders i; outcome = outcomes i; powers = places i },
+      lent-determined (c .lent) (d .lent),
+    )
 
 pub record-call-determined :
     {input : List ℕ} {n : ℕ} {r s : RecordOutcome} {a b : List ℕ}

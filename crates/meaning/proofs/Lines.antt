@@ -14,7 +14,8 @@ use Rattle.meaning.specs.Irreducibility.{askIrreducible}
 use Rattle.meaning.specs.Route.{readRecord}
 use Rattle.meaning.specs.Print.{text, printed}
 use Rattle.meaning.proofs.Computed.{computed}
-use Rattle.meaning.proofs.Rows.{box, field, mode, factor, record5, term, terms, stop, end, x²+1, x²+x+1, anyChoice, caseA}
+use Rattle.meaning.proofs.Rows.{box, field, mode, factor, record5, term, terms, stop, end}
+use Rattle.meaning.proofs.Rows.{x²+1, x²+x+1, anyChoice, caseA}
 
 -- a file of box 7 over GF(2) in the mode m
 abbrev headed : ℕ → List ℕ → List ℕ
@@ -43,7 +44,9 @@ pub record Lines : Type 0 where
       ≡ text "box result density powers\n7 ok 1/2 one\npoly 0 1\n"
   pub printedI : printed (λ p ts. 0 ∷ 0 ∷ 1 ∷ []) (headed 3 (terms (0 ∷ 1 ∷ []) ++ end))
       ≡ text "box result density powers\n7 ok 2/2 some\npoly 0 0 1\n"
-  pub printedSet : printed anyChoice (headed 2 (factor 1 1 (1 ∷ []) ++ (stop ++ (factor 1 1 [] ++ (record5 (replicate 64 1) ++ (term 1 ++ end))))))
+  pub printedSet : printed anyChoice
+      (headed 2
+      (factor 1 1 (1 ∷ []) ++ (stop ++ (factor 1 1 [] ++ (record5 (replicate 64 1) ++ (term 1 ++ end))))))
       ≡ text "box result density powers\n7 ok 1/65 1,0\npoly 1 1\n"
   pub printedEmpty : printed anyChoice [] ≡ text "box result density powers\n0 refused 3\n"
   pub printedBox : printed anyChoice (1 ∷ 0 ∷ 0 ∷ 1 ∷ 0 ∷ end)

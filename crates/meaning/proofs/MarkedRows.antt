@@ -24,14 +24,16 @@ use Rattle.meaning.proofs.ZeroPeriod.{zeros, zero-period}
 
 -- the answer with a power, its repeat bound, and a polynomial of the degree given
 abbrev pub powerAnswer : (power degree bound : ℕ) → Polynomial → Result (Rated PowerFigures)
-powerAnswer r d b g = answered (record { figures = record { power = r; degree = d; bound = b }; polynomial = g })
+powerAnswer r d b g =
+    answered (record { figures = record { power = r; degree = d; bound = b }; polynomial = g })
 
 pub record MarkedRows : Type 0 where
   pub A : ratePortion 2 (1 ∷ 1 ∷ 0 ∷ 1 ∷ []) 6
       (0 ∷ 1 ∷ 0 ∷ 1 ∷ 0 ∷ 0 ∷ 0 ∷ 0 ∷ 1 ∷ 0 ∷ 1 ∷ 1 ∷ 0 ∷ 1 ∷ 0 ∷ 1 ∷ 1 ∷ 0 ∷ [])
       4097 8192
       ≡ powerAnswer 4 12 28 (1 ∷ 0 ∷ 0 ∷ 0 ∷ 1 ∷ 0 ∷ 0 ∷ 0 ∷ 0 ∷ 0 ∷ 0 ∷ 0 ∷ 1 ∷ [])
-  pub B : ratePeriod 2 (1 ∷ 1 ∷ []) (0 ∷ 0 ∷ 0 ∷ 1 ∷ []) 4097 8192 ≡ powerAnswer 4 4 4 (1 ∷ 0 ∷ 0 ∷ 0 ∷ 1 ∷ [])
+  pub B : ratePeriod 2 (1 ∷ 1 ∷ []) (0 ∷ 0 ∷ 0 ∷ 1 ∷ []) 4097 8192
+      ≡ powerAnswer 4 4 4 (1 ∷ 0 ∷ 0 ∷ 0 ∷ 1 ∷ [])
   pub C : ratePeriod 2 (1 ∷ 1 ∷ []) (1 ∷ 1 ∷ 1 ∷ 1 ∷ []) 4097 8192 ≡ powerAnswer 1 1 1 (1 ∷ 1 ∷ [])
   pub D : (p n : ℕ) (f : Polynomial) (answer work : ℕ)
       → T (acceptedFactors p (f ∷ []) (1 ∷ []))
@@ -47,10 +49,12 @@ pub record MarkedRows : Type 0 where
       ≡ answered (record { figures = record { degree = 1; unique = true }; polynomial = 0 ∷ 1 ∷ [] })
   pub I : (pick : Choice)
       → rateFree pick 2 (0 ∷ 1 ∷ []) 4097 8192
-      ≡ answered (record { figures = record { degree = 2; unique = false }; polynomial = pick 2 (0 ∷ 1 ∷ []) })
+      ≡ answered
+      (record { figures = record { degree = 2; unique = false }; polynomial = pick 2 (0 ∷ 1 ∷ []) })
   pub J : ratePortion 2 (0 ∷ 1 ∷ []) 3 (1 ∷ 1 ∷ 0 ∷ []) 4097 8192 ≡ powerAnswer 2 2 0 (0 ∷ 0 ∷ 1 ∷ [])
   pub K : rateSet 2 ((1 ∷ 1 ∷ []) ∷ (1 ∷ 1 ∷ 1 ∷ []) ∷ []) (1 ∷ 1 ∷ []) (0 ∷ 1 ∷ 1 ∷ []) 4097 8192
-      ≡ answered (record { figures = record { powers = 0 ∷ 1 ∷ []; degree = 2 }; polynomial = 1 ∷ 1 ∷ 1 ∷ [] })
+      ≡ answered
+      (record { figures = record { powers = 0 ∷ 1 ∷ []; degree = 2 }; polynomial = 1 ∷ 1 ∷ 1 ∷ [] })
   pub L : ratePortion 2 (1 ∷ 1 ∷ []) 1 (1 ∷ 0 ∷ []) 4097 8192 ≡ refused 17
 
 pub marked-rows : MarkedRows

@@ -16,7 +16,8 @@ use Rattle.meaning.specs.Continuation.{continueSequence}
 use Rattle.meaning.specs.Irreducibility.{askIrreducible}
 use Rattle.meaning.specs.File.{rateFile}
 use Rattle.meaning.proofs.Computed.{computed}
-use Rattle.meaning.proofs.Rows.{numberIn, box, field, mode, factor, term, stop, end, x+1, x²+1, x²+x+1, anyChoice}
+use Rattle.meaning.proofs.Rows.{numberIn, box, field, mode, factor, term, stop, end, x+1, x²+1}
+use Rattle.meaning.proofs.Rows.{x²+x+1, anyChoice, headed}
 
 -- over GF(2): a coefficient that is no element, a leading coefficient that is not 1, a degree of 0
 abbrev badCoefficient : Polynomial
@@ -36,10 +37,6 @@ portion p f v ts = numberIn (ratePortion p f v ts 4097 8192)
 
 abbrev ofFile : List ℕ → Option ℕ
 ofFile file = numberIn (rateFile anyChoice file 4097 8192)
-
--- a file whose header names the field p and the mode m
-abbrev headed : ℕ → ℕ → List ℕ → List ℕ
-headed p m rest = box 7 ++ (field p ++ (mode m ++ rest))
 
 pub record Orders : Type 0 where
   -- the period way: the lower number is given
@@ -88,7 +85,8 @@ pub record Orders : Type 0 where
   pub thirteenForgetsUppers : set (x+1 ∷ x+1 ∷ []) (1 ∷ 2 ∷ []) (0 ∷ 0 ∷ 0 ∷ []) ≡ some 13
   pub fileTenOverAll : ofFile (headed 2 2 (factor 1 1 (2 ∷ []) ++ (factor 0 1 [] ++ (term 0 ++ end))))
       ≡ some 10
-  pub fileElevenOverAll : ofFile (headed 2 2 (factor 2 1 (1 ∷ []) ++ (factor 1 1 (2 ∷ []) ++ (term 0 ++ end))))
+  pub fileElevenOverAll : ofFile
+      (headed 2 2 (factor 2 1 (1 ∷ []) ++ (factor 1 1 (2 ∷ []) ++ (term 0 ++ end))))
       ≡ some 11
   -- files: the first bad record decides, and at a record 2, 3 and 4 are tried in turn
   pub longBeforeKind : ofFile (9 ∷ replicate 16384 9) ≡ some 1
@@ -114,7 +112,8 @@ pub record Orders : Type 0 where
   pub cutAfterEnd : ofFile (headed 2 3 (term 0 ++ (end ++ (7 ∷ [])))) ≡ some 3
   pub placeAfterEnd : ofFile (headed 2 3 (term 0 ++ (end ++ end))) ≡ some 4
   pub stopAfterEnd : ofFile (headed 2 3 (term 0 ++ (end ++ stop))) ≡ some 4
-  pub stopsBetween : ofFile (box 7 ++ (stop ++ (field 2 ++ (stop ++ (mode 3 ++ (stop ++ (term 0 ++ (stop ++ end))))))))
+  pub stopsBetween : ofFile
+      (box 7 ++ (stop ++ (field 2 ++ (stop ++ (mode 3 ++ (stop ++ (term 0 ++ (stop ++ end))))))))
       ≡ none
   -- files: 4 before 5, 5 before 6, and then the checks of the mode
   pub placeBeforeMode : ofFile (headed 2 9 (end ++ end)) ≡ some 4
@@ -123,7 +122,8 @@ pub record Orders : Type 0 where
   pub fileDegree33 : ofFile (headed 2 2 (factor 33 1 (replicate 32 9) ++ (term 0 ++ end))) ≡ some 10
   pub fileDegree32 : ofFile (headed 2 2 (factor 32 1 (replicate 32 9) ++ (term 0 ++ end))) ≡ some 11
   pub fileCoefficientBeyond : ofFile (headed 2 2 (factor 1 1 (1 ∷ 1 ∷ []) ++ (term 0 ++ end))) ≡ some 11
-  pub fileCoefficientLast : ofFile (headed 2 2 (factor 1 1 (1 ∷ (replicate 30 0 ++ (1 ∷ []))) ++ (term 0 ++ end)))
+  pub fileCoefficientLast : ofFile
+      (headed 2 2 (factor 1 1 (1 ∷ (replicate 30 0 ++ (1 ∷ []))) ++ (term 0 ++ end)))
       ≡ some 11
   pub fileUpperLast : ofFile (headed 2 2 (factor 1 0 (1 ∷ []) ++ end)) ≡ some 7
 

@@ -15,7 +15,8 @@ use Rattle.meaning.specs.Irreducibility.{askIrreducible}
 use Rattle.meaning.specs.Route.{readRecord}
 use Rattle.meaning.specs.File.{rateFile}
 use Rattle.meaning.proofs.Computed.{computed}
-use Rattle.meaning.proofs.Rows.{numberIn, box, field, mode, factor, term, terms, end, x+1, x²+1, x²+x+1, anyChoice}
+use Rattle.meaning.proofs.Rows.{numberIn, box, field, factor, term, terms, end, headed, x+1, x²+1}
+use Rattle.meaning.proofs.Rows.{x²+x+1, anyChoice}
 
 pub record Refusals : Type 0 where
   -- files
@@ -23,37 +24,41 @@ pub record Refusals : Type 0 where
   pub file2 : numberIn (rateFile anyChoice (9 ∷ []) 4097 8192) ≡ some 2
   pub file3 : numberIn (rateFile anyChoice ([]) 4097 8192) ≡ some 3
   pub file4 : numberIn (rateFile anyChoice (field 2) 4097 8192) ≡ some 4
-  pub file5 : numberIn (rateFile anyChoice (box 7 ++ (field 2 ++ (mode 4 ++ end))) 4097 8192) ≡ some 5
-  pub file6 : numberIn (rateFile anyChoice (box 7 ++ (field 4 ++ (mode 3 ++ (term 0 ++ end)))) 4097 8192)
-      ≡ some 6
-  pub file7 : numberIn (rateFile anyChoice (box 7 ++ (field 2 ++ (mode 3 ++ end))) 4097 8192) ≡ some 7
-  pub file8 : numberIn (rateFile anyChoice (box 7 ++ (field 2 ++ (mode 3 ++ (term 2 ++ end)))) 4097 8192)
-      ≡ some 8
-  pub file10 : numberIn (rateFile anyChoice (box 7 ++ (field 2 ++ (mode 2 ++ (factor 0 1 [] ++ (term 0 ++ end))))) 4097 8192)
+  pub file5 : numberIn (rateFile anyChoice (headed 2 4 end) 4097 8192) ≡ some 5
+  pub file6 : numberIn (rateFile anyChoice (headed 4 3 (term 0 ++ end)) 4097 8192) ≡ some 6
+  pub file7 : numberIn (rateFile anyChoice (headed 2 3 end) 4097 8192) ≡ some 7
+  pub file8 : numberIn (rateFile anyChoice (headed 2 3 (term 2 ++ end)) 4097 8192) ≡ some 8
+  pub file10 : numberIn (rateFile anyChoice (headed 2 2 (factor 0 1 [] ++ (term 0 ++ end))) 4097 8192)
       ≡ some 10
-  pub file11 : numberIn (rateFile anyChoice (box 7 ++ (field 2 ++ (mode 2 ++ (factor 1 1 (2 ∷ []) ++ (term 0 ++ end))))) 4097 8192)
+  pub file11 : numberIn (rateFile anyChoice (headed 2 2 (factor 1 1 (2 ∷ []) ++ (term 0 ++ end))) 4097 8192)
       ≡ some 11
-  pub file12 : numberIn (rateFile anyChoice (box 7 ++ (field 2 ++ (mode 2 ++ (factor 2 1 (1 ∷ []) ++ (term 0 ++ end))))) 4097 8192)
+  pub file12 : numberIn (rateFile anyChoice (headed 2 2 (factor 2 1 (1 ∷ []) ++ (term 0 ++ end))) 4097 8192)
       ≡ some 12
-  pub file13 : numberIn (rateFile anyChoice (box 7 ++ (field 2 ++ (mode 2 ++ (factor 1 1 [] ++ (factor 1 1 [] ++ (term 0 ++ end)))))) 4097 8192)
+  pub file13 : numberIn
+      (rateFile anyChoice (headed 2 2 (factor 1 1 [] ++ (factor 1 1 [] ++ (term 0 ++ end)))) 4097 8192)
       ≡ some 13
-  pub file14 : numberIn (rateFile anyChoice (box 7 ++ (field 2 ++ (mode 2 ++ (factor 1 0 [] ++ (term 0 ++ end))))) 4097 8192)
+  pub file14 : numberIn (rateFile anyChoice (headed 2 2 (factor 1 0 [] ++ (term 0 ++ end))) 4097 8192)
       ≡ some 14
-  pub file15 : numberIn (rateFile anyChoice (box 7 ++ (field 2 ++ (mode 2 ++ (factor 1 2 [] ++ (term 0 ++ end))))) 4097 8192)
+  pub file15 : numberIn (rateFile anyChoice (headed 2 2 (factor 1 2 [] ++ (term 0 ++ end))) 4097 8192)
       ≡ some 15
-  pub file16 : numberIn (rateFile anyChoice (box 7 ++ (field 2 ++ (mode 3 ++ (term 0 ++ end)))) 4096 8192)
-      ≡ some 16
-  pub file17 : numberIn (rateFile anyChoice (box 7 ++ (field 2 ++ (mode 2 ++ (factor 1 1 [] ++ (terms (1 ∷ 1 ∷ []) ++ end))))) 4097 8192)
+  pub file16 : numberIn (rateFile anyChoice (headed 2 3 (term 0 ++ end)) 4096 8192) ≡ some 16
+  pub file17 : numberIn
+      (rateFile anyChoice (headed 2 2 (factor 1 1 [] ++ (terms (1 ∷ 1 ∷ []) ++ end))) 4097 8192)
       ≡ some 17
-  pub periodFile10 : numberIn (rateFile anyChoice (box 7 ++ (field 2 ++ (mode 1 ++ (factor 0 0 [] ++ (term 0 ++ end))))) 4097 8192)
+  pub periodFile10 : numberIn (rateFile anyChoice (headed 2 1 (factor 0 0 [] ++ (term 0 ++ end))) 4097 8192)
       ≡ some 10
-  pub periodFile11 : numberIn (rateFile anyChoice (box 7 ++ (field 2 ++ (mode 1 ++ (factor 1 0 (2 ∷ []) ++ (term 0 ++ end))))) 4097 8192)
+  pub periodFile11 : numberIn
+      (rateFile anyChoice (headed 2 1 (factor 1 0 (2 ∷ []) ++ (term 0 ++ end))) 4097 8192)
       ≡ some 11
-  pub periodFile12 : numberIn (rateFile anyChoice (box 7 ++ (field 2 ++ (mode 1 ++ (factor 2 0 (1 ∷ []) ++ (term 0 ++ end))))) 4097 8192)
+  pub periodFile12 : numberIn
+      (rateFile anyChoice (headed 2 1 (factor 2 0 (1 ∷ []) ++ (term 0 ++ end))) 4097 8192)
       ≡ some 12
-  pub periodFile16 : numberIn (rateFile anyChoice (box 7 ++ (field 2 ++ (mode 1 ++ (factor 1 0 (1 ∷ []) ++ (term 1 ++ end))))) 4097 8191)
+  pub periodFile16 : numberIn
+      (rateFile anyChoice (headed 2 1 (factor 1 0 (1 ∷ []) ++ (term 1 ++ end))) 4097 8191)
       ≡ some 16
-  pub periodFile17 : numberIn (rateFile anyChoice (box 7 ++ (field 2 ++ (mode 1 ++ (factor 2 0 (1 ∷ 1 ∷ []) ++ (terms (0 ∷ 0 ∷ 0 ∷ 1 ∷ []) ++ end))))) 4097 8192)
+  pub periodFile17 : numberIn
+      (rateFile anyChoice (headed 2 1 (factor 2 0 (1 ∷ 1 ∷ []) ++ (terms (0 ∷ 0 ∷ 0 ∷ 1 ∷ []) ++ end)))
+      4097 8192)
       ≡ some 17
   -- the period way
   pub period6 : numberIn (ratePeriod 4 x+1 (0 ∷ 1 ∷ []) 4097 8192) ≡ some 6
@@ -108,7 +113,7 @@ pub record Refusals : Type 0 where
   pub read2 : numberIn (readRecord (box 7 ++ (9 ∷ [])) 0) ≡ some 2
   pub read3 : numberIn (readRecord (box 7) 0) ≡ some 3
   pub read4 : numberIn (readRecord (box 7 ++ end) 0) ≡ some 4
-  pub read5 : numberIn (readRecord (box 7 ++ (field 2 ++ (mode 4 ++ end))) 0) ≡ some 5
+  pub read5 : numberIn (readRecord (headed 2 4 end) 0) ≡ some 5
   -- factors are accepted when 6 and 9 to 14 do not turn them down
   pub accepted : acceptedFactors 2 (x+1 ∷ x²+x+1 ∷ []) (1 ∷ 1 ∷ []) ≡ true
   pub accepted6 : acceptedFactors 4 (x+1 ∷ x²+x+1 ∷ []) (1 ∷ 1 ∷ []) ≡ false

@@ -3,8 +3,9 @@
 --   numberIn r        == the number of a refusal; none of an answer
 --   box, field, mode, factor, record5, term, stop, end == the bytes of one record of the route file
 --   terms ts          == a record of kind 6 for each term
---   caseA d cs        == case A of paper 01 as the file that box 7 sends in mode 2, with the factor of degree d and the
---                        coefficients cs, and a stop before the terms
+--   headed p m rest   == a file of box 7 whose header names the field p and the mode m
+--   caseA d cs        == case A of paper 01 as the file that box 7 sends in mode 2, with the factor of degree
+--                        d and the coefficients cs, and a stop before the terms
 --   anyChoice         == a choice for the free way; which one does not matter where it does not show
 -- Assumes nothing.
 use Prim.Native.Nat.{ℕ, _-_}
@@ -27,6 +28,9 @@ field p = 2 ∷ p ∷ []
 
 abbrev pub mode : ℕ → List ℕ
 mode m = 3 ∷ m ∷ []
+
+abbrev pub headed : ℕ → ℕ → List ℕ → List ℕ
+headed p m rest = box 7 ++ (field p ++ (mode m ++ rest))
 
 -- a factor by its degree byte, its upper power (below 256) and the coefficients, filled up with zeros
 abbrev pub factor : ℕ → ℕ → List ℕ → List ℕ

@@ -43,7 +43,9 @@ pub settle-none : {A : Type 0} (table : List Check) (v : Unit {0} → Option A)
 unfolding settle
 settle-none table v e = rw (e, settle)
 
-pub holdsForAll-every : {A : Type 0} (t : A → Bool) → ((a : A) → t a ≡ true) → (l : List A) → holdsForAll t l ≡ true
+pub holdsForAll-every : {A : Type 0} (t : A → Bool) → ((a : A) → t a ≡ true)
+    → (l : List A)
+    → holdsForAll t l ≡ true
 unfolding holdsForAll
 holdsForAll-every t h [] = refl
 holdsForAll-every t h (a ∷ l) = rw (h a, holdsForAll) (holdsForAll-every t h l)

@@ -91,14 +91,19 @@ nothing-holds : (p n : ℕ) (f : Polynomial) (answer work : ℕ)
     → lentTooShort answer work ≡ false
     → 1 ≤ n
     → n ≤ 4096
-    → firstOf (periodTable p (factorDegreeOutOfRange (prime p) f) (notMonic (prime p) f) f (zeros n) answer work) ≡ none
+    → firstOf
+    (periodTable p (factorDegreeOutOfRange (prime p) f) (notMonic (prime p) f) f (zeros n) answer work)
+    ≡ none
 unfolding periodTable isNone
 nothing-holds p n f answer work q a l m =
-    firstOf-none (periodTable p (factorDegreeOutOfRange (prime p) f) (notMonic (prime p) f) f (zeros n) answer work) (
+    firstOf-none _ (
       q .six,
       (
         count-passes n l m,
-        (terms-pass p n (q .six), (q .ten, (q .eleven, (q .twelve, (a, (ap isNone (power-zero p f n), tt)))))),
+        (
+          terms-pass p n (q .six),
+          (q .ten, (q .eleven, (q .twelve, (a, (ap isNone (power-zero p f n), tt))))),
+        ),
       ),
     )
 

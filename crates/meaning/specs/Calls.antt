@@ -9,9 +9,9 @@
 --   ContinueCall        == continue_sequence   FileCall        == rate_file
 --   RecordCall          == record (the route reader)                ProgramCall == what the program prints
 --
--- `pick` is how the free way chooses a polynomial under `some`, where several may fit: it depends on p and the terms
--- alone, and `chosen` says what holds of it. A contract names one such function of the program. Everything else is an
--- equation.
+-- `pick` is how the free way chooses a polynomial under `some`, where several may fit: it depends on p and
+-- the terms alone, and `chosen` says what holds of it. A contract names one such function of the program.
+-- Everything else is an equation.
 use Prim.Native.Nat.{ℕ}
 use mathlib.Core.Path.{_≡_}
 use mathlib.Core.Bool.{Bool}
@@ -36,10 +36,12 @@ use Rattle.meaning.specs.Irreducibility.{askIrreducible}
 use Rattle.meaning.specs.Route.{RouteRecord, boxOf, readRecord}
 use Rattle.meaning.specs.File.{rateFile, FileChosenFits}
 use Rattle.meaning.specs.Print.{printed}
-use Rattle.meaning.specs.Answers.{toldIrreducible, toldFilling, toldPower, toldFree, toldSet, setFiguresTold}
-use Rattle.meaning.specs.Answers.{toldFile, fileFiguresTold, toldRecord, setPadded, filePadded}
+use Rattle.meaning.specs.Answers.{toldIrreducible, toldFilling, toldPower, toldFree, toldSet}
+use Rattle.meaning.specs.Answers.{setFiguresTold, toldFile, fileFiguresTold, toldRecord, setPadded}
+use Rattle.meaning.specs.Answers.{filePadded}
 
-pub record LentAfter {A : Type 0} (result : Result (Rated A)) (answer work answer′ work′ : List ℕ) : Type 0 where
+pub record LentAfter {A : Type 0} (result : Result (Rated A)) (answer work answer′ work′ : List ℕ)
+    : Type 0 where
   pub answerBytes : answer′ ≡ answerAfter result answer
   pub workBytes : work′ ≡ workAfter result work
 
@@ -49,7 +51,8 @@ pub record PrimeCall (n : ℕ) (r : Bool) : Type 0 where
 pub record IrreducibleCall (p : ℕ) (f : Polynomial) (r : Irreducibility) : Type 0 where
   pub answer : toldIrreducible r ≡ askIrreducible p f
 
-pub record PeriodCall (p : ℕ) (f ts answer work : List ℕ) (r : PowerRating) (answer′ work′ : List ℕ) : Type 0 where
+pub record PeriodCall (p : ℕ) (f ts answer work : List ℕ) (r : PowerRating) (answer′ work′ : List ℕ)
+    : Type 0 where
   pub rating : toldPower r ≡ figuresOf (ratePeriod p f ts (length answer) (length work))
   pub lent : LentAfter (ratePeriod p f ts (length answer) (length work)) answer work answer′ work′
 

@@ -53,7 +53,8 @@ fileNotMonic F f =
 
 unfoldable pub termsOf : List RouteRecord → List ℕ
 termsOf [] = []
-termsOf (r ∷ rs) = elim (eqb (r .kind) 5 || eqb (r .kind) 6) [ true ↦ r .body ++ termsOf rs | false ↦ termsOf rs ]
+termsOf (r ∷ rs) =
+    elim (eqb (r .kind) 5 || eqb (r .kind) 6) [ true ↦ r .body ++ termsOf rs | false ↦ termsOf rs ]
 
 pub data Label : Type 0 where
   powers : List ℕ → Label
@@ -75,7 +76,8 @@ ofPeriod m (answered a) =
 
 unfoldable pub ofSet : ℕ → Result (Rated SetFigures) → Result (Rated FileFigures)
 ofSet m (refused n) = refused n
-ofSet m (answered a) = answered (fileAnswer (a .figures .degree) m (powers (a .figures .powers)) (a .polynomial))
+ofSet m (answered a) =
+    answered (fileAnswer (a .figures .degree) m (powers (a .figures .powers)) (a .polynomial))
 
 unfoldable pub freeLabel : Bool → Label
 freeLabel true = unique

@@ -6,13 +6,15 @@
 --                         no places and fits). In words: IsLeastDegree F ts e
 --   Fits F ts e g      == g is monic over F, of degree e, and annihilates the known terms
 --   IsLeastDegree F ts e == some polynomial fits with degree e, and none with a smaller one
---   isUnique ts e      == the word `one`: twice the degree is at most the number of terms, and only one polynomial
---                         fits; else `some`
+--   isUnique ts e      == the word `one`: twice the degree is at most the number of terms, and only one
+--                         polynomial fits; else `some`
 --   FreeFigures        == the degree, and whether the word is `one`
 --   Choice             == how the program picks a polynomial under `some`: from p and the terms alone
---   freePolynomial pick p ts e == the polynomial: under `one` the one that fits, under `some` the program's choice
+--   freePolynomial pick p ts e == the polynomial: under `one` the one that fits, under `some` the program's
+--                         choice
 --   rateFree pick p ts answer work == the answer of the free way
---   ChosenFits pick p ts == what holds of the choice wherever 6, 7 and 8 accept p and the terms and the word is `some`
+--   ChosenFits pick p ts == what holds of the choice wherever 6, 7 and 8 accept p and the terms and the word
+--                         is `some`
 use Prim.Native.Nat.{ℕ, _*_, _≤_}
 use mathlib.Core.Path.{_≡_}
 use mathlib.Core.Bool.{Bool, true, false}

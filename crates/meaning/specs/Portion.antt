@@ -6,8 +6,8 @@
 --                         the others' upper powers annihilates the first D terms
 --   setPowers F l ts   == these powers in the order of the factors. In words: SetMeaning F l ts powers
 --   onward F l ts      == the endless continuation of the first D terms by the product of the upper powers
---   SetMeaning F l ts rs == there is one power for each factor, and the product of the factors to these powers is the
---                         minimal polynomial of that continuation
+--   SetMeaning F l ts rs == there is one power for each factor, and the product of the factors to these
+--                         powers is the minimal polynomial of that continuation
 --   PortionMeaning F f v ts r == r is the least power of f that annihilates that continuation, with one
 --                          factor
 --   Agrees F l ts      == all the terms agree with the continuation of the first D of them
@@ -87,7 +87,8 @@ setTable p ten eleven l ts answer work =
     ∷ (17, λ _. not (annihilatesKnown (prime p) (product (prime p) l) ts))
     ∷ []
 
-unfoldable pub setAnswer : ℕ → Bool → Bool → List (Polynomial × ℕ) → List ℕ → ℕ → ℕ → Result (Rated SetFigures)
+unfoldable pub setAnswer :
+    ℕ → Bool → Bool → List (Polynomial × ℕ) → List ℕ → ℕ → ℕ → Result (Rated SetFigures)
 setAnswer p ten eleven l ts answer work =
     settle (setTable p ten eleven l ts answer work)
     (λ _. mapOption (setRating (prime p) l) (setPowers (prime p) l ts))

@@ -1,10 +1,10 @@
 -- The answer of a rating with one factor: its power, the degree, the repeat bound, and the polynomial.
 --
 --   isX f              == f is the polynomial x
---   repeatBound F f r  == 1 for r = 0; 0 for f = x and r above 0; else p^t·(p^d − 1), d the degree of f and t least
---                         with p^t at least r. None only where there is no such t, in no field
---   BoundMeaning s b   == what a bound other than 0 says in words: b has at most 64 bits, and the least period of s does
---                         not exceed it
+--   repeatBound F f r  == 1 for r = 0; 0 for f = x and r above 0; else p^t·(p^d − 1), d the degree of f and
+--                         t least with p^t at least r. None only where there is no such t, in no field
+--   BoundMeaning s b   == what a bound other than 0 says in words: b has at most 64 bits, and the least
+--                         period of s does not exceed it
 --   PowerFigures       == power, degree (the complexity) and repeat bound
 --   powerRating F f r  == the answer with the power r and the polynomial f^r
 use Prim.Native.Nat.{ℕ, zero, suc, _*_, _-_, _^_, _≤_, _<_}

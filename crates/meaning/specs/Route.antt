@@ -129,7 +129,8 @@ unfoldable pub endRecord : RouteRecord
 endRecord = record { kind = 8; body = [] }
 
 unfoldable pub readRecord : List ℕ → ℕ → Result RouteRecord
-readRecord file n = elim (records file) [ refused k ↦ refused k | answered rs ↦ answered (getD rs n endRecord) ]
+readRecord file n =
+    elim (records file) [ refused k ↦ refused k | answered rs ↦ answered (getD rs n endRecord) ]
 
 unfoldable pub boxOf : List ℕ → ℕ
 boxOf file =

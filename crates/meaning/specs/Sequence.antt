@@ -9,8 +9,8 @@
 --   annihilatesKnown F g ts  == the action of g on the m terms ts is 0 at its m − deg g places; no places
 --                          count as annihilated
 --   annihilatesPeriod F g ts == the action of g is 0 at each place of the period ts, and so at every place
---   actOnKnown F g ts     == the action of g on the m terms ts, as the list of its m − deg g places; empty where there is
---                            none
+--   actOnKnown F g ts     == the action of g on the m terms ts, as the list of its m − deg g places; empty
+--                            where there is none
 --   actOnPeriod F g ts    == the action of g on the period ts, as a period of as many terms
 --   cut s k m             == the stretch of m terms of s from place k on
 --   Period s n            == s repeats every n terms, n at least 1
@@ -91,7 +91,11 @@ pub record Continues (F : Field) (g : Polynomial) (start : List ℕ) (s : Sequen
 pub record MinimalPolynomial (F : Field) (g : Polynomial) (s : Sequence) : Type 0 where
   pub monic : T (isMonicOver F g)
   pub annihilates : AnnihilatesEndless F g s
-  pub smallest : (h : Polynomial) → T (isMonicOver F h) → AnnihilatesEndless F h s → h ≢ g → degree g < degree h
+  pub smallest : (h : Polynomial)
+      → T (isMonicOver F h)
+      → AnnihilatesEndless F h s
+      → h ≢ g
+      → degree g < degree h
 
 pub record LeastPower (F : Field) (f : Polynomial) (s : Sequence) (r : ℕ) : Type 0 where
   pub annihilates : AnnihilatesEndless F (power F f r) s

@@ -1,5 +1,5 @@
--- `levels::level_dividing` meets its contract. The invariant: n is power·rest, and `power` is p^exponent. The measure
--- is the rest. Assumes nothing.
+-- `levels::level_dividing` meets its contract. The invariant: n is power·rest, and `power` is p^exponent. The
+-- measure is the rest. Assumes nothing.
 use native.Mathlib.Omega.{arith}
 use Rattle.levels.proofs.Climbing.{Splitting, splitting-none, splitting-more, splitting-end}
 use Rattle.levels.proofs.Climbing.{splitting-low, splitting-exponent, splitting-falls, product-small}

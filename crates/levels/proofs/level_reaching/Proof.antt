@@ -1,9 +1,9 @@
--- `levels::level_reaching` meets its contract. The invariant: `power` is p^exponent, and the power before it is less
--- than r. The measure is how much is missing to r. Assumes nothing.
+-- `levels::level_reaching` meets its contract. The invariant: `power` is p^exponent, and the power before it
+-- is less than r. The measure is how much is missing to r. Assumes nothing.
 use Prim.Native.Nat.{_-_, _<_}
 use native.Mathlib.Omega.{arith}
-use Rattle.levels.proofs.Climbing.{Climbing, climbing-none, climbing-more, climbing-end, climbing-exponent}
-use Rattle.levels.proofs.Climbing.{climbing-rises, product-small}
+use Rattle.levels.proofs.Climbing.{Climbing, climbing-none, climbing-more, climbing-end}
+use Rattle.levels.proofs.Climbing.{climbing-exponent, climbing-rises, product-small}
 use Rattle.levels.proofs.level_reaching.Statement.{statement}
 use Rattle.levels.proofs.level_reaching.Tie as tie
 

@@ -5,7 +5,8 @@ use borrow.Author.Needs.{needs}
 use Rattle.bridge.proofs.Searches.{true-T}
 use Rattle.bridge.proofs.RepeatBounds.{repeatBound-zero, repeatBound-x}
 use Rattle.arith.specs.Represented.{fieldOf}
-use Rattle.levels.proofs.Bounds.{size-base, power-few, power-fits, power-positive, bound-is, bound-fits}
+use Rattle.levels.proofs.Bounds.{size-base, power-few, power-fits, power-positive, bound-is}
+use Rattle.levels.proofs.Bounds.{bound-fits}
 use Rattle.levels.proofs.repeat_bound.Statement.{statement}
 use Rattle.levels.proofs.repeat_bound.Tie as tie
 
@@ -29,8 +30,11 @@ cast-p c = search needs
 level-reaching-requires : tie.Need-level-reaching-requires
 unfolding fieldOf
 level-reaching-requires c κs =
-    let s = c .before .before .before .before .before in
-    (size-base (s .pre .0), power-few (size-base (s .pre .0)) (s .args .f .now) (s .pre .1 .0 .0) (s .pre .1 .0 .1) (s .args .r) (s .pre .1 .1))
+    let s = c .before .before .before .before .before in (
+      size-base (s .pre .0),
+      power-few (size-base (s .pre .0)) (s .args .f .now) (s .pre .1 .0 .0) (s .pre .1 .0 .1) (s .args .r)
+          (s .pre .1 .1),
+    )
 
 sub-power : tie.Need-sub-power
 sub-power c = search needs
@@ -38,14 +42,17 @@ sub-power c = search needs
 power-requires : tie.Need-power-requires
 unfolding fieldOf
 power-requires c κs =
-    let s = c .before .before .before .before .before .before in
-    (omega (arith, size-base (s .pre .0) .low), power-fits (size-base (s .pre .0)) (s .args .f .now) (s .pre .1 .0 .0) (s .pre .1 .0 .1))
+    let s = c .before .before .before .before .before .before in (
+      omega (arith, size-base (s .pre .0) .low),
+      power-fits (size-base (s .pre .0)) (s .args .f .now) (s .pre .1 .0 .0) (s .pre .1 .0 .1),
+    )
 
 sub-result : tie.Need-sub-result
 unfolding fieldOf
 sub-result c =
     let s = c .before .before .before .before .before .before .before in
-    rw (c .power .ensures) (power-positive (size-base (s .pre .0)) (s .args .f .now) (s .pre .1 .0 .0) (s .pre .1 .0 .1))
+    rw (c .power .ensures)
+    (power-positive (size-base (s .pre .0)) (s .args .f .now) (s .pre .1 .0 .0) (s .pre .1 .0 .1))
 
 mul-result : tie.Need-mul-result
 unfolding fieldOf
@@ -54,7 +61,8 @@ mul-result c =
     rw (c .before .level-reaching .ensures .isLevel, c .power .ensures)
     (record {
       fits =
-          bound-fits (size-base (s .pre .0)) (s .args .f .now) (s .pre .1 .0 .0) (s .pre .1 .0 .1) (s .pre .1 .1) (omega arith)
+          bound-fits (size-base (s .pre .0)) (s .args .f .now) (s .pre .1 .0 .0) (s .pre .1 .0 .1)
+          (s .pre .1 .1) (omega arith)
           (sym (c .before .before .before .before .is-x .ensures) ∙ c .before .before .before .if2 .left)
           (c .before .level-reaching .ensures .least);
     })
@@ -64,7 +72,8 @@ unfolding fieldOf
 returns-3 c =
     let s = c .before .before .before .before .before .before .before in
     rw (c .before .level-reaching .ensures .isLevel, c .power .ensures)
-    (bound-is (size-base (s .pre .0)) (s .args .f .now) (s .pre .1 .0 .0) (s .pre .1 .0 .1) (s .pre .1 .1) (omega arith)
+    (bound-is (size-base (s .pre .0)) (s .args .f .now) (s .pre .1 .0 .0) (s .pre .1 .0 .1) (s .pre .1 .1)
+    (omega arith)
     (sym (c .before .before .before .before .is-x .ensures) ∙ c .before .before .before .if2 .left)
     (c .before .level-reaching .ensures .least))
 
