@@ -1,5 +1,5 @@
-// The conditions on a factor as a file writes it, by the bytes of its record's body: its degree, two bytes of its upper
-// power, and its coefficients.
+// The conditions on a factor as a file writes it, by the bytes of its record's body: its degree, two bytes of
+// its upper power, and its coefficients.
 use crate::lists::largest;
 use crate::lists::term_out_of_field;
 use crate::numbers::degree_out_of_range;

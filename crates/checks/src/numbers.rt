@@ -13,8 +13,8 @@ pub fn count_out_of_range(n: usize) -> bool
     n == 0 || 4096 < n
 }
 
-// 7, for a continuation: the place is past a buffer of `size` bytes, or the places from there on number 0 or more
-// than 4,096.
+// 7, for a continuation: the place is past a buffer of `size` bytes, or the places from there on number 0 or
+// more than 4,096.
 pub fn place_out_of_range(size: usize, place: usize) -> bool
     ensures { λ r. ⌜ r ≡ placeOutOfRange size place ⌝ }
 {

@@ -12,7 +12,8 @@ use borrow.Author.Tests.{eq-eqb, ne-eqb}
 use lib.ListN.{length, getD, take, drop, length-drop, drop-of-length-le}
 use lib.Seq.{take-all, take-nil, drop-cons, drop-drop, drop-nil}
 use Rattle.meaning.specs.Route.{RouteRecord, lookUp, bodyLengths, bodies, endRecord}
-use Rattle.framing.specs.Framing.{orElse, bodyLength, framed, recordsFrom, recordAt, NextPlace, FoundKind}
+use Rattle.framing.specs.Framing.{orElse, bodyLength, framed, recordsFrom, recordAt, NextPlace}
+use Rattle.framing.specs.Framing.{FoundKind}
 use Rattle.framing.proofs.Lookup.{found-below}
 
 -- what is left of a body is passed over

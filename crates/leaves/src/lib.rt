@@ -1,5 +1,5 @@
-// Leaves of the arithmetic on slices, for benchmarks from another language. Where what a leaf requires does not hold,
-// the answer is 0, and all bytes stay as they were.
+// Leaves of the arithmetic on slices, for benchmarks from another language. Where what a leaf requires does
+// not hold, the answer is 0, and all bytes stay as they were.
 use arith::GaloisField;
 use arith::prime_in_range;
 ghost use mathlib.Core.Path.{_≡_};
@@ -38,7 +38,8 @@ pub extern "C" fn leaf_dot(p: u64, c: &[u8], s: &[u8]) -> u8
 // The update a + c·b of a modulo p, as far as b goes.
 #[no_mangle]
 pub extern "C" fn leaf_update(p: u64, a: &mut [u8], c: u8, b: &[u8])
-    ensures { λ _. ⌜ now (a .exit) ≡ whereSuited (suited p (length (now (b .entry))) (length (now (a .entry))))
+    ensures { λ _. ⌜ now (a .exit)
+        ≡ whereSuited (suited p (length (now (b .entry))) (length (now (a .entry))))
         (combined (prime p) (now (a .entry)) c (now (b .entry))) (now (a .entry)) ⌝ }
 {
     if suits(p, b.len(), a.len()) {

@@ -1,4 +1,5 @@
-// The conditions on factors in their order, once p is a prime in range: 10, 11, 12 for one factor, 9 to 13 for several.
+// The conditions on factors in their order, once p is a prime in range: 10, 11, 12 for one factor, 9 to 13
+// for several.
 use crate::Verdict;
 use checks::lists::factor_degree_out_of_range;
 use checks::lists::not_monic;

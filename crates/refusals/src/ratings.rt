@@ -12,7 +12,8 @@ ghost use mathlib.Core.Path.{_≡_};
 ghost use Rattle.meaning.specs.Result.{firstOf};
 ghost use Rattle.meaning.specs.Conditions.{named};
 ghost use Rattle.factor_checks.specs.Contents.{contents};
-ghost use Rattle.refusals.specs.Verdicts.{numberIn, powersTable, periodChecks, portionChecks, setChecks};
+ghost use Rattle.refusals.specs.Verdicts.{numberIn, powersTable, periodChecks, portionChecks};
+ghost use Rattle.refusals.specs.Verdicts.{setChecks};
 
 // What the upper powers, the number of terms and the lent bytes decide: 14, 15, 16.
 pub fn powers_verdict(

@@ -3,7 +3,8 @@
 use mathlib.Core.Path.{ap, _∙_}
 use borrow.Author.Needs.{needs}
 use Rattle.meaning.specs.Route.{factorUpper}
-use Rattle.contents.proofs.Modes.{period-count, period-upper, set-none, set-most, free-none, unsuited-unknown}
+use Rattle.contents.proofs.Modes.{period-count, period-upper, set-none, set-most, free-none}
+use Rattle.contents.proofs.Modes.{unsuited-unknown}
 use Rattle.contents.proofs.mode_unsuited.Statement.{statement}
 use Rattle.contents.proofs.mode_unsuited.Tie as tie
 
