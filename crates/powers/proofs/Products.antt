@@ -2,8 +2,8 @@
 --
 --   product-take      == the product of the first pairs, and of one more
 --   one-input, one-written == with one factor
---   Multiplying F fs rs a₀ a i n == the product of the powers of the factors before i is written into the bytes a₀, which
---                        have become a, and n is its degree
+--   Multiplying F fs rs a₀ a i n == the product of the powers of the factors before i is written into the
+--                        bytes a₀, which have become a, and n is its degree
 --
 -- Assumes nothing.
 use Prim.Native.Nat.{ℕ, zero, suc, _+_, _*_, _-_, _≤_, _<_}
@@ -20,10 +20,10 @@ use Rattle.meaning.specs.Polynomial.{Polynomial, degree, isMonicOver, times, po
 use Rattle.meaning.specs.Result.{written}
 use Rattle.meaning.specs.Conditions.{named, totalDegree}
 use Rattle.bridge.proofs.Interpretation.{IsField}
-use Rattle.bridge.proofs.Polynomials.{monic-nonempty, monic-elements, degree-length, degree-times}
+use Rattle.bridge.proofs.Polynomials.{monic-nonempty, monic-elements, degree-length}
 use Rattle.bridge.proofs.Products.{factorAt, powerAt, Nonempties, length-named, factorAt-named, powerAt-named}
-use Rattle.bridge.proofs.Products.{product-nil, product-nonempty, product-elements, product-append, product-single}
-use Rattle.bridge.proofs.Products.{degree-product, degree-power, power-nonempty, times-comm}
+use Rattle.bridge.proofs.Products.{product-nil, product-nonempty, product-elements, product-append}
+use Rattle.bridge.proofs.Products.{product-single, degree-product, degree-power, power-nonempty, times-comm}
 use Rattle.poly.specs.Product.{Raising, Multiplied}
 use Rattle.powers.specs.Writing.{ProductInput, ProductWritten, PowerInput, PowerWritten}
 use Rattle.powers.proofs.Totals.{total-take, total-part}
@@ -51,7 +51,8 @@ product-take {F} I j l k h =
     (single-nonempties (getD l j ([], 0)) (h j k))
     ∙ ap (times F (product F (take j l))) (product-single I (factorAt l j) (powerAt l j) (h j k))
     ∙ times-comm I (product F (take j l)) (power F (factorAt l j) (powerAt l j))
-    (product-nonempty I (take j l) (take-nonempties j l h)) (power-nonempty I (factorAt l j) (powerAt l j) (h j k))
+    (product-nonempty I (take j l) (take-nonempties j l h))
+    (power-nonempty I (factorAt l j) (powerAt l j) (h j k))
 
 -- Bytes that are written over
 written-first : (a : List ℕ) → 0 < length a → set a 0 1 ≡ written (1 ∷ []) a
@@ -126,7 +127,8 @@ module _ {F : Field} (I : IsField F) {fs : List Polynomial} {rs : List ℕ} (x :
         ∙ ap (take (length (firsts F fs rs i))) (y .bytes)
         ∙ written-front (firsts F fs rs i) a₀
 
-    pub multiplying-end : (b : List ℕ) → 4097 ≤ length b → a₀ ≡ set b 0 1 → length fs ≤ i → ProductWritten F fs rs b a n
+    pub multiplying-end :
+        (b : List ℕ) → 4097 ≤ length b → a₀ ≡ set b 0 1 → length fs ≤ i → ProductWritten F fs rs b a n
     multiplying-end b enough from h =
         let e : i ≡ length (named fs rs) = omega (arith, y .before, length-named fs rs) in
         let all : take i (named fs rs) ≡ named fs rs
@@ -190,7 +192,8 @@ module _ {F : Field} (I : IsField F) {fs : List Polynomial} {rs : List ℕ} (x :
                   arith,
                   z .newDegree,
                   y .degreeIs,
-                  degree-power I (getD fs i []) (getD rs i 0) (monic-nonempty F (getD fs i []) (x .monic i k)),
+                  degree-power I (getD fs i []) (getD rs i 0)
+                      (monic-nonempty F (getD fs i []) (x .monic i k)),
                   total-take (named fs rs) i place,
                   part,
                 );

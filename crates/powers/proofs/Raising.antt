@@ -1,12 +1,12 @@
 -- A power that acts in the halves of the work bytes, digit by digit.
 --
---   Raising field f u m s w₀ w at count rest q == f^(rest·q) on the `count` terms of half `at` of w is f^u on the
---                        terms s; q is a power of the size of the field, m terms are left in the end, and w₀ has
---                        become w
+--   Raising field f u m s w₀ w at count rest q == f^(rest·q) on the `count` terms of half `at` of w is f^u on
+--                        the terms s; q is a power of the size of the field, m terms are left in the end, and
+--                        w₀ has become w
 --
 -- Assumes nothing.
 use Prim.Native.Nat.{ℕ, suc, _+_, _*_, _-_, _^_, _/_, _%_, _≤_, _<_}
-use mathlib.Core.Path.{_≡_, refl, sym, ap, subst, _∙_}
+use mathlib.Core.Path.{_≡_, sym, ap, subst, _∙_}
 use mathlib.Core.Bool.{Bool}
 use mathlib.Core.List.{List}
 use native.Mathlib.Nat as ℕ
@@ -73,7 +73,8 @@ module _ (field : GaloisField) (good : WellFormed field) (f : Polynomial) (u : �
         kept = kept-same w;
       }
 
-  module _ {m : ℕ} {s w₀ w : List ℕ} {at count rest q : ℕ} (x : Raising field f u m s w₀ w at count rest q) where
+  module _ {m : ℕ} {s w₀ w : List ℕ} {at count rest q : ℕ}
+      (x : Raising field f u m s w₀ w at count rest q) where
     -- the next digit
     module _ (divides : rest % field .size ≡ 0) where
       same : rest / field .size * (q * field .size) ≡ rest * q
@@ -132,7 +133,8 @@ module _ (field : GaloisField) (good : WellFormed field) (f : Polynomial) (u : �
             result =
                 ap (actOnKnown (fieldOf field) (power (fieldOf field) f ((rest - 1) * q)))
                 (values ∙ by-power (x .level) (x .isLevel))
-                ∙ sym (actOnKnown-power-add (field-isField good) f nonempty ((rest - 1) * q) q (half w at count))
+                ∙ sym
+                (actOnKnown-power-add (field-isField good) f nonempty ((rest - 1) * q) q (half w at count))
                 ∙ ap (λ r. actOnKnown (fieldOf field) (power (fieldOf field) f r) (half w at count)) parts
                 ∙ x .result;
             size =
@@ -145,7 +147,8 @@ module _ (field : GaloisField) (good : WellFormed field) (f : Polynomial) (u : �
             kept = kept-trans (x .kept) (acted-kept (fieldOf field) f q (x .halves) y);
           }
         where
-          values : half w′ (1 - at) (count - q * degree f) ≡ strideOnKnown (fieldOf field) f q (half w at count)
+          values :
+              half w′ (1 - at) (count - q * degree f) ≡ strideOnKnown (fieldOf field) f q (half w at count)
           values = acted-values (fieldOf field) f q (x .halves) y
 
           by-power :

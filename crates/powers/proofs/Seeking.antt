@@ -1,13 +1,13 @@
 -- The search in the halves of the work bytes, level by level.
 --
---   Seeking field f e top s w₀ w at count l q r == the power of the terms s with e levels is made of r and the digits
---                        below the level l, with q = p^l, of the `count` terms of half `at` of w; r is 0 where nothing
---                        is known yet; `top` is p^e, and w₀ has become w
+--   Seeking field f e top s w₀ w at count l q r == the power of the terms s with e levels is made of r and
+--                        the digits below the level l, with q = p^l, of the `count` terms of half `at` of w;
+--                        r is 0 where nothing is known yet; `top` is p^e, and w₀ has become w
 --   Going …           == the same where something is left, so that r is at least 1
 --
 -- Assumes nothing.
 use Prim.Native.Nat.{ℕ, suc, _+_, _*_, _-_, _^_, _/_, _≤_, _<_, min}
-use mathlib.Core.Path.{_≡_, refl, sym, ap, ap₂, subst, _∙_}
+use mathlib.Core.Path.{_≡_, sym, ap, subst, _∙_}
 use mathlib.Core.List.{List}
 use native.Mathlib.Nat as ℕ
 use native.Mathlib.Omega.{arith}
@@ -22,8 +22,9 @@ use Rattle.arith.proofs.Represented.{field-isField, size-least}
 use Rattle.action.specs.Halves.{half, Halves}
 use Rattle.powers.specs.Searching.{Kept}
 use Rattle.powers.proofs.Bytes.{half-cut, kept-same, kept-trans}
-use Rattle.powers.proofs.Trying.{Tried, tried-low, resumed, resumed-start, resumed-zeros, resumed-first}
-use Rattle.powers.proofs.Trying.{resumed-later, resumed-none, resumed-level, level-down, level-parts}
+use Rattle.powers.proofs.Trying.{Tried, tried-low, resumed, resumed-start, resumed-zeros}
+use Rattle.powers.proofs.Trying.{resumed-first, resumed-later, resumed-none, resumed-level, level-down}
+use Rattle.powers.proofs.Trying.{level-parts}
 
 abbrev pub stepOf : GaloisField → Polynomial → ℕ → List ℕ → List ℕ
 stepOf field f = strideOnKnown (fieldOf field) f
@@ -133,13 +134,15 @@ module _
             ℕ.div-le-of-le-mul (field .size) (omega (arith, x .bound, ℕ.mul-comm 4096 (field .size)))
 
         module _ {w′ : List ℕ} {at′ count′ i : ℕ} (halves : Halves w′ at′ count′) (kept : Kept w w′)
-            (tried : Tried (stepOf field f) (field .size - 1) (q / field .size) (half w at count) i (half w′ at′ count′)) where
+            (tried :
+            Tried (stepOf field f) (field .size - 1) (q / field .size) (half w at count) i
+            (half w′ at′ count′)) where
           pub going-fits : r + i * (q / field .size) + q / field .size ≤ r + q
           going-fits = omega (arith, parts, ℕ.mul-le-mul-right (q / field .size) (tried-low tried))
 
           pub going-next :
-              Seeking field f e top s w₀ w′ at′ (min count′ (q / field .size * degree f)) (l - 1) (q / field .size)
-              (r + i * (q / field .size))
+              Seeking field f e top s w₀ w′ at′ (min count′ (q / field .size * degree f)) (l - 1)
+              (q / field .size) (r + i * (q / field .size))
           going-next =
               record {
                 halves =

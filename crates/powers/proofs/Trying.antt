@@ -1,14 +1,14 @@
 -- The search for one digit, try by try, and the levels one after the other, on lists.
 --
---   Trying step c q s i t == i steps of s have left t, which is not all 0 if s was not: the digit of s is i and the
---                        digit of t, tried c − i times
+--   Trying step c q s i t == i steps of s have left t, which is not all 0 if s was not: the digit of s is i
+--                        and the digit of t, tried c − i times
 --   Tried step c q s i t  == i is the digit of s, and t what is left
---   resumed step p d r l s == the power that r and the digits below the level l of s make: r is 0 where nothing is
---                        known of s yet, else r is at least 1 and s is what the digits in r left
+--   resumed step p d r l s == the power that r and the digits below the level l of s make: r is 0 where
+--                        nothing is known of s yet, else r is at least 1 and s is what the digits in r left
 --
 -- Assumes nothing.
 use Prim.Native.Nat.{ℕ, zero, suc, _+_, _*_, _-_, _^_, _/_, _≤_, _<_}
-use mathlib.Core.Path.{_≡_, refl, sym, ap, ap₂, subst, _∙_}
+use mathlib.Core.Path.{_≡_, refl, sym, ap, ap₂, _∙_}
 use mathlib.Core.List.{List}
 use native.Mathlib.Nat as ℕ
 use native.Mathlib.Omega.{arith}

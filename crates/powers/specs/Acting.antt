@@ -1,8 +1,9 @@
 -- What the contract of a power that acts cites.
 --
---   Actable field w h n f u == the n terms of half h of w are elements of the field, f is a polynomial over it, not
---                        empty, and f^u has a degree of at most n, u at most 4,096
---   PowerActed field w h n f u w′ r == the action of f^u on these terms is the terms at the place r of w′, w has become w′
+--   Actable field w h n f u == the n terms of half h of w are elements of the field, f is a polynomial over
+--                        it, not empty, and f^u has a degree of at most n, u at most 4,096
+--   PowerActed field w h n f u w′ r == the action of f^u on these terms is the terms at the place r of w′, w
+--                        has become w′
 use Prim.Native.Nat.{ℕ, _*_, _-_, _≤_, _<_}
 use mathlib.Core.Path.{_≡_}
 use mathlib.Core.List.{List}
@@ -14,7 +15,7 @@ use Rattle.meaning.specs.Sequence.{actOnKnown}
 use Rattle.arith.specs.declared.field.GaloisField.{GaloisField}
 use Rattle.arith.specs.Represented.{fieldOf}
 use Rattle.powers.specs.declared.acting.Place.{Place}
-use Rattle.action.specs.Halves.{Halves, half}
+use Rattle.action.specs.Halves.{half}
 use Rattle.powers.specs.Searching.{Kept}
 
 pub record Actable (field : GaloisField) (w : List ℕ) (h n : ℕ) (f : Polynomial) (u : ℕ) : Type 0 where
@@ -25,9 +26,10 @@ pub record Actable (field : GaloisField) (w : List ℕ) (h n : ℕ) (f : Polynom
   pub few : u ≤ 4096
   pub enough : u * degree f ≤ n
 
-pub record PowerActed (field : GaloisField) (w : List ℕ) (h n : ℕ) (f : Polynomial) (u : ℕ) (w′ : List ℕ) (r : Place)
-    : Type 0 where
-  pub values : half w′ (r .half) (r .count) ≡ actOnKnown (fieldOf field) (power (fieldOf field) f u) (half w h n)
+pub record PowerActed (field : GaloisField) (w : List ℕ) (h n : ℕ) (f : Polynomial) (u : ℕ) (w′ : List ℕ)
+    (r : Place) : Type 0 where
+  pub values :
+      half w′ (r .half) (r .count) ≡ actOnKnown (fieldOf field) (power (fieldOf field) f u) (half w h n)
   pub which : r .half ≤ 1
   pub size : r .count ≡ n - u * degree f
   pub kept : Kept w w′

@@ -1,10 +1,11 @@
 -- What the contract of the search cites.
 --
---   Kept w w′         == the work bytes w have become w′ of the same length, and those beyond the halves are as they were
---   Searchable field f level == f is not empty, the level is a power of the size p of the field, and they are small:
---                        level ≤ 4,096·p, so that every stride p^l below the level is at most 4,096
---   Searched field w h n f level w′ r == r is what the search in the digits below the level finds for the n terms of
---                        half h of w, and w has become w′
+--   Kept w w′         == the work bytes w have become w′ of the same length, and those beyond the halves are
+--                        as they were
+--   Searchable field f level == f is not empty, the level is a power of the size p of the field, and they are
+--                        small: level ≤ 4,096·p, so that every stride p^l below the level is at most 4,096
+--   Searched field w h n f level w′ r == r is what the search in the digits below the level finds for the n
+--                        terms of half h of w, and w has become w′
 use Prim.Native.Nat.{ℕ, _*_, _≤_, _<_}
 use mathlib.Core.Path.{_≡_}
 use mathlib.Core.List.{List}
@@ -28,8 +29,8 @@ pub record Searchable (field : GaloisField) (f : Polynomial) (level : Level) : T
   pub isLevel : IsLevel (field .size) level
   pub near : level .power ≤ 4096 * field .size
 
-pub record Searched (field : GaloisField) (w : List ℕ) (h n : ℕ) (f : Polynomial) (level : Level) (w′ : List ℕ) (r : ℕ)
-    : Type 0 where
+pub record Searched (field : GaloisField) (w : List ℕ) (h n : ℕ) (f : Polynomial) (level : Level)
+    (w′ : List ℕ) (r : ℕ) : Type 0 where
   pub power :
       r
       ≡ powerFound (strideOnKnown (fieldOf field) f) (field .size) (degree f) (level .exponent) (half w h n)

@@ -1,8 +1,9 @@
 -- What the contracts of the products cite. fs are the factors, rs their powers.
 --
---   ProductInput F fs rs == the factors are monic over F and of positive degree, each has a power, and the product of
---                        the powers has a degree of at most 4,096
---   ProductWritten F fs rs a a′ n == the product of the powers is written into the answer bytes a, and n is its degree
+--   ProductInput F fs rs == the factors are monic over F and of positive degree, each has a power, and the
+--                        product of the powers has a degree of at most 4,096
+--   ProductWritten F fs rs a a′ n == the product of the powers is written into the answer bytes a, and n is
+--                        its degree
 --   PowerInput F f r, PowerWritten F f r a a′ n == the same of one power
 use Prim.Native.Nat.{ℕ, _*_, _≤_, _<_}
 use mathlib.Core.Path.{_≡_}

@@ -18,7 +18,6 @@ use native.Mathlib.Nat as ℕ
 use native.Mathlib.Omega.{arith}
 use lib.ListN.{length, getD, take, drop, replicate, List·getD-append}
 use lib.Seq.{take-take, length-take-le}
-use lib.Dec.{T}
 use Rattle.meaning.specs.Search.{range, mapOption, together, least}
 use Rattle.meaning.specs.Field.{Field}
 use Rattle.meaning.specs.Polynomial.{Polynomial, product}
@@ -27,9 +26,9 @@ use Rattle.meaning.specs.Result.{cleared}
 use Rattle.meaning.specs.Conditions.{named, totalDegree}
 use Rattle.meaning.specs.Portion.{withPower, leastAt, setPowers}
 use Rattle.meaning.specs.Answers.{padded}
-use Rattle.bridge.proofs.Searches.{mapOption-some, some-mapOption}
+use Rattle.bridge.proofs.Searches.{mapOption-some}
 use Rattle.bridge.proofs.Interpretation.{IsField}
-use Rattle.bridge.proofs.Products.{Nonempties, monics-nonempty, length-named}
+use Rattle.bridge.proofs.Products.{Nonempties, monics-nonempty}
 use Rattle.bridge.proofs.Continuations.{take-elements}
 use Rattle.bridge.proofs.Portions.{setPowers-exists, setPowers-places}
 use Rattle.factor_checks.proofs.Uppers.{total-known}
@@ -134,7 +133,9 @@ module _ {F : Field} {fs : List Polynomial} {us ts : List ℕ} (x : SetInput F f
   unfolding toldPowers mapOption
   found-nothing powers decided h =
       record {
-        powers = sym (ap (mapOption padded) (powersFound-none F (named fs us) ts (sym (decided .annihilated) ∙ h)));
+        powers =
+            sym
+            (ap (mapOption padded) (powersFound-none F (named fs us) ts (sym (decided .annihilated) ∙ h)));
         kept = decided .kept;
       }
 

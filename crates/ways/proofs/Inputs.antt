@@ -1,19 +1,18 @@
 -- Accepted factors with their upper powers: what holds of each of them, and the total degree along the list.
 --
 --   total-without     == without one factor it is not larger
---   input-…           == what accepted input says of factor i: it has an upper power other than 0, both are small,
---                        and the powers times the degrees are within the total degree
+--   input-…           == what accepted input says of factor i: it has an upper power other than 0, both are
+--                        small, and the powers times the degrees are within the total degree
 --
 -- Assumes nothing.
-use Prim.Native.Nat.{ℕ, zero, suc, _+_, _*_, _-_, _≤_, _<_}
-use mathlib.Core.Path.{_≡_, refl, sym, ap, subst, _∙_}
+use Prim.Native.Nat.{ℕ, _*_, _≤_, _<_}
+use mathlib.Core.Path.{_≡_, sym, ap, subst, _∙_}
 use mathlib.Core.Logic.{_≢_}
-use mathlib.Core.Bool.{false}
-use mathlib.Core.List.{List, [], _∷_}
+use mathlib.Core.List.{List, []}
 use native.Mathlib.Nat as ℕ
 use native.Mathlib.Decide.{decLt}
 use native.Mathlib.Omega.{arith}
-use lib.ListN.{length, getD, take, List·getD-eq-default}
+use lib.ListN.{length, getD, List·getD-eq-default}
 use lib.Seq.{set-out}
 use lib.Dec.{T, eqb, ltb, nltb→le, not-T}
 use borrow.Author.Tests.{eq-eqb}
@@ -23,7 +22,8 @@ use Rattle.meaning.specs.Polynomial.{Polynomial, degree, isMonicOver}
 use Rattle.meaning.specs.Conditions.{named, totalDegree, upperPowersOutOfRange}
 use Rattle.meaning.specs.Portion.{withPower}
 use Rattle.bridge.proofs.Searches.{or-false, true-T, false-T, none-member, getD-member}
-use Rattle.bridge.proofs.Products.{factorAt, powerAt, MonicFactors, length-named, factorAt-named, powerAt-named}
+use Rattle.bridge.proofs.Products.{factorAt, powerAt, MonicFactors, length-named, factorAt-named}
+use Rattle.bridge.proofs.Products.{powerAt-named}
 use Rattle.bridge.proofs.Portions.{degree-others}
 use Rattle.powers.proofs.Totals.{total-part}
 use Rattle.ways.specs.Portion.{SetInput}

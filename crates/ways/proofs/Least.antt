@@ -2,24 +2,24 @@
 --
 --   loaded-set        == accepted terms that were loaded are accepted where they stand
 --   decided-set       == the action of all upper powers says whether the product annihilates
---   power-found       == what the search finds in what the others leave of the first D terms is the power of factor i
+--   power-found       == what the search finds in what the others leave of the first D terms is the power of
+--                        factor i
 --
 -- Assumes nothing.
-use Prim.Native.Nat.{ℕ, suc, _+_, _*_, _-_, _^_, _≤_, _<_}
-use mathlib.Core.Path.{_≡_, refl, sym, ap, subst, _∙_}
+use Prim.Native.Nat.{ℕ, _+_, _*_, _-_, _^_, _≤_, _<_}
+use mathlib.Core.Path.{_≡_, sym, ap, subst, _∙_}
 use mathlib.Core.Bool.{Bool}
 use mathlib.Core.List.{List, [], _++_}
 use mathlib.Core.Option.{Option, some, Option·some-injective}
 use native.Mathlib.Nat as ℕ
 use native.Mathlib.Decide.{decLt}
 use native.Mathlib.Omega.{arith}
-use lib.ListN.{length, getD, take, drop, set, replicate, length-append, length-replicate, length-set, getD-replicate}
-use lib.ListN.{List·getD-append}
+use lib.ListN.{length, getD, take, drop, set, replicate, length-append, length-replicate, length-set}
+use lib.ListN.{getD-replicate, List·getD-append}
 use lib.Seq.{take-all, ext-getD, getD-append-add, getD-set-same, getD-set-other}
-use lib.Dec.{T}
 use Rattle.meaning.specs.Field.{Field}
 use Rattle.meaning.specs.Polynomial.{Polynomial, degree, product}
-use Rattle.meaning.specs.Sequence.{actOnKnown, annihilatesKnown}
+use Rattle.meaning.specs.Sequence.{actOnKnown}
 use Rattle.meaning.specs.Conditions.{named, totalDegree}
 use Rattle.meaning.specs.Portion.{withPower, leastAt}
 use Rattle.meaning.specs.Answers.{padded}
@@ -45,7 +45,8 @@ use Rattle.ways.specs.Portion.{SetInput, OthersActed, PowerFoundAt, SetD
 use Rattle.ways.proofs.Inputs.{without-none, input-monics, input-nonzero, input-few, input-short}
 
 -- Terms that were loaded
-module _ {F : Field} {fs : List Polynomial} {us ts w : List ℕ} (x : SetInput F fs us ts) (enough : 8192 ≤ length w) where
+module _ {F : Field} {fs : List Polynomial} {us ts w : List ℕ} (x : SetInput F fs us ts)
+    (enough : 8192 ≤ length w) where
   pub set-halves : Halves w 0 (length ts)
   set-halves = record { enough = enough; which = omega arith; few = x .notMany }
 
@@ -76,7 +77,8 @@ module _ {F : Field} {fs : List Polynomial} {us ts w : List ℕ} (x : SetInput F
           record {
             annihilated =
                 e
-                ∙ ap allZero (lent-half w₂ (r .half) (r .count) ∙ acted .values ∙ ap (actOnKnown F _) (loaded .made))
+                ∙ ap allZero
+                (lent-half w₂ (r .half) (r .count) ∙ acted .values ∙ ap (actOnKnown F _) (loaded .made))
                 ∙ ap (λ l. allZero (actOnKnown F (product F l) ts))
                 (without-none i 0 (named fs us) (omega (arith, length-named fs us)))
                 ∙ sym (annihilatesKnown-all F (product F (named fs us)) ts);
@@ -116,7 +118,8 @@ module _
     least =
         prime-leastAt (field .size) (field-isField good) (named fs us) ts i (input-monics x)
         (omega (arith, length-named fs us)) (level .exponent)
-        (subst (λ n. n ≤ field .size ^ level .exponent) (sym (powerAt-named fs us i k)) (reaching .least .reaches))
+        (subst (λ n. n ≤ field .size ^ level .exponent) (sym (powerAt-named fs us i k))
+        (reaching .least .reaches))
 
     pub power-found :
         {w w₁ w₂ w₃ : List ℕ} {place : Place} {r : ℕ}
@@ -207,11 +210,15 @@ module _ {F : Field} {fs : List Polynomial} {us ts w₀ w powers : List ℕ} {i 
         size = length-set powers i r ∙ y .size;
         before = omega arith;
         found = λ j l. elim (decLt j i) [
-          | yes h ↦ y .found j h ∙ ap {B = Option ℕ} some (sym (getD-set-other powers i j r 0 (λ e. omega arith)))
+          | yes h ↦
+              y .found j h
+              ∙ ap {B = Option ℕ} some (sym (getD-set-other powers i j r 0 (λ e. omega arith)))
           | no h ↦
               let e : i ≡ j = omega arith in
               subst (λ n. leastAt F (named fs us) ts n ≡ some (getD (set powers i r) n 0)) e
-              (z .power ∙ ap {B = Option ℕ} some (sym (getD-set-same powers i r 0 (omega (arith, y .size, x .eight)))))
+              (z .power
+              ∙ ap {B = Option ℕ} some
+              (sym (getD-set-same powers i r 0 (omega (arith, y .size, x .eight)))))
         ];
         rest = λ j l. getD-set-other powers i j r 0 (λ e. omega arith) ∙ y .rest j (omega arith);
         kept = kept-trans (y .kept) (z .kept);
@@ -220,7 +227,8 @@ module _ {F : Field} {fs : List Polynomial} {us ts w₀ w powers : List ℕ} {i 
   pub gathering-end : IsField F → length fs ≤ i → PowersSearched F fs us ts w₀ w powers
   gathering-end I h =
       let (rs, e) = setPowers-exists I (named fs us) (monics-nonempty F (named fs us) (input-monics x)) ts in
-      let (size, places) = setPowers-places I (named fs us) (monics-nonempty F (named fs us) (input-monics x)) ts e in
+      let (size, places) =
+      setPowers-places I (named fs us) (monics-nonempty F (named fs us) (input-monics x)) ts e in
       let n : length rs ≡ length fs = size ∙ length-named fs us in
       record {
         powers =

@@ -1,11 +1,12 @@
 -- The upper powers of the factors, but for one, acting one after the other in the halves of the work bytes.
 --
---   Passing field fs us skip s w₀ w at count j == what the upper powers of the factors before place j, but for that to
---                        skip, leave of the terms s is the `count` terms of half `at` of w; w₀ has become w
+--   Passing field fs us skip s w₀ w at count j == what the upper powers of the factors before place j, but
+--                        for that to skip, leave of the terms s is the `count` terms of half `at` of w; w₀
+--                        has become w
 --
 -- Assumes nothing.
 use Prim.Native.Nat.{ℕ, suc, _+_, _*_, _-_, _≤_, _<_}
-use mathlib.Core.Path.{_≡_, refl, sym, ap, subst, _∙_}
+use mathlib.Core.Path.{_≡_, sym, ap, subst, _∙_}
 use mathlib.Core.Logic.{_≢_}
 use mathlib.Core.List.{List, []}
 use native.Mathlib.Nat as ℕ
@@ -21,8 +22,8 @@ use Rattle.meaning.specs.Conditions.{named, totalDegree}
 use Rattle.meaning.specs.Portion.{withPower}
 use Rattle.bridge.proofs.Polynomials.{monic-nonempty, monic-elements}
 use Rattle.bridge.proofs.KnownActions.{actOnKnown-elements}
-use Rattle.bridge.proofs.Products.{factorAt, powerAt, Nonempties, monics-nonempty, length-named, factorAt-named}
-use Rattle.bridge.proofs.Products.{powerAt-named, length-withPower, factorAt-withPower}
+use Rattle.bridge.proofs.Products.{factorAt, powerAt, Nonempties, monics-nonempty, length-named}
+use Rattle.bridge.proofs.Products.{factorAt-named, powerAt-named, length-withPower, factorAt-withPower}
 use Rattle.bridge.proofs.Portions.{othersActed, othersActed-zero, othersActed-other, othersActed-own}
 use Rattle.bridge.proofs.Portions.{othersActed-all, powerAt-own, powerAt-other}
 use Rattle.arith.specs.declared.field.GaloisField.{GaloisField}
@@ -135,7 +136,8 @@ module _
                 before = omega arith;
                 values =
                     z .values
-                    ∙ ap (actOnKnown (fieldOf field) (power (fieldOf field) (getD fs j []) (getD us j 0))) (y .values)
+                    ∙ ap (actOnKnown (fieldOf field) (power (fieldOf field) (getD fs j []) (getD us j 0)))
+                    (y .values)
                     ∙ ap
                     (λ f.
                     actOnKnown (fieldOf field) (power (fieldOf field) f (getD us j 0))
@@ -170,7 +172,9 @@ module _
               values =
                   y .values
                   ∙ ap (λ n. othersActed (fieldOf field) l skip n s) e
-                  ∙ sym (othersActed-own (field-isField good) l nonempties skip s (subst (λ n. n < length l) e place))
+                  ∙ sym
+                  (othersActed-own (field-isField good) l nonempties skip s
+                  (subst (λ n. n < length l) e place))
                   ∙ ap (λ n. othersActed (fieldOf field) l skip n s) (ap suc (sym e) ∙ sym (add-one j));
               size =
                   let z : powerAt others j ≡ 0
@@ -179,7 +183,9 @@ module _
                   = next-total
                   ∙ ap (λ n. totalDegree (take j others) + n * degree (getD fs j [])) z
                   ∙ omega (arith, ℕ.zero-mul (degree (getD fs j []))) in
-                  y .size ∙ ap (_-_ (length s)) (sym t) ∙ ap (λ n. length s - totalDegree (take n others)) (sym (add-one j));
+                  y .size
+                  ∙ ap (_-_ (length s)) (sym t)
+                  ∙ ap (λ n. length s - totalDegree (take n others)) (sym (add-one j));
               kept = y .kept;
             }
 

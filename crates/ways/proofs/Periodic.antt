@@ -1,5 +1,5 @@
--- The period way: what the action of f^(p^w) on the period says, and what the search in its first terms finds.
--- Assumes nothing.
+-- The period way: what the action of f^(p^w) on the period says, and what the search in its first terms
+-- finds. Assumes nothing.
 use Prim.Native.Nat.{ℕ, _*_, _-_, _^_, _≤_, _<_, min}
 use mathlib.Core.Path.{_≡_, sym, ap, subst, _∙_}
 use mathlib.Core.Bool.{Bool, true, false, not}
@@ -8,14 +8,12 @@ use mathlib.Core.Option.{Option, none, some}
 use native.Mathlib.Nat as ℕ
 use native.Mathlib.Omega.{arith}
 use lib.ListN.{length, take}
-use lib.Dec.{T}
-use Rattle.meaning.specs.Search.{isNone}
 use Rattle.meaning.specs.Field.{Field}
 use Rattle.meaning.specs.Polynomial.{Polynomial, degree, power}
 use Rattle.meaning.specs.Sequence.{annihilatesPeriod}
 use Rattle.meaning.specs.Result.{cleared}
 use Rattle.meaning.specs.Period.{periodPower}
-use Rattle.bridge.proofs.Searches.{T-false, true-T, isNone-none}
+use Rattle.bridge.proofs.Searches.{true-T, isNone-none}
 use Rattle.bridge.proofs.Polynomials.{monic-nonempty, monic-elements}
 use Rattle.bridge.proofs.KnownActions.{allZero, strideOnKnown, strideOnPeriod, prime-annihilatesPeriod}
 use Rattle.bridge.proofs.PowerSearch.{powerFound}
@@ -43,7 +41,8 @@ dividing-low {p} {n} {level} l x =
 
 -- Answers on lists
 module _ {field : GaloisField} (good : WellFormed field) (f : Polynomial) (ts : List ℕ)
-    (x : PeriodInput (fieldOf field) f ts) (level : Level) (l : Dividing (field .size) (length ts) level) where
+    (x : PeriodInput (fieldOf field) f ts) (level : Level)
+    (l : Dividing (field .size) (length ts) level) where
   found : PeriodSearch (fieldOf field) f ts (strideOnKnown (fieldOf field) f) (field .size) (level .exponent)
   unfolding fieldOf
   found =
@@ -84,7 +83,8 @@ module _ {field : GaloisField} (good : WellFormed field) (f : Polynomial) (ts : 
 
 -- Answers in the work bytes
 module _
-    {field : GaloisField} (good : WellFormed field) (f : Polynomial) {w : List ℕ} {n : ℕ} (halves : Halves w 0 n)
+    {field : GaloisField} (good : WellFormed field) (f : Polynomial) {w : List ℕ} {n : ℕ}
+    (halves : Halves w 0 n)
     (x : PeriodInput (fieldOf field) f (half w 0 n)) (level : Level) (l : Dividing (field .size) n level)
   where
     pub period-terms : 0 < n

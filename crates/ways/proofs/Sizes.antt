@@ -6,7 +6,7 @@
 --   set-product       == the powers of a set can be written as a product
 --
 -- Assumes nothing.
-use Prim.Native.Nat.{ℕ, zero, suc, _+_, _*_, _-_, _^_, _≤_, _<_}
+use Prim.Native.Nat.{ℕ, suc, _*_, _-_, _^_, _≤_, _<_}
 use mathlib.Core.Path.{_≡_, refl, sym, ap, _∙_}
 use mathlib.Core.List.{List, [], _∷_, _++_}
 use mathlib.Core.Option.{some, Option·some-injective}
@@ -25,7 +25,8 @@ use Rattle.meaning.specs.Answers.{padded}
 use Rattle.bridge.proofs.Searches.{T-decided, not-false}
 use Rattle.bridge.proofs.Interpretation.{IsField, prime-pos}
 use Rattle.bridge.proofs.KnownActions.{allZero}
-use Rattle.bridge.proofs.PowerSearch.{powerFound, powerFound-zeros, powerFound-digits, digitsFound-below, act-steps}
+use Rattle.bridge.proofs.PowerSearch.{powerFound, powerFound-zeros, powerFound-digits, digitsFound-below}
+use Rattle.bridge.proofs.PowerSearch.{act-steps}
 use Rattle.bridge.proofs.Products.{Nonempties, monics-nonempty, length-named, powerAt-named}
 use Rattle.bridge.proofs.Portions.{leastAt-exists, setPowers-places}
 use Rattle.bridge.proofs.Periods.{PeriodSearch, period-search, periodPower-zeros, valuation}
@@ -63,7 +64,8 @@ module _ {F : Field} (I : IsField F) {f : Polynomial} {ts : List ℕ} (x : Perio
       low : r ≤ F .characteristic ^ w
       low =
           let v = Option·some-injective r _ (sym e ∙ found .finds whole) in
-          let h = found-below step (F .characteristic) (degree f) w (take (F .characteristic ^ w * degree f) ts)
+          let h =
+          found-below step (F .characteristic) (degree f) w (take (F .characteristic ^ w * degree f) ts)
           (prime-pos (I .characteristic .prime)) in
           omega arith
 
@@ -133,7 +135,8 @@ module _ {F : Field} (I : IsField F) {fs : List Polynomial} {us ts : List ℕ} (
         let (r, h, b, _) = leastAt-exists I (named fs us) nonempties ts i in
         let v : getD rs i 0 ≡ r
         = Option·some-injective (getD rs i 0) r
-        (sym (setPowers-places I (named fs us) nonempties ts e .1 i (omega (arith, length-named fs us))) ∙ h) in
+        (sym (setPowers-places I (named fs us) nonempties ts e .1 i (omega (arith, length-named fs us)))
+        ∙ h) in
         omega (arith, powerAt-named fs us i k)
 
     pub set-product : ProductInput F fs (padded rs)

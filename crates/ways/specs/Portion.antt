@@ -1,19 +1,21 @@
 -- What the contracts of the set way and of the portion way cite. fs are the factors, us their upper powers.
 --
---   SetInput F fs us ts == accepted input: one to eight different irreducible factors of positive degree, upper powers
---                        that 14 lets pass, and at least as many terms as their total degree, at most 4,096 elements
---                        of F
---   OthersActed F fs us skip n w w′ r == the upper powers of all factors but that at the place `skip` act on the n
---                        terms of half 0 of w, and the values are the terms at the place r of w′
---   PowerFoundAt F fs us ts i w w′ r == r is the least power of factor i with the others to their upper powers
+--   SetInput F fs us ts == accepted input: one to eight different irreducible factors of positive degree,
+--                        upper powers that 14 lets pass, and at least as many terms as their total degree, at
+--                        most 4,096 elements of F
+--   OthersActed F fs us skip n w w′ r == the upper powers of all factors but that at the place `skip` act on
+--                        the n terms of half 0 of w, and the values are the terms at the place r of w′
+--   PowerFoundAt F fs us ts i w w′ r == r is the least power of factor i with the others to their upper
+--                        powers
 --   SetDecided F fs us ts w w′ r == r says whether the product of the upper powers annihilates the terms
 --   PowersSearched F fs us ts w w′ r == r has the powers of the factors in eight places
 --   powersFound F l ts == the powers of the pairs l where their product annihilates the terms, else none
 --   toldPowers r      == the powers in eight places that an answer tells, or none
---   SetSearched, SetFound F fs us ts w w′ r == r tells the powers that are found; the first 8,192 work bytes are 0
+--   SetSearched, SetFound F fs us ts w w′ r == r tells the powers that are found; the first 8,192 work bytes
+--                        are 0
 --   portionFound F f v ts == the power of one factor, none where f^v does not annihilate the terms
 --   PortionFound F f v ts w w′ r == r tells it, and the first 8,192 work bytes are 0
-use Prim.Native.Nat.{ℕ, _-_, _≤_, _<_}
+use Prim.Native.Nat.{ℕ, _-_, _≤_}
 use mathlib.Core.Path.{_≡_}
 use mathlib.Core.Bool.{Bool, true, false}
 use mathlib.Core.List.{List, [], _∷_}
@@ -44,8 +46,8 @@ pub record SetInput (F : Field) (fs : List Polynomial) (us ts : List ℕ) : Type
   pub inField : T (areElements F ts)
   pub notMany : length ts ≤ 4096
 
-pub record OthersActed (F : Field) (fs : List Polynomial) (us : List ℕ) (skip n : ℕ) (w w′ : List ℕ) (r : Place)
-    : Type 0 where
+pub record OthersActed (F : Field) (fs : List Polynomial) (us : List ℕ) (skip n : ℕ) (w w′ : List ℕ)
+    (r : Place) : Type 0 where
   pub values :
       half w′ (r .half) (r .count) ≡ actOnKnown F (product F (withPower skip 0 (named fs us))) (half w 0 n)
   pub which : r .half ≤ 1
@@ -81,7 +83,10 @@ pub record SetFound (F : Field) (fs : List Polynomial) (us ts w w′ : List ℕ)
 
 unfoldable pub portionFound : Field → Polynomial → ℕ → List ℕ → Option ℕ
 portionFound F f v ts =
-    elim (annihilatesKnown F (product F ((f, v) ∷ [])) ts) [ true ↦ leastAt F ((f, v) ∷ []) ts 0 | false ↦ none ]
+    elim (annihilatesKnown F (product F ((f, v) ∷ [])) ts) [
+      | true ↦ leastAt F ((f, v) ∷ []) ts 0
+      | false ↦ none
+    ]
 
 pub record PortionFound (F : Field) (f : Polynomial) (v : ℕ) (ts w w′ : List ℕ) (r : Found) : Type 0 where
   pub power : told r ≡ portionFound F f v ts

@@ -18,14 +18,16 @@ pub enum Found {
     Nothing,
 }
 
-// The least power of f that annihilates the period of n terms in half 0. With N = p^w·m and m not divisible by p, the
-// power p^w decides whether there is one: it acts on the whole period first. Then the first p^w·deg f terms are a
-// portion whose power is that of the period. Uses both halves, and leaves all beyond them as it was.
+// The least power of f that annihilates the period of n terms in half 0. With N = p^w·m and m not divisible
+// by p, the power p^w decides whether there is one: it acts on the whole period first. Then the first
+// p^w·deg f terms are a portion whose power is that of the period. Uses both halves, and leaves all beyond
+// them as it was.
 fn search_period(field: GaloisField, work: &mut [u8], n: usize, f: &[u8]) -> Found
     requires { ⌜ WellFormed field ⌝ }
     requires { ⌜ Halves (now work) 0 n ⌝ }
     requires { ⌜ PeriodInput (fieldOf field) (now f) (half (now work) 0 n) ⌝ }
-    ensures { λ r. ⌜ PeriodSearched (fieldOf field) (now (f .entry)) (half (now (work .entry)) 0 n) (now (work .entry)) (now (work .exit)) r ⌝ }
+    ensures { λ r. ⌜ PeriodSearched (fieldOf field) (now (f .entry)) (half (now (work .entry)) 0 n)
+        (now (work .entry)) (now (work .exit)) r ⌝ }
 {
     let level = level_dividing(field.size as usize, n);
     let q = level.power;
@@ -37,13 +39,14 @@ fn search_period(field: GaloisField, work: &mut [u8], n: usize, f: &[u8]) -> Fou
     }
 }
 
-// The least power of f that annihilates the endless repetition of the terms, or nothing. Leaves the first 8,192 work
-// bytes 0, and the others as they were.
+// The least power of f that annihilates the endless repetition of the terms, or nothing. Leaves the first
+// 8,192 work bytes 0, and the others as they were.
 pub fn period_power(field: GaloisField, work: &mut [u8], f: &[u8], terms: &[u8]) -> Found
     requires { ⌜ WellFormed field ⌝ }
     requires { ⌜ 8192 ≤ length (now work) ⌝ }
     requires { ⌜ PeriodInput (fieldOf field) (now f) (now terms) ⌝ }
-    ensures { λ r. ⌜ PeriodFound (fieldOf field) (now (f .entry)) (now (terms .entry)) (now (work .entry)) (now (work .exit)) r ⌝ }
+    ensures { λ r. ⌜ PeriodFound (fieldOf field) (now (f .entry)) (now (terms .entry)) (now (work .entry))
+        (now (work .exit)) r ⌝ }
 {
     load(work, 0, terms);
     let found = search_period(field, work, terms.len(), f);

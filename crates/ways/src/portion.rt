@@ -20,15 +20,15 @@ use powers::Place;
 use powers::act_power;
 use powers::least_power;
 
-// What the set way finds: whether the product to the upper powers annihilates the terms, and then the powers in the
-// order of the factors, and zeros after them.
+// What the set way finds: whether the product to the upper powers annihilates the terms, and then the powers
+// in the order of the factors, and zeros after them.
 pub struct SetPowers {
     pub annihilated: bool,
     pub powers: [u64; 8],
 }
 
-// Acts on the n terms of half 0 with the upper powers of all factors but that at the place `skip`, and answers where
-// the values are. Uses both halves, and leaves all beyond them as it was.
+// Acts on the n terms of half 0 with the upper powers of all factors but that at the place `skip`, and
+// answers where the values are. Uses both halves, and leaves all beyond them as it was.
 fn act_others(
     field: GaloisField,
     work: &mut [u8],
@@ -40,7 +40,8 @@ fn act_others(
     requires { ⌜ WellFormed field ⌝ }
     requires { ⌜ Halves (now work) 0 n ⌝ }
     requires { ⌜ SetInput (fieldOf field) (contents (now factors)) (now uppers) (half (now work) 0 n) ⌝ }
-    ensures { λ r. ⌜ OthersActed (fieldOf field) (contents (now (factors .entry))) (now (uppers .entry)) skip n (now (work .entry)) (now (work .exit)) r ⌝ }
+    ensures { λ r. ⌜ OthersActed (fieldOf field) (contents (now (factors .entry))) (now (uppers .entry))
+        skip n (now (work .entry)) (now (work .exit)) r ⌝ }
 {
     let mut at = 0;
     let mut count = n;
@@ -57,8 +58,9 @@ fn act_others(
     Place { half: at, count }
 }
 
-// The least power of factor i for which, with the others to their upper powers, the first D terms are annihilated, D the
-// total degree of the upper powers. Uses both halves of the work bytes, and leaves all beyond them as it was.
+// The least power of factor i for which, with the others to their upper powers, the first D terms are
+// annihilated, D the total degree of the upper powers. Uses both halves of the work bytes, and leaves all
+// beyond them as it was.
 fn power_at(
     field: GaloisField,
     work: &mut [u8],
@@ -72,7 +74,8 @@ fn power_at(
     requires { ⌜ SetInput (fieldOf field) (contents (now factors)) (now uppers) (now first) ⌝ }
     requires { ⌜ length (now first) ≡ totalDegree (named (contents (now factors)) (now uppers)) ⌝ }
     requires { ⌜ i < length (now factors) ⌝ }
-    ensures { λ r. ⌜ PowerFoundAt (fieldOf field) (contents (now (factors .entry))) (now (uppers .entry)) (now (first .entry)) i (now (work .entry)) (now (work .exit)) r ⌝ }
+    ensures { λ r. ⌜ PowerFoundAt (fieldOf field) (contents (now (factors .entry))) (now (uppers .entry))
+        (now (first .entry)) i (now (work .entry)) (now (work .exit)) r ⌝ }
 {
     load(work, 0, first);
     let left = act_others(field, work, first.len(), factors, uppers, i);
@@ -80,8 +83,8 @@ fn power_at(
     least_power(field, work, left.half, left.count, factors[i], level) as u64
 }
 
-// Whether the product of the factors to their upper powers annihilates the terms: it acts on all of them. Uses both
-// halves of the work bytes, and leaves all beyond them as it was.
+// Whether the product of the factors to their upper powers annihilates the terms: it acts on all of them.
+// Uses both halves of the work bytes, and leaves all beyond them as it was.
 fn annihilates(
     field: GaloisField,
     work: &mut [u8],
@@ -92,7 +95,8 @@ fn annihilates(
     requires { ⌜ WellFormed field ⌝ }
     requires { ⌜ 8192 ≤ length (now work) ⌝ }
     requires { ⌜ SetInput (fieldOf field) (contents (now factors)) (now uppers) (now terms) ⌝ }
-    ensures { λ r. ⌜ SetDecided (fieldOf field) (contents (now (factors .entry))) (now (uppers .entry)) (now (terms .entry)) (now (work .entry)) (now (work .exit)) r ⌝ }
+    ensures { λ r. ⌜ SetDecided (fieldOf field) (contents (now (factors .entry))) (now (uppers .entry))
+        (now (terms .entry)) (now (work .entry)) (now (work .exit)) r ⌝ }
 {
     load(work, 0, terms);
     let left = act_others(field, work, terms.len(), factors, uppers, factors.len());
@@ -101,8 +105,8 @@ fn annihilates(
     all_zero(&work[from..from + count])
 }
 
-// The least powers of the factors by the first D terms, and zeros after them. Uses both halves of the work bytes, and
-// leaves all beyond them as it was.
+// The least powers of the factors by the first D terms, and zeros after them. Uses both halves of the work
+// bytes, and leaves all beyond them as it was.
 fn least_powers(
     field: GaloisField,
     work: &mut [u8],
@@ -114,7 +118,8 @@ fn least_powers(
     requires { ⌜ 8192 ≤ length (now work) ⌝ }
     requires { ⌜ SetInput (fieldOf field) (contents (now factors)) (now uppers) (now first) ⌝ }
     requires { ⌜ length (now first) ≡ totalDegree (named (contents (now factors)) (now uppers)) ⌝ }
-    ensures { λ r. ⌜ PowersSearched (fieldOf field) (contents (now (factors .entry))) (now (uppers .entry)) (now (first .entry)) (now (work .entry)) (now (work .exit)) r ⌝ }
+    ensures { λ r. ⌜ PowersSearched (fieldOf field) (contents (now (factors .entry))) (now (uppers .entry))
+        (now (first .entry)) (now (work .entry)) (now (work .exit)) r ⌝ }
 {
     let mut powers = [0u64; 8];
     // the powers of the factors before i, and zeros
@@ -137,7 +142,8 @@ fn search_set(
     requires { ⌜ WellFormed field ⌝ }
     requires { ⌜ 8192 ≤ length (now work) ⌝ }
     requires { ⌜ SetInput (fieldOf field) (contents (now factors)) (now uppers) (now terms) ⌝ }
-    ensures { λ r. ⌜ SetSearched (fieldOf field) (contents (now (factors .entry))) (now (uppers .entry)) (now (terms .entry)) (now (work .entry)) (now (work .exit)) r ⌝ }
+    ensures { λ r. ⌜ SetSearched (fieldOf field) (contents (now (factors .entry))) (now (uppers .entry))
+        (now (terms .entry)) (now (work .entry)) (now (work .exit)) r ⌝ }
 {
     if annihilates(field, work, factors, uppers, terms) {
         let degree = total_degree(factors, uppers);
@@ -155,9 +161,9 @@ fn search_set(
     }
 }
 
-// The powers of the factors in the minimal polynomial of the continuation of the first D terms, D the total degree of
-// the upper powers, where the product to the upper powers annihilates all terms. Leaves the first 8,192 work bytes 0,
-// and the others as they were.
+// The powers of the factors in the minimal polynomial of the continuation of the first D terms, D the total
+// degree of the upper powers, where the product to the upper powers annihilates all terms. Leaves the first
+// 8,192 work bytes 0, and the others as they were.
 pub fn set_powers(
     field: GaloisField,
     work: &mut [u8],
@@ -168,15 +174,17 @@ pub fn set_powers(
     requires { ⌜ WellFormed field ⌝ }
     requires { ⌜ 8192 ≤ length (now work) ⌝ }
     requires { ⌜ SetInput (fieldOf field) (contents (now factors)) (now uppers) (now terms) ⌝ }
-    ensures { λ r. ⌜ SetFound (fieldOf field) (contents (now (factors .entry))) (now (uppers .entry)) (now (terms .entry)) (now (work .entry)) (now (work .exit)) r ⌝ }
+    ensures { λ r. ⌜ SetFound (fieldOf field) (contents (now (factors .entry))) (now (uppers .entry))
+        (now (terms .entry)) (now (work .entry)) (now (work .exit)) r ⌝ }
 {
     let found = search_set(field, work, factors, uppers, terms);
     clear(work);
     found
 }
 
-// The least power of f that annihilates the continuation of the first v·deg f terms, v the upper power, or nothing
-// where f^v does not annihilate all terms. Leaves the first 8,192 work bytes 0, and the others as they were.
+// The least power of f that annihilates the continuation of the first v·deg f terms, v the upper power, or
+// nothing where f^v does not annihilate all terms. Leaves the first 8,192 work bytes 0, and the others as
+// they were.
 pub fn portion_power(
     field: GaloisField,
     work: &mut [u8],
@@ -187,7 +195,8 @@ pub fn portion_power(
     requires { ⌜ WellFormed field ⌝ }
     requires { ⌜ 8192 ≤ length (now work) ⌝ }
     requires { ⌜ SetInput (fieldOf field) (now f ∷ []) (upper ∷ []) (now terms) ⌝ }
-    ensures { λ r. ⌜ PortionFound (fieldOf field) (now (f .entry)) upper (now (terms .entry)) (now (work .entry)) (now (work .exit)) r ⌝ }
+    ensures { λ r. ⌜ PortionFound (fieldOf field) (now (f .entry)) upper (now (terms .entry))
+        (now (work .entry)) (now (work .exit)) r ⌝ }
 {
     let factors = [f];
     let uppers = [upper];

@@ -1,16 +1,15 @@
--- `powers::act_power` meets its contract. The invariant: f^(rest·q) on the terms of half `at` is f^u on the n terms,
--- and q is a power of p. The measure is the rest. Assumes nothing.
+-- `powers::act_power` meets its contract. The invariant: f^(rest·q) on the terms of half `at` is f^u on the n
+-- terms, and q is a power of p. The measure is the rest. Assumes nothing.
 use Prim.Native.Nat.{_*_, _-_, _≤_}
 use mathlib.Core.Path.{refl}
 use native.Mathlib.Nat as ℕ
 use native.Mathlib.Omega.{arith}
-use lib.ListN.{length}
 use borrow.Author.Needs.{needs}
 use Rattle.meaning.specs.Polynomial.{degree}
 use Rattle.arith.proofs.Represented.{size-least, size-most}
 use Rattle.action.specs.Halves.{half}
-use Rattle.powers.proofs.Raising.{Raising, raising-start, raising-level, raising-stride, raising-enough}
-use Rattle.powers.proofs.Raising.{raising-act, raising-end}
+use Rattle.powers.proofs.Raising.{Raising, raising-start, raising-level, raising-stride}
+use Rattle.powers.proofs.Raising.{raising-enough, raising-act, raising-end}
 use Rattle.powers.proofs.acting.act_power.Statement.{statement}
 use Rattle.powers.proofs.acting.act_power.Tie as tie
 
@@ -42,7 +41,9 @@ mul-q : tie.Need-mul-q Inv-loop μ-loop
 mul-q c =
     let b = c .before .before .before .before .before .before in
     let l = c .before .before .loop in
-    let q = raising-stride (b .args .field) (b .pre .0) (b .args .f .now) (b .args .u) (l .inv) (c .before .loop-test .taken) in
+    let q =
+    raising-stride (b .args .field) (b .pre .0) (b .args .f .now) (b .args .u) (l .inv)
+    (c .before .loop-test .taken) in
     let k : l .q ≤ 4096 = omega (arith, b .pre .1 .1 .few) in
     omega (arith, ℕ.mul-le-mul k (size-most (b .pre .0)))
 

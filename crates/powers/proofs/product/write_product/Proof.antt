@@ -1,6 +1,6 @@
--- `powers::write_product` meets its contract. The invariant: the product of the powers of the factors before i is written,
--- and n is its degree. The measure is the number of factors that are left. Assumes nothing.
-use Prim.Native.Nat.{_-_, _≤_, _<_}
+-- `powers::write_product` meets its contract. The invariant: the product of the powers of the factors before
+-- i is written, and n is its degree. The measure is the number of factors that are left. Assumes nothing.
+use Prim.Native.Nat.{_-_, _<_}
 use mathlib.Core.Path.{_≡_, refl, sym, subst, _∙_}
 use native.Mathlib.Omega.{arith}
 use lib.ListN.{length, getD, length-set}
@@ -11,23 +11,26 @@ use Rattle.arith.proofs.Represented.{field-isField}
 use Rattle.factor_checks.specs.Contents.{contents}
 use Rattle.factor_checks.proofs.Contents.{contents-length, contents-at}
 use Rattle.poly.specs.Product.{Raising, Multiplied}
-use Rattle.powers.proofs.Products.{Multiplying, multiplying-start, multiplying-end, multiplying-raising}
-use Rattle.powers.proofs.Products.{multiplying-more}
+use Rattle.powers.proofs.Products.{Multiplying, multiplying-start, multiplying-end}
+use Rattle.powers.proofs.Products.{multiplying-raising, multiplying-more}
 use Rattle.powers.proofs.product.write_product.Statement.{statement}
 use Rattle.powers.proofs.product.write_product.Tie as tie
 
 abbrev Inv-loop : tie.InvT-loop
 Inv-loop field answer₀ factors powers n₀ i₀ answer n i =
-    Multiplying (fieldOf field) (contents factors) powers answer₀ answer i n × (length answer ≡ length answer₀)
+    Multiplying (fieldOf field) (contents factors) powers answer₀ answer i n
+    × (length answer ≡ length answer₀)
 
 abbrev μ-loop : tie.MeasureT-loop
 μ-loop field answer₀ factors powers n₀ i₀ answer n i = length factors - i
 
 -- there is a factor at i, and a power
-at-factor : (c : tie.In-loop Inv-loop μ-loop) → c .before .loop .i < length (contents (c .before .before .before .before .args .factors .now))
+at-factor : (c : tie.In-loop Inv-loop μ-loop)
+    → c .before .loop .i < length (contents (c .before .before .before .before .args .factors .now))
 at-factor c = rw contents-length (c .loop-test .taken)
 
-at-power : (c : tie.In-loop Inv-loop μ-loop) → c .before .loop .i < length (c .before .before .before .before .args .powers .now)
+at-power : (c : tie.In-loop Inv-loop μ-loop)
+    → c .before .loop .i < length (c .before .before .before .before .args .powers .now)
 at-power c = omega (arith, at-factor c, c .before .before .before .before .pre .1 .1 .enough)
 
 slice-write-answer : tie.Need-slice-write-answer Inv-loop μ-loop
@@ -61,7 +64,9 @@ times-power-requires c κs =
     let s = i .before .before .before .before in
     let l = i .before .loop in (
       s .pre .0,
-      subst (λ f. Raising (fieldOf (s .args .field)) f (getD (s .args .powers .now) (l .i) 0) (l .answer) (l .n))
+      subst
+          (λ f.
+          Raising (fieldOf (s .args .field)) f (getD (s .args .powers .now) (l .i) 0) (l .answer) (l .n))
           (contents-at (s .args .factors .now) (l .i))
           (multiplying-raising (field-isField (s .pre .0)) (s .pre .1 .1) (l .inv .0) (at-factor i)
           (omega (arith, s .pre .1 .0, length-set (s .args .answer .now) 0 1))),
@@ -82,20 +87,22 @@ loop-again c =
       multiplying-more (field-isField (s .pre .0)) (s .pre .1 .1) (l .inv .0) (at-factor i)
           (subst
           (λ f.
-          Multiplied (fieldOf (s .args .field)) (power (fieldOf (s .args .field)) f (getD (s .args .powers .now) (l .i) 0))
+          Multiplied (fieldOf (s .args .field))
+          (power (fieldOf (s .args .field)) f (getD (s .args .powers .now) (l .i) 0))
           (l .answer) (l .n) (t .last .1 .1 .1 .0) (t .result))
           (sym (contents-at (s .args .factors .now) (l .i))) (t .ensures)),
       t .kept .1 .1 .1 .0 ∙ l .inv .1,
     )
 
 same-length : tie.Need-same-length Inv-loop μ-loop
-same-length c = c .before .loop .inv .1 ∙ length-set (c .before .before .before .before .args .answer .now) 0 1
+same-length c =
+    c .before .loop .inv .1 ∙ length-set (c .before .before .before .before .args .answer .now) 0 1
 
 returns : tie.Need-returns Inv-loop μ-loop
 returns c =
     let s = c .before .before .before .before in
-    multiplying-end (field-isField (s .pre .0)) (s .pre .1 .1) (c .before .loop .inv .0) (s .args .answer .now)
-    (s .pre .1 .0) refl (rw contents-length (c .loop-test .left))
+    multiplying-end (field-isField (s .pre .0)) (s .pre .1 .1) (c .before .loop .inv .0)
+    (s .args .answer .now) (s .pre .1 .0) refl (rw contents-length (c .loop-test .left))
 
 pub write-product-spec : {M : Type 1} → statement M
 write-product-spec =

@@ -1,9 +1,9 @@
--- `powers::least_power` meets its contract. The invariant of the levels: `power` and the digits below the level l of
--- what is left in half `at` make the power of the n terms, and q is p^l; the measure is l. The invariant of one digit:
--- i, and the digit of what is left in half `at`, make the digit of what was there when the level began; the measure is
--- the number of tries that are left. Assumes nothing.
+-- `powers::least_power` meets its contract. The invariant of the levels: `power` and the digits below the
+-- level l of what is left in half `at` make the power of the n terms, and q is p^l; the measure is l. The
+-- invariant of one digit: i, and the digit of what is left in half `at`, make the digit of what was there
+-- when the level began; the measure is the number of tries that are left. Assumes nothing.
 use Prim.Native.Nat.{ℕ, _*_, _-_, _^_, _/_, _≤_, _<_}
-use mathlib.Core.Path.{_≡_, refl, sym, ap, subst, _∙_}
+use mathlib.Core.Path.{_≡_, sym, ap, subst, _∙_}
 use mathlib.Core.Logic.{⊎-elim}
 use native.Mathlib.Nat as ℕ
 use native.Mathlib.Omega.{arith}
@@ -17,8 +17,9 @@ use Rattle.arith.proofs.Represented.{size-least, size-most}
 use Rattle.arith.specs.Represented.{fieldOf}
 use Rattle.action.specs.Halves.{half, Halves}
 use Rattle.powers.specs.Searching.{Kept}
-use Rattle.powers.proofs.Bytes.{lent-half, acted-values, acted-same, acted-halves, acted-again, acted-zero}
-use Rattle.powers.proofs.Bytes.{acted-nonzero, acted-enough, acted-kept, kept-same, kept-trans}
+use Rattle.powers.proofs.Bytes.{lent-half, acted-values, acted-same, acted-halves, acted-again}
+use Rattle.powers.proofs.Bytes.{acted-zero, acted-nonzero, acted-enough, acted-kept, kept-same}
+use Rattle.powers.proofs.Bytes.{kept-trans}
 use Rattle.powers.proofs.Trying.{Trying, Tried, trying-none, trying-more, trying-stop, trying-all}
 use Rattle.powers.proofs.Trying.{tried-low}
 use Rattle.powers.proofs.Seeking.{stepOf, Seeking, Going, seeking-start, seeking-zero, seeking-first}
@@ -97,11 +98,13 @@ found c =
     (λ w.
     let x = w .2 .ensures in
     way (w .6) (w .7)
-    (subst (Tried _ _ _ _ (i .i)) (sym (acted-same (fieldOf (a .field)) (a .f .now) (l .q / a .field .size) (i .inv .1) x))
+    (subst (Tried _ _ _ _ (i .i))
+    (sym (acted-same (fieldOf (a .field)) (a .f .now) (l .q / a .field .size) (i .inv .1) x))
     (trying-stop _ _ _ _ (i .inv .0)
     (acted-zero (fieldOf (a .field)) (a .f .now) (l .q / a .field .size) (i .inv .1) x (w .5 .taken))))
     (acted-again (fieldOf (a .field)) (a .f .now) (l .q / a .field .size) (i .inv .1) x)
-    (kept-trans (i .inv .2) (acted-kept (fieldOf (a .field)) (a .f .now) (l .q / a .field .size) (i .inv .1) x)))
+    (kept-trans (i .inv .2)
+    (acted-kept (fieldOf (a .field)) (a .f .now) (l .q / a .field .size) (i .inv .1) x)))
     (c .if4 .came)
   where
     way :

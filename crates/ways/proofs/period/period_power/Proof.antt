@@ -27,8 +27,14 @@ search-period-requires c κs =
 
 clear-requires : tie.Need-clear-requires
 clear-requires c κs =
-    let s = c .before .before .before .before .before .before .before .before .before .before .before .before in
-    omega (arith, s .pre .1 .0, c .before .before .before .before .before .before .before .load .ensures .size, c .before .before .before .search-period .ensures .kept .size)
+    let l = c .before .before .before .before .before .before .before in
+    let s = l .before .before .before .before .before in
+    omega (
+      arith,
+      s .pre .1 .0,
+      l .load .ensures .size,
+      c .before .before .before .search-period .ensures .kept .size,
+    )
 
 same-length : tie.Need-same-length
 same-length c =
@@ -38,7 +44,10 @@ same-length c =
 
 returns : tie.Need-returns
 returns c =
-    loaded-found (c .before .before .before .before .before .before .before .before .before .before .load .ensures) (c .before .before .before .before .before .before .search-period .ensures) (c .before .before .clear .ensures)
+    loaded-found
+    (c .before .before .before .before .before .before .before .before .before .before .load .ensures)
+    (c .before .before .before .before .before .before .search-period .ensures)
+    (c .before .before .clear .ensures)
 
 pub period-power-spec : {M : Type 1} → statement M
 period-power-spec =

@@ -14,8 +14,11 @@ cast-level-dividing c = search needs
 
 level-dividing-requires : tie.Need-level-dividing-requires
 level-dividing-requires c κs =
-    let s = c .before .before .before in
-    (size-base (s .pre .0), omega (arith, s .pre .1 .1 .atLeastOne, half-length (s .pre .1 .0)), s .pre .1 .0 .few)
+    let s = c .before .before .before in (
+      size-base (s .pre .0),
+      omega (arith, s .pre .1 .1 .atLeastOne, half-length (s .pre .1 .0)),
+      s .pre .1 .0 .few,
+    )
 
 act-on-period-requires : tie.Need-act-on-period-requires
 act-on-period-requires c κs =
@@ -57,23 +60,26 @@ least-power-requires c κs =
       s .pre .0,
       (
         rw (c .before .smaller .ensures)
-            (searched-halves (s .pre .0) (s .args .f .now) (s .pre .1 .0) (s .pre .1 .1) (v .level-dividing .result)
-            (v .level-dividing .ensures) x),
-        period-searchable (s .pre .0) (s .args .f .now) (s .pre .1 .0) (s .pre .1 .1) (v .level-dividing .result)
-            (v .level-dividing .ensures) x,
+            (searched-halves (s .pre .0) (s .args .f .now) (s .pre .1 .0) (s .pre .1 .1)
+            (v .level-dividing .result) (v .level-dividing .ensures) x),
+        period-searchable (s .pre .0) (s .args .f .now) (s .pre .1 .0) (s .pre .1 .1)
+            (v .level-dividing .result) (v .level-dividing .ensures) x,
       ),
     )
 
 same-length : tie.Need-same-length
 same-length c =
-    c .before .before .least-power .ensures .kept .size ∙ c .before .before .before .before .before .before .before .before .act-on-period .ensures .placed .size
+    let a = c .before .before .before .before .before .before .before .before in
+    c .before .before .least-power .ensures .kept .size ∙ a .act-on-period .ensures .placed .size
 
 returns : tie.Need-returns
 returns c =
     let v = c .before .before .before .before .before .before .before .before .before .before in
     let s = v .before .before .before .before in
     searched-some (s .pre .0) (s .args .f .now) (s .pre .1 .0) (s .pre .1 .1) (v .level-dividing .result)
-    (v .level-dividing .ensures) (c .before .before .before .before .before .before .before .before .act-on-period .ensures) (c .before .before .before .before .before .if1 .taken)
+    (v .level-dividing .ensures)
+    (c .before .before .before .before .before .before .before .before .act-on-period .ensures)
+    (c .before .before .before .before .before .if1 .taken)
     (rw (c .before .before .before .before .smaller .ensures) at (c .before .before .least-power .ensures))
 
 same-length-2 : tie.Need-same-length-2

@@ -1,14 +1,14 @@
--- `ways::act_others` meets its contract. The invariant: what the factors before j, but for that to skip, leave of the
--- n terms stands in half `at`. The measure is the number of factors that are left. Assumes nothing.
-use Prim.Native.Nat.{ℕ, _+_, _-_, _<_}
-use mathlib.Core.Path.{_≡_, refl, sym, subst, _∙_}
+-- `ways::act_others` meets its contract. The invariant: what the factors before j, but for that to skip,
+-- leave of the n terms stands in half `at`. The measure is the number of factors that are left. Assumes
+-- nothing.
+use Prim.Native.Nat.{_-_, _<_}
+use mathlib.Core.Path.{refl, sym, subst}
 use mathlib.Core.Logic.{⊎-elim}
-use mathlib.Core.List.{List}
 use native.Mathlib.Omega.{arith}
 use lib.ListN.{length, getD}
 use borrow.Author.Needs.{needs}
 use Rattle.factor_checks.specs.Contents.{contents}
-use Rattle.factor_checks.proofs.Contents.{nowhere, contents-length, contents-at}
+use Rattle.factor_checks.proofs.Contents.{contents-length, contents-at}
 use Rattle.action.specs.Halves.{half}
 use Rattle.powers.specs.Acting.{Actable, PowerActed}
 use Rattle.powers.proofs.Bytes.{half-length}
@@ -61,7 +61,9 @@ act-power-requires c κs =
       s .pre .0,
       (
         l .inv .halves,
-        subst (λ f. Actable (s .args .field) (l .work) (l .at) (l .count) f (getD (s .args .uppers .now) (l .j) 0))
+        subst
+            (λ f.
+            Actable (s .args .field) (l .work) (l .at) (l .count) f (getD (s .args .uppers .now) (l .j) 0))
             (contents-at (s .args .factors .now) (l .j))
             (passing-actable (s .pre .0) (s .pre .1 .1) (s .args .skip) (l .inv) (at-factor i)
             (c .before .before .before .if1 .taken)),

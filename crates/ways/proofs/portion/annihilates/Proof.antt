@@ -14,7 +14,8 @@ left : (c : tie.After-act-others)
     → Halves (c .act-others .last .1 .0) (c .act-others .result .half) (c .act-others .result .count)
 left c =
     let s = c .before .before .before .before .before .before .before .before .before in
-    left-halves (s .pre .1 .1) (s .pre .1 .0) (c .before .before .before .before .load .ensures) (c .act-others .ensures)
+    left-halves (s .pre .1 .1) (s .pre .1 .0) (c .before .before .before .before .load .ensures)
+    (c .act-others .ensures)
 
 load-requires : tie.Need-load-requires
 load-requires c κs = let s = c .before .before .before .before in set-halves (s .pre .1 .1) (s .pre .1 .0)
@@ -52,8 +53,8 @@ returns : tie.Need-returns
 returns c =
     let o = c .before .before .before .before .before .before in
     let s = o .before .before .before .before .before .before .before .before .before in
-    decided-set (s .pre .1 .1) (s .pre .1 .0) (o .before .before .before .before .load .ensures) (o .act-others .ensures)
-    (ℕ.le-of-eq (contents-length (s .args .factors .now))) (c .all-zero .ensures)
+    decided-set (s .pre .1 .1) (s .pre .1 .0) (o .before .before .before .before .load .ensures)
+    (o .act-others .ensures) (ℕ.le-of-eq (contents-length (s .args .factors .now))) (c .all-zero .ensures)
 
 pub annihilates-spec : {M : Type 1} → statement M
 annihilates-spec =

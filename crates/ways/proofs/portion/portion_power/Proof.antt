@@ -1,5 +1,4 @@
 -- `ways::portion_power` meets its contract. Assumes nothing.
-use native.Mathlib.Omega.{arith}
 use borrow.Author.Needs.{needs}
 use Rattle.arith.proofs.Represented.{field-isField}
 use Rattle.factor_checks.specs.Contents.{contents}
@@ -15,7 +14,9 @@ slice-aggregate-set-powers-2 c = search needs
 
 set-powers-requires : tie.Need-set-powers-requires
 unfolding contents
-set-powers-requires c κs = let s = c .before .before .before .before .before .before in (s .pre .0, (s .pre .1 .0, s .pre .1 .1))
+set-powers-requires c κs =
+    let s = c .before .before .before .before .before .before in
+    (s .pre .0, (s .pre .1 .0, s .pre .1 .1))
 
 element-copy-out-t20 : tie.Need-element-copy-out-t20
 element-copy-out-t20 c = search needs
@@ -27,7 +28,8 @@ returns : tie.Need-returns
 unfolding contents
 returns c =
     let s = c .before .before .before .before .before .before .before .before .before .before .before in
-    portion-some (field-isField (s .pre .0)) (s .pre .1 .1) (c .before .before .before .before .set-powers .ensures) (c .before .if1 .taken)
+    portion-some (field-isField (s .pre .0)) (s .pre .1 .1)
+    (c .before .before .before .before .set-powers .ensures) (c .before .if1 .taken)
 
 same-length-2 : tie.Need-same-length-2
 same-length-2 c = c .before .before .before .set-powers .kept .1 .0

@@ -37,16 +37,20 @@ cast-level-reaching c = search needs
 
 mul-level-reaching : tie.Need-mul-level-reaching
 mul-level-reaching c =
-    let s = c .before .before .before .before .before .before .before .before .before .before .before .before in
+    let o = c .before .before .before in
+    let s = o .before .before .before .before .before .before .before .before .before in
     let k = at-upper s in
     omega (arith, s .good)
 
 shared-slice-read-level-reaching : tie.Need-shared-slice-read-level-reaching
-shared-slice-read-level-reaching c = at-upper (c .before .before .before .before .before .before .before .before .before .before .before .before .before)
+shared-slice-read-level-reaching c =
+    let o = c .before .before .before .before in
+    at-upper (o .before .before .before .before .before .before .before .before .before)
 
 level-reaching-requires : tie.Need-level-reaching-requires
 level-reaching-requires c κs =
-    let s = c .before .before .before .before .before .before .before .before .before .before .before .before .before in
+    let o = c .before .before .before .before in
+    let s = o .before .before .before .before .before .before .before .before .before in
     (size-base (s .pre .0), input-few (s .pre .1 .1 .0) (s .args .i) (at-factor s))
 
 mul-least-power : tie.Need-mul-least-power
@@ -58,14 +62,16 @@ shared-slice-copy-out-least-power c = search needs
 least-power-requires : tie.Need-least-power-requires
 least-power-requires c κs =
     let l = c .before .before in
-    let s = l .before .before .before .before .before .before .before .before .before .before .before .before .before .before in (
+    let o = l .before .before .before .before .before in
+    let s = o .before .before .before .before .before .before .before .before .before in (
       s .pre .0,
       (
-        left-halves (s .pre .1 .1 .0) (s .pre .1 .0) (l .before .before .before .before .before .before .before .before .before .load .ensures) (l .before .before .before .before .before .act-others .ensures),
+        left-halves (s .pre .1 .1 .0) (s .pre .1 .0) (o .before .before .before .before .load .ensures)
+            (o .act-others .ensures),
         subst (λ f. Searchable (s .args .field) f (l .level-reaching .result))
             (contents-at (s .args .factors .now) (s .args .i))
-            (factor-searchable (s .pre .0) (s .pre .1 .1 .0) (s .args .i) (at-factor s) (l .level-reaching .result)
-            (l .level-reaching .ensures)),
+            (factor-searchable (s .pre .0) (s .pre .1 .1 .0) (s .args .i) (at-factor s)
+            (l .level-reaching .result) (l .level-reaching .ensures)),
       ),
     )
 
@@ -79,15 +85,17 @@ same-length c =
 returns : tie.Need-returns
 returns c =
     let l = c .before .before .before .before .before in
-    let s = l .before .before .before .before .before .before .before .before .before .before .before .before .before .before in
-    let o = l .before .before .before .before .before .act-others in
+    let a = l .before .before .before .before .before in
+    let s = a .before .before .before .before .before .before .before .before .before in
+    let o = a .act-others in
     let y = c .before .before .least-power in
     power-found (s .pre .0) (s .pre .1 .1 .0) (s .args .i) (at-factor s) (l .level-reaching .result)
-    (l .level-reaching .ensures) (s .pre .1 .1 .1 .0) (l .before .before .before .before .before .before .before .before .before .load .ensures) (o .ensures)
+    (l .level-reaching .ensures) (s .pre .1 .1 .1 .0) (a .before .before .before .before .load .ensures)
+    (o .ensures)
     (subst
     (λ f.
-    Searched (s .args .field) (o .last .1 .0) (o .result .half) (o .result .count) f (l .level-reaching .result)
-    (y .last .1 .0) (y .result))
+    Searched (s .args .field) (o .last .1 .0) (o .result .half) (o .result .count) f
+    (l .level-reaching .result) (y .last .1 .0) (y .result))
     (sym (contents-at (s .args .factors .now) (s .args .i))) (y .ensures))
 
 pub power-at-spec : {M : Type 1} → statement M

@@ -22,7 +22,8 @@ part-least-powers-start c = search needs
 part-least-powers-end : tie.Need-part-least-powers-end
 part-least-powers-end c =
     let d = c .before in
-    front-end (d .before .before .before .before .before .before .before .before .before .pre .1 .1) (d .total-degree .ensures)
+    front-end (d .before .before .before .before .before .before .before .before .before .pre .1 .1)
+    (d .total-degree .ensures)
 
 least-powers-requires : tie.Need-least-powers-requires
 least-powers-requires c κs =
@@ -31,18 +32,23 @@ least-powers-requires c κs =
       s .pre .0,
       (
         omega (arith, s .pre .1 .0, d .before .before .before .before .annihilates .ensures .kept .size),
-        (lent-input (s .pre .1 .1) (d .total-degree .ensures), lent-length (s .pre .1 .1) (d .total-degree .ensures)),
+        (
+          lent-input (s .pre .1 .1) (d .total-degree .ensures),
+          lent-length (s .pre .1 .1) (d .total-degree .ensures),
+        ),
       ),
     )
 
 same-length : tie.Need-same-length
 same-length c =
-    c .before .before .least-powers .ensures .kept .size ∙ c .before .before .before .before .before .before .before .before .before .annihilates .ensures .kept .size
+    let a = c .before .before .before .before .before .before .before .before .before in
+    c .before .before .least-powers .ensures .kept .size ∙ a .annihilates .ensures .kept .size
 
 returns : tie.Need-returns
 returns c =
     let d = c .before .before .before .before .before in
-    found-powers (d .before .before .before .before .before .before .before .before .before .pre .1 .1) (d .total-degree .ensures) (d .before .before .before .before .annihilates .ensures)
+    found-powers (d .before .before .before .before .before .before .before .before .before .pre .1 .1)
+    (d .total-degree .ensures) (d .before .before .before .before .annihilates .ensures)
     (d .before .if1 .taken) (c .before .before .least-powers .ensures)
 
 same-length-2 : tie.Need-same-length-2
@@ -50,8 +56,8 @@ same-length-2 c = c .before .before .before .annihilates .ensures .kept .size
 
 returns-2 : tie.Need-returns-2
 returns-2 c =
-    found-nothing (c .before .before .before .before .before .before .before .before .pre .1 .1) (replicate 8 0) (c .before .before .before .annihilates .ensures)
-    (c .if1 .left)
+    found-nothing (c .before .before .before .before .before .before .before .before .pre .1 .1)
+    (replicate 8 0) (c .before .before .before .annihilates .ensures) (c .if1 .left)
 
 pub search-set-spec : {M : Type 1} → statement M
 search-set-spec =

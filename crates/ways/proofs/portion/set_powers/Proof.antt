@@ -11,13 +11,18 @@ search-set-requires c κs = search needs
 
 clear-requires : tie.Need-clear-requires
 clear-requires c κs =
-    omega (arith, c .before .before .before .before .before .before .before .before .pre .1 .0, c .before .before .before .search-set .ensures .kept .size)
+    let s = c .before .before .before in
+    omega (arith, s .before .before .before .before .before .pre .1 .0, s .search-set .ensures .kept .size)
 
 same-length : tie.Need-same-length
-same-length c = c .before .before .clear .kept .0 ∙ c .before .before .before .before .before .before .search-set .ensures .kept .size
+same-length c =
+    c .before .before .clear .kept .0
+    ∙ c .before .before .before .before .before .before .search-set .ensures .kept .size
 
 returns : tie.Need-returns
-returns c = cleared-set (c .before .before .before .before .before .before .search-set .ensures) (c .before .before .clear .ensures)
+returns c =
+    cleared-set (c .before .before .before .before .before .before .search-set .ensures)
+    (c .before .before .clear .ensures)
 
 pub set-powers-spec : {M : Type 1} → statement M
 set-powers-spec =
