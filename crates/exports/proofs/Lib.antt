@@ -1,3 +1,4 @@
 pub mod Told
 pub mod ToldFree
 pub mod ToldPower
+pub mod ToldSet

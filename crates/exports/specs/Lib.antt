@@ -1,3 +1,4 @@
 pub mod Exported
 pub mod FreeExported
 pub mod PowerExported
+pub mod SetExported

@@ -3,6 +3,7 @@
 // else the number of the refusal. What it answers beside goes into lent numbers, which a refusal leaves as they were.
 mod free;
 mod one_factor;
+mod sets;
 
 use answers::number_of;
 pub use free::rater_rate_free;
@@ -10,6 +11,7 @@ use meaning::Filling;
 use meaning::Irreducibility;
 pub use one_factor::rater_rate_period;
 pub use one_factor::rater_rate_portion;
+pub use sets::rater_rate_set;
 ghost use Rattle.meaning.specs.Calls.{PrimeCall};
 ghost use Rattle.meaning.specs.Irreducibility.{askIrreducible};
 ghost use Rattle.meaning.specs.Continuation.{continueSequence};
