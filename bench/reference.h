@@ -10,6 +10,8 @@ uint8_t c_dot(uint32_t p, const uint8_t *c, const uint8_t *s, size_t n);
 void c_update(uint16_t p, uint8_t *restrict a, uint8_t c, const uint8_t *restrict b, size_t n);
 void c_update_by_division(uint16_t p, uint8_t *restrict a, uint8_t c, const uint8_t *restrict b, size_t n);
 
-// whether a polynomial of degree d is irreducible: a word with a bit for each coefficient, or bytes
+// whether a polynomial of degree d is irreducible: a word with a bit for each coefficient, or bytes; with the
+// remainders in bytes, or packed in a word
 bool c_irreducible_binary(uint64_t f, int d);
 bool c_irreducible(uint32_t p, const uint8_t *f, int d);
+bool c_irreducible_packed(uint32_t p, const uint8_t *f, int d);

@@ -1,0 +1,63 @@
+// The rater and its two C versions as contestants: three times the same code over the calls of calls.h.
+#include "calls.h"
+#include "jobs.h"
+#include <stdlib.h>
+#include <string.h>
+
+typedef struct {
+    const job *job;
+    answer found;
+    uint8_t work[8192];
+} task;
+
+static void *prepare(const job *j) {
+    task *t = aligned_alloc(64, (sizeof(task) + 63) / 64 * 64);
+    memset(t, 0, sizeof *t);
+    t->job = j;
+    return t;
+}
+
+static void tell(void *task_, answer *a) {
+    task *t = task_;
+    *a = t->found;
+}
+
+#define CONTESTANT(VERSION)                                                                                           \
+    static void run_##VERSION(void *task_) {                                                                          \
+        task *t = task_;                                                                                              \
+        const job *j = t->job;                                                                                        \
+        answer *a = &t->found;                                                                                        \
+        uint64_t degree = 0;                                                                                          \
+        uint8_t yes = 0;                                                                                              \
+        switch (j->way) {                                                                                             \
+        case FREE:                                                                                                    \
+            a->status = VERSION##_rate_free(j->p, j->terms, j->count, a->polynomial, sizeof a->polynomial, t->work,   \
+                                            sizeof t->work, &degree, &a->unique);                                     \
+            break;                                                                                                    \
+        case PERIOD:                                                                                                  \
+            a->status = VERSION##_rate_period(j->p, j->coefficients, j->bytes, j->terms, j->count, a->polynomial,     \
+                                              sizeof a->polynomial, t->work, sizeof t->work, a->powers, &degree,      \
+                                              &a->bound);                                                             \
+            break;                                                                                                    \
+        case PORTION:                                                                                                 \
+            a->status = VERSION##_rate_portion(j->p, j->coefficients, j->bytes, j->uppers[0], j->terms, j->count,     \
+                                               a->polynomial, sizeof a->polynomial, t->work, sizeof t->work,          \
+                                               a->powers, &degree, &a->bound);                                        \
+            break;                                                                                                    \
+        case SET:                                                                                                     \
+            a->status = VERSION##_rate_set(j->p, j->coefficients, j->bytes, j->lengths, j->factors, j->uppers,        \
+                                           j->factors, j->terms, j->count, a->polynomial, sizeof a->polynomial,       \
+                                           t->work, sizeof t->work, a->powers, &degree);                              \
+            break;                                                                                                    \
+        case IRREDUCIBLE:                                                                                             \
+            a->status = VERSION##_is_irreducible(j->p, j->coefficients, j->bytes, &yes);                              \
+            break;                                                                                                    \
+        }                                                                                                             \
+        a->degree = degree;                                                                                           \
+        a->yes = yes;                                                                                                 \
+    }                                                                                                                 \
+    const contestant VERSION = {#VERSION, prepare, run_##VERSION, tell, free};
+
+CONTESTANT(rater)
+CONTESTANT(plain)
+CONTESTANT(tuned)

@@ -1,0 +1,38 @@
+// The exported calls of the rater, and the two C versions that they are measured beside: `plain`, with bytes and a
+// remainder at each product, and `tuned`, with sums in wider numbers and remainders without a division. All three have
+// the same arguments, the same answers, and leave the same in the lent bytes. A slice passes as its start and length.
+#ifndef CALLS_H
+#define CALLS_H
+#include <stdbool.h>
+#include <stddef.h>
+#include <stdint.h>
+
+// Each call answers 0, or the number of its refusal. Factors of a set stand one after the other, `lengths` has the
+// number of coefficients of each.
+#define DECLARE_CALLS(VERSION)                                                                                        \
+    uint64_t VERSION##_rate_period(uint64_t p, const uint8_t *factor, size_t coefficients, const uint8_t *terms,      \
+                                   size_t count, uint8_t *answer, size_t answer_bytes, uint8_t *work,                 \
+                                   size_t work_bytes, uint64_t *power, uint64_t *degree, uint64_t *bound);            \
+    uint64_t VERSION##_rate_portion(uint64_t p, const uint8_t *factor, size_t coefficients, uint64_t upper,           \
+                                    const uint8_t *terms, size_t count, uint8_t *answer, size_t answer_bytes,         \
+                                    uint8_t *work, size_t work_bytes, uint64_t *power, uint64_t *degree,              \
+                                    uint64_t *bound);                                                                 \
+    uint64_t VERSION##_rate_set(uint64_t p, const uint8_t *factors, size_t factors_bytes, const uint64_t *lengths,    \
+                                size_t lengths_count, const uint64_t *uppers, size_t uppers_count,                    \
+                                const uint8_t *terms, size_t count, uint8_t *answer, size_t answer_bytes,             \
+                                uint8_t *work, size_t work_bytes, uint64_t *powers, uint64_t *degree);                \
+    uint64_t VERSION##_rate_free(uint64_t p, const uint8_t *terms, size_t count, uint8_t *answer,                     \
+                                 size_t answer_bytes, uint8_t *work, size_t work_bytes, uint64_t *degree,             \
+                                 uint8_t *unique);                                                                    \
+    uint64_t VERSION##_is_irreducible(uint64_t p, const uint8_t *f, size_t coefficients, uint8_t *yes);
+
+#ifdef __cplusplus
+extern "C" {
+#endif
+DECLARE_CALLS(rater)
+DECLARE_CALLS(plain)
+DECLARE_CALLS(tuned)
+#ifdef __cplusplus
+}
+#endif
+#endif

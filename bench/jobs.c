@@ -1,0 +1,219 @@
+// The jobs: their inputs are made here from fixed seeds.
+#include "jobs.h"
+#include "reference.h"
+#include <stdio.h>
+#include <string.h>
+
+#define MOST 128
+static job list[MOST];
+static size_t listed;
+
+static uint64_t seed;
+static uint32_t below(uint32_t n) {
+    seed = seed * 6364136223846793005ull + 1442695040888963407ull;
+    return (seed >> 33) % n;
+}
+
+// 1234 as 1,234
+static const char *grouped(size_t n) {
+    static char text[4][32];
+    static int turn;
+    char *t = text[turn++ % 4];
+    if (n < 1000) snprintf(t, 32, "%zu", n);
+    else snprintf(t, 32, "%zu,%03zu", n / 1000, n % 1000);
+    return t;
+}
+
+static job *add(const char *family, enum way way, uint32_t p) {
+    job *j = &list[listed++];
+    j->family = family;
+    j->way = way;
+    j->p = p;
+    seed = listed;
+    return j;
+}
+
+static void add_factor(job *j, const uint8_t *f, size_t degree, uint64_t upper) {
+    memcpy(j->coefficients + j->bytes, f, degree + 1);
+    j->bytes += degree + 1;
+    j->lengths[j->factors] = degree + 1;
+    j->uppers[j->factors++] = upper;
+}
+
+static void random_terms(job *j, size_t from, size_t to) {
+    for (size_t i = from; i < to; i++) j->terms[i] = below(j->p);
+}
+
+// the terms from `from` on, as the polynomial continues those before
+static void continue_terms(job *j, const uint8_t *f, size_t degree, size_t from) {
+    for (size_t n = from; n < j->count; n++) {
+        uint32_t sum = 0;
+        for (size_t i = 0; i < degree; i++) sum += (j->p - f[i]) * j->terms[n - degree + i];
+        j->terms[n] = sum % j->p;
+    }
+}
+
+size_t product_of_powers(const job *j, uint8_t *into) {
+    size_t n = 0, at = 0;
+    into[0] = 1;
+    for (size_t i = 0; i < j->factors; i++) {
+        const uint8_t *f = j->coefficients + at;
+        size_t d = j->lengths[i] - 1;
+        for (uint64_t r = 0; r < j->uppers[i]; r++, n += d)
+            for (size_t k = n + d + 1; k-- > 0;) {
+                uint32_t sum = 0;
+                for (size_t c = 0; c <= d && c <= k; c++)
+                    if (k - c <= n) sum += f[c] * into[k - c];
+                into[k] = sum % j->p;
+            }
+        at += d + 1;
+    }
+    return n;
+}
+
+bool annihilates(uint32_t p, const uint8_t *f, size_t degree, const uint8_t *terms, size_t count) {
+    for (size_t k = 0; k + degree < count; k++) {
+        uint32_t sum = 0;
+        for (size_t i = 0; i <= degree; i++) sum += f[i] * terms[k + i];
+        if (sum % p != 0) return false;
+    }
+    return true;
+}
+
+bool annihilates_period(uint32_t p, const uint8_t *f, size_t degree, const uint8_t *terms, size_t count) {
+    for (size_t k = 0; k < count; k++) {
+        uint32_t sum = 0;
+        for (size_t i = 0; i <= degree; i++) sum += f[i] * terms[(k + i) % count];
+        if (sum % p != 0) return false;
+    }
+    return true;
+}
+
+// ---- the ways
+
+static void free_random(const char *family, uint32_t p, size_t n) {
+    job *j = add(family, FREE, p);
+    j->count = n;
+    random_terms(j, 0, n);
+    snprintf(j->name, sizeof j->name, "free way, %s random terms, GF(%u)", grouped(n), p);
+}
+
+static void free_register(const char *family, uint32_t p, size_t n, size_t degree) {
+    job *j = add(family, FREE, p);
+    uint8_t f[4097];
+    j->count = n;
+    f[0] = 1 + below(p - 1);
+    for (size_t i = 1; i < degree; i++) f[i] = below(p);
+    random_terms(j, 0, degree);
+    continue_terms(j, f, degree, degree);
+    snprintf(j->name, sizeof j->name, "free way, %s terms of a register of degree %s, GF(%u)", grouped(n),
+             grouped(degree), p);
+}
+
+static void free_digits(const char *terms) {
+    job *j = add("few terms", FREE, 2);
+    j->compared = true;
+    j->count = strlen(terms);
+    for (size_t i = 0; i < j->count; i++) j->terms[i] = terms[i] - '0';
+    snprintf(j->name, sizeof j->name, "free way, the terms %s, GF(2)", terms);
+}
+
+// a period of n terms that a power up to q of f, of degree 1, annihilates: q random terms, repeated
+static void period(const char *family, uint32_t p, const char *shown, uint8_t constant, size_t n, size_t q) {
+    job *j = add(family, PERIOD, p);
+    add_factor(j, (uint8_t[]){constant, 1}, 1, 0);
+    j->count = n;
+    random_terms(j, 0, q);
+    for (size_t i = q; i < n; i++) j->terms[i] = j->terms[i - q];
+    snprintf(j->name, sizeof j->name, "period of %s terms, %s over GF(%u)", grouped(n), shown, p);
+    if (q < n) snprintf(j->name + strlen(j->name), 40, ", powers up to %zu", q);
+}
+
+// a portion of n terms with f to the power v, random as far as they may be
+static void portion(const char *family, uint32_t p, const char *shown, const uint8_t *f, size_t d, uint64_t v, size_t n) {
+    job *j = add(family, PORTION, p);
+    uint8_t all[4097];
+    add_factor(j, f, d, v);
+    j->count = n;
+    random_terms(j, 0, d * v);
+    continue_terms(j, all, product_of_powers(j, all), d * v);
+    snprintf(j->name, sizeof j->name, "portion of %s terms, (%s)^%s over GF(%u)", grouped(n), shown, grouped(v), p);
+}
+
+static void binary_set(void) {
+    static const struct {
+        uint8_t f[6], d;
+        uint16_t upper;
+    } parts[8] = {{{1, 1}, 1, 512},          {{1, 1, 1}, 2, 256},       {{1, 1, 0, 1}, 3, 171},
+                  {{1, 0, 1, 1}, 3, 171},    {{1, 1, 0, 0, 1}, 4, 128}, {{1, 0, 0, 1, 1}, 4, 128},
+                  {{1, 1, 1, 1, 1}, 4, 128}, {{1, 0, 1, 0, 0, 1}, 5, 102}};
+    job *j = add("set", SET, 2);
+    for (int i = 0; i < 8; i++) add_factor(j, parts[i].f, parts[i].d, parts[i].upper);
+    j->count = 4096;
+    random_terms(j, 0, 4096);
+    snprintf(j->name, sizeof j->name, "set of eight factors of degrees 1 to 5, D = 4,096, GF(2)");
+}
+
+static void linear_set(uint32_t p) {
+    job *j = add("set", SET, p);
+    for (uint32_t a = 1; a <= 8; a++) add_factor(j, (uint8_t[]){p - a, 1}, 1, 512);
+    j->count = 4096;
+    random_terms(j, 0, 4096);
+    snprintf(j->name, sizeof j->name, "set of eight factors of degree 1, D = 4,096, GF(%u)", p);
+}
+
+// an irreducible polynomial, so that trial division tries every divisor
+static void irreducibility(uint32_t p, size_t degree) {
+    job *j = add("irreducible", IRREDUCIBLE, p);
+    uint8_t f[33];
+    f[degree] = 1;
+    do {
+        for (size_t i = 0; i < degree; i++) f[i] = below(p);
+    } while (!c_irreducible_packed(p, f, degree));
+    add_factor(j, f, degree, 0);
+    snprintf(j->name, sizeof j->name, "irreducible or not, degree %zu over GF(%u)", degree, p);
+}
+
+static const size_t sizes[4] = {512, 1024, 2048, 4096};
+
+static void fill(void) {
+    static const struct {
+        uint32_t p;
+        const char *random, *of_register;
+    } fields[3] = {{2, "free way, random, GF(2)", "free way, register, GF(2)"},
+                   {3, "free way, random, GF(3)", "free way, register, GF(3)"},
+                   {251, "free way, random, GF(251)", "free way, register, GF(251)"}};
+    static const uint8_t f[4] = {1, 1, 0, 1};
+    static const uint64_t uppers[4] = {170, 341, 682, 1365};
+    static const size_t binary[4] = {9, 17, 33, 63}, ternary[4] = {7, 13, 26, 50};
+    for (int i = 0; i < 3; i++) {
+        for (int k = 0; k < 4; k++) free_random(fields[i].random, fields[i].p, sizes[k]);
+        for (int k = 0; k < 4; k++) free_register(fields[i].of_register, fields[i].p, sizes[k], sizes[k] * 1000 / 4096);
+    }
+    for (int k = 0; k < 4; k++) portion("portion, all powers", 2, "x^3+x+1", f, 3, uppers[k], sizes[k]);
+    for (int k = 0; k < 4; k++) portion("portion, powers up to 170", 2, "x^3+x+1", f, 3, 170, sizes[k]);
+    for (int k = 0; k < 4; k++) period("period, GF(2)", 2, "x+1", 1, sizes[k], sizes[k]);
+    for (int k = 0; k < 4; k++) period("period, GF(2), powers up to 64", 2, "x+1", 1, 64 * binary[k], 64);
+    period("period, GF(3)", 3, "x+2", 2, 729, 729);
+    period("period, GF(3)", 3, "x+2", 2, 2187, 2187);
+    for (int k = 0; k < 4; k++) period("period, GF(3), powers up to 81", 3, "x+2", 2, 81 * ternary[k], 81);
+    period("period, GF(251), powers up to 251", 251, "x+250", 250, 251, 251);
+    for (size_t k = 2; k <= 16; k *= 2) period("period, GF(251), powers up to 251", 251, "x+250", 250, 251 * k, 251);
+    binary_set();
+    linear_set(251);
+    irreducibility(2, 32);
+    irreducibility(3, 21);
+    irreducibility(5, 13);
+    irreducibility(7, 11);
+    irreducibility(251, 5);
+    free_digits("10");
+    free_digits("01");
+    free_digits("001");
+    free_digits("1000");
+}
+
+const job *all_jobs(size_t *count) {
+    if (listed == 0) fill();
+    *count = listed;
+    return list;
+}

@@ -1,0 +1,68 @@
+// What is measured: jobs, their answers, and those who do them.
+#ifndef JOBS_H
+#define JOBS_H
+#include <stdbool.h>
+#include <stddef.h>
+#include <stdint.h>
+
+#ifdef __cplusplus
+extern "C" {
+#endif
+
+enum way { FREE, PERIOD, PORTION, SET, IRREDUCIBLE };
+
+// One job. A portion is a set with one factor. Factors stand one after the other, constants first. Jobs of one family
+// differ in their number of terms alone; `compared` jobs are there for their answers, and not timed.
+typedef struct {
+    const char *family;
+    char name[100];
+    enum way way;
+    bool compared;
+    uint32_t p;
+    size_t count, factors, bytes;
+    uint64_t lengths[8], uppers[8];
+    uint8_t coefficients[8 * 33], terms[4096];
+} job;
+
+// An answer: for a question its yes or no, for a rating a polynomial of the degree, constant first.
+typedef struct {
+    uint64_t status;
+    bool yes;
+    size_t degree;
+    uint8_t polynomial[4097];
+    uint64_t powers[8];
+    uint64_t bound;
+    uint8_t unique;
+} answer;
+
+// One who does jobs: `prepare` makes its own form of the input, or NULL for a job that it does not do; `run` is what is
+// timed; `tell` writes down what the last run found.
+typedef struct {
+    const char *name;
+    void *(*prepare)(const job *);
+    void (*run)(void *);
+    void (*tell)(void *, answer *);
+    void (*finish)(void *);
+} contestant;
+
+// the rater, its C versions, and the peers by their two methods: a gcd, or the minimal polynomial of twice the terms
+extern const contestant rater, plain, tuned;
+extern const contestant ntl, ntl_twice, flint, flint_twice, pari, pari_twice;
+
+// all jobs, and how many they are
+const job *all_jobs(size_t *count);
+
+// the product of the factors to their upper powers, and its degree
+size_t product_of_powers(const job *j, uint8_t *into);
+
+// whether a polynomial annihilates known terms, or an endless repetition of them
+bool annihilates(uint32_t p, const uint8_t *f, size_t degree, const uint8_t *terms, size_t count);
+bool annihilates_period(uint32_t p, const uint8_t *f, size_t degree, const uint8_t *terms, size_t count);
+
+// the most bytes of stack that a call uses
+size_t stack_used(void (*call)(void *), void *argument);
+
+#ifdef __cplusplus
+}
+#endif
+#endif

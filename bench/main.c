@@ -1,0 +1,221 @@
+// Runs every job by all contestants in alternation, compares their answers, and writes a line for each of what was
+// found, fields separated by tabs:
+//   job NUMBER WAY P TERMS FAMILY NAME      time NUMBER CONTESTANT ROUND NANOSECONDS
+//   answer NUMBER CONTESTANT VERDICT WORDS  stack CALL BYTES
+// With --terms NUMBER it prints the input of a job instead, and with --route NUMBER its route file.
+#include "jobs.h"
+#include <stdio.h>
+#include <stdlib.h>
+#include <string.h>
+#include <time.h>
+
+static const contestant *const contestants[] = {
+    &rater, &plain, &tuned,
+#ifdef WITH_NTL
+    &ntl, &ntl_twice,
+#endif
+#ifdef WITH_FLINT
+    &flint, &flint_twice,
+#endif
+#ifdef WITH_PARI
+    &pari, &pari_twice,
+#endif
+};
+#define MEMBERS 8
+#define CONTESTANTS (sizeof contestants / sizeof contestants[0])
+
+// ---- time: that of this thread, so that what others do on the same core is not counted
+
+static double now(void) {
+    struct timespec t;
+    clock_gettime(CLOCK_THREAD_CPUTIME_ID, &t);
+    return t.tv_sec * 1e9 + t.tv_nsec;
+}
+
+static double batch(const contestant *c, void *task, long times) {
+    double begun = now();
+    for (long k = 0; k < times; k++) c->run(task);
+    return (now() - begun) / times;
+}
+
+// so many calls that they take this long together, found by doubling, which warms up as well
+#define BATCH 4e5
+static long times_of(const contestant *c, void *task) {
+    long times = 1;
+    while (times < 1 << 20) {
+        double t = batch(c, task, times) * times;
+        if (t >= BATCH / 2) return t >= BATCH ? times : 2 * times;
+        times *= 2;
+    }
+    return times;
+}
+
+// no more rounds than take this long together, but at least some
+#define LONGEST 6e8
+static int rounds_of(int rounds, double batch_time) {
+    double most = LONGEST / batch_time;
+    if (most >= rounds) return rounds;
+    return most < 5 ? 5 : (int)most;
+}
+
+// ---- answers
+
+static const char *verdict(const job *j, const answer *ours, const answer *theirs, char *words, size_t room) {
+    words[0] = 0;
+    if (j->way == IRREDUCIBLE) {
+        if (ours->status == theirs->status && ours->yes == theirs->yes) return "same";
+        snprintf(words, room, "%s", theirs->yes ? "irreducible" : "reducible");
+        return "different";
+    }
+    if (theirs->status != ours->status) {
+        snprintf(words, room, "status %d", (int)theirs->status);
+        return "different";
+    }
+    bool fits = j->way == PERIOD ? annihilates_period(j->p, theirs->polynomial, theirs->degree, j->terms, j->count)
+                                 : annihilates(j->p, theirs->polynomial, theirs->degree, j->terms, j->count);
+    if (theirs->degree == ours->degree && memcmp(theirs->polynomial, ours->polynomial, ours->degree + 1) == 0)
+        return fits ? "same" : "wrong";
+    if (theirs->degree == ours->degree && fits && j->way == FREE && 2 * ours->degree > j->count) return "other";
+    int n = snprintf(words, room, "degree %zu, ours has %zu", theirs->degree, ours->degree);
+    if (theirs->degree < 9) {
+        n += snprintf(words + n, room - n, ": coefficients");
+        for (size_t i = 0; i <= theirs->degree; i++) n += snprintf(words + n, room - n, " %d", theirs->polynomial[i]);
+    }
+    snprintf(words + n, room - n, "; it %s the terms", fits ? "annihilates" : "does not annihilate");
+    return "different";
+}
+
+// the C versions must agree with the rater to the last number
+static void hold(const job *j, const contestant *c, const answer *ours, const answer *theirs) {
+    bool same = ours->status == theirs->status && ours->degree == theirs->degree && ours->bound == theirs->bound &&
+                ours->unique == theirs->unique && memcmp(ours->powers, theirs->powers, sizeof ours->powers) == 0;
+    if (same) return;
+    fprintf(stderr, "%s: %s and the rater differ\n", j->name, c->name);
+    exit(1);
+}
+
+// ---- one job
+
+static const char *const ways[] = {"free", "period", "portion", "set", "irreducible"};
+
+// A job and its contestants: tasks, calls in a batch, and rounds to take part in.
+typedef struct {
+    void *task[CONTESTANTS];
+    long times[CONTESTANTS];
+    int rounds[CONTESTANTS];
+} state;
+
+static void begin(const job *j, size_t number, int rounds, state *s) {
+    static answer ours, theirs;
+    printf("job\t%zu\t%s\t%u\t%zu\t%s\t%s\n", number, ways[j->way], j->p, j->count, j->family, j->name);
+    for (size_t i = 0; i < CONTESTANTS; i++) {
+        const contestant *c = contestants[i];
+        char words[200];
+        void *task = s->task[i] = c->prepare(j);
+        s->rounds[i] = 0;
+        if (task == NULL) continue;
+        memset(&theirs, 0, sizeof theirs);
+        c->run(task);
+        c->tell(task, &theirs);
+        if (i == 0) ours = theirs;
+        if (c == &plain || c == &tuned) hold(j, c, &ours, &theirs);
+        const char *found = verdict(j, &ours, &theirs, words, sizeof words);
+        printf("answer\t%zu\t%s\t%s\t%s\n", number, c->name, found, words);
+        if (j->compared) continue;
+        s->times[i] = times_of(c, task);
+        s->rounds[i] = rounds_of(rounds, batch(c, task, s->times[i]) * s->times[i]);
+    }
+}
+
+// the jobs of one family take turns too, so that what happens on the machine meets all of them alike
+static void measure(const job *jobs, size_t first, size_t count, int rounds) {
+    state states[MEMBERS];
+    for (size_t k = 0; k < count; k++) begin(&jobs[first + k], first + k, rounds, &states[k]);
+    for (int round = 0; round < rounds; round++)
+        for (size_t k = 0; k < count; k++)
+            for (size_t i = 0; i < CONTESTANTS; i++)
+                if (round < states[k].rounds[i])
+                    printf("time\t%zu\t%s\t%d\t%.1f\n", first + k, contestants[i]->name, round,
+                           batch(contestants[i], states[k].task[i], states[k].times[i]));
+    for (size_t k = 0; k < count; k++)
+        for (size_t i = 0; i < CONTESTANTS; i++)
+            if (states[k].task[i] != NULL) contestants[i]->finish(states[k].task[i]);
+}
+
+// ---- the stack of each call, on its largest job
+
+static void stacks(const job *jobs, size_t count) {
+    static const char *const calls[] = {"rate_free", "rate_period", "rate_portion", "rate_set", "is_irreducible"};
+    for (int way = FREE; way <= IRREDUCIBLE; way++) {
+        size_t most = 0;
+        for (size_t i = 0; i < count; i++) {
+            if (jobs[i].way != (enum way)way) continue;
+            void *task = rater.prepare(&jobs[i]);
+            size_t used = stack_used(rater.run, task);
+            if (used > most) most = used;
+            rater.finish(task);
+        }
+        printf("stack\t%s\t%zu\n", calls[way], most);
+    }
+}
+
+static void show(const job *j) {
+    printf("%s\np %u\n", j->name, j->p);
+    for (size_t i = 0, at = 0; i < j->factors; at += j->lengths[i++]) {
+        printf("factor");
+        for (size_t k = 0; k < j->lengths[i]; k++) printf(" %d", j->coefficients[at + k]);
+        printf("  upper power %d\n", (int)j->uppers[i]);
+    }
+    printf("terms");
+    for (size_t i = 0; i < j->count; i++) printf(" %d", j->terms[i]);
+    printf("\n");
+}
+
+// box 7, p, mode, factors, terms, end
+static void route(const job *j) {
+    static const uint8_t modes[] = {3, 1, 2, 2};
+    uint8_t head[] = {1, 0, 0, 0, 7, 2, j->p, 3, modes[j->way]};
+    fwrite(head, 1, sizeof head, stdout);
+    for (size_t i = 0, at = 0; i < j->factors; at += j->lengths[i++]) {
+        uint8_t record[36] = {4, j->lengths[i] - 1, j->uppers[i] >> 8, j->uppers[i] & 255};
+        memcpy(record + 4, j->coefficients + at, j->lengths[i] - 1);
+        fwrite(record, 1, sizeof record, stdout);
+    }
+    size_t at = 0;
+    for (; at + 64 <= j->count; at += 64) {
+        putchar(5);
+        fwrite(j->terms + at, 1, 64, stdout);
+    }
+    for (; at < j->count; at++) {
+        putchar(6);
+        putchar(j->terms[at]);
+    }
+    putchar(8);
+}
+
+int main(int argc, char **argv) {
+    size_t count;
+    const job *jobs = all_jobs(&count);
+    int rounds = 15;
+    const char *only = "";
+    for (int i = 1; i + 1 < argc; i += 2) {
+        size_t number = strtoul(argv[i + 1], NULL, 10);
+        if (strcmp(argv[i], "--rounds") == 0) rounds = number;
+        if (strcmp(argv[i], "--only") == 0) only = argv[i + 1];
+        if (strcmp(argv[i], "--terms") == 0 && number < count) {
+            show(&jobs[number]);
+            return 0;
+        }
+        if (strcmp(argv[i], "--route") == 0 && number < count && jobs[number].way != IRREDUCIBLE) {
+            route(&jobs[number]);
+            return 0;
+        }
+    }
+    for (size_t i = 0, n; i < count; i += n) {
+        n = 1;
+        while (i + n < count && n < MEMBERS && jobs[i + n].family == jobs[i].family) n++;
+        if (strstr(jobs[i].family, only) != NULL) measure(jobs, i, n, rounds);
+    }
+    if (only[0] == 0) stacks(jobs, count);
+    return 0;
+}
