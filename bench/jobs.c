@@ -118,15 +118,23 @@ static void free_digits(const char *terms) {
     snprintf(j->name, sizeof j->name, "free way, the terms %s, GF(2)", terms);
 }
 
-// a period of n terms that a power up to q of f, of degree 1, annihilates: q random terms, repeated
-static void period(const char *family, uint32_t p, const char *shown, uint8_t constant, size_t n, size_t q) {
+// A period of n terms whose least power of x − 1 is r: differences of q random terms with a sum other than 0, which
+// have the power q of p, are repeated.
+static void period(const char *family, uint32_t p, const char *shown, size_t n, size_t q, size_t r) {
     job *j = add(family, PERIOD, p);
-    add_factor(j, (uint8_t[]){constant, 1}, 1, 0);
+    uint32_t sum = 0;
+    add_factor(j, (uint8_t[]){p - 1, 1}, 1, 0);
     j->count = n;
     random_terms(j, 0, q);
+    for (size_t i = 0; i < q; i++) sum += j->terms[i];
+    if (sum % p == 0) j->terms[0] = (j->terms[0] + 1) % p;
+    for (size_t k = q; k > r; k--) {
+        uint8_t first = j->terms[0];
+        for (size_t i = 0; i < q; i++)
+            j->terms[i] = ((i + 1 < q ? j->terms[i + 1] : first) + p - j->terms[i]) % p;
+    }
     for (size_t i = q; i < n; i++) j->terms[i] = j->terms[i - q];
-    snprintf(j->name, sizeof j->name, "period of %s terms, %s over GF(%u)", grouped(n), shown, p);
-    if (q < n) snprintf(j->name + strlen(j->name), 40, ", powers up to %zu", q);
+    snprintf(j->name, sizeof j->name, "period of %s terms, (%s)^%s over GF(%u)", grouped(n), shown, grouped(r), p);
 }
 
 // a portion of n terms with f to the power v, random as far as they may be
@@ -192,13 +200,13 @@ static void fill(void) {
     }
     for (int k = 0; k < 4; k++) portion("portion, all powers", 2, "x^3+x+1", f, 3, uppers[k], sizes[k]);
     for (int k = 0; k < 4; k++) portion("portion, powers up to 170", 2, "x^3+x+1", f, 3, 170, sizes[k]);
-    for (int k = 0; k < 4; k++) period("period, GF(2)", 2, "x+1", 1, sizes[k], sizes[k]);
-    for (int k = 0; k < 4; k++) period("period, GF(2), powers up to 64", 2, "x+1", 1, 64 * binary[k], 64);
-    period("period, GF(3)", 3, "x+2", 2, 729, 729);
-    period("period, GF(3)", 3, "x+2", 2, 2187, 2187);
-    for (int k = 0; k < 4; k++) period("period, GF(3), powers up to 81", 3, "x+2", 2, 81 * ternary[k], 81);
-    period("period, GF(251), powers up to 251", 251, "x+250", 250, 251, 251);
-    for (size_t k = 2; k <= 16; k *= 2) period("period, GF(251), powers up to 251", 251, "x+250", 250, 251 * k, 251);
+    for (int k = 0; k < 4; k++) period("period, GF(2)", 2, "x+1", sizes[k], sizes[k], sizes[k] - 1);
+    for (int k = 0; k < 4; k++) period("period, GF(2), powers up to 64", 2, "x+1", 64 * binary[k], 64, 63);
+    period("period, GF(3)", 3, "x+2", 729, 729, 728);
+    period("period, GF(3)", 3, "x+2", 2187, 2187, 2186);
+    for (int k = 0; k < 4; k++) period("period, GF(3), powers up to 81", 3, "x+2", 81 * ternary[k], 81, 80);
+    period("period, GF(251)", 251, "x+250", 251, 251, 251);
+    for (size_t k = 1; k <= 16; k *= 2) period("period, GF(251), powers up to 251", 251, "x+250", 251 * k, 251, 250);
     binary_set();
     linear_set(251);
     irreducibility(2, 32);

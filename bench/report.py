@@ -4,17 +4,20 @@ docs/benchmarks.svg. With --print it leaves docs/ as it is."""
 import collections
 import datetime
 import glob
+import math
 import os
 import platform
 import re
 import statistics
 import subprocess
 import sys
+import textwrap
 
 BUILT = 'target/bench'
 OTHERS = ['plain', 'tuned', 'NTL', 'FLINT', 'PARI']
 TITLES = {'rater': 'the rater', 'plain': 'C plain', 'tuned': 'C tuned'}
 PEERS = ['NTL', 'FLINT', 'PARI']
+EQUAL = 1.05      # a ratio up to this counts as equal
 
 
 # ---- what was measured
@@ -67,21 +70,19 @@ def read_processes():
 # ---- numbers in words
 
 def significant(x, digits=2):
+    """A number with so many digits, without an exponent."""
     if x is None:
         return '–'
-    text = '%.*g' % (digits, x)
-    if 'e' in text or x >= 100:
-        text = ('%.0f' % x) if x >= 100 else ('%.*f' % (digits + 4, x)).rstrip('0')
-    return '{:,}'.format(int(text)) if text.isdigit() else text
+    x = float('%.*g' % (digits, x))
+    if x >= 10 ** (digits - 1):
+        return '{:,.0f}'.format(x)
+    places = digits - 1 - math.floor(math.log10(x))
+    return '%.*f' % (places, x)
 
 
 def microseconds(ns):
     us = ns / 1e3
     return '{:,.0f}'.format(us) if us >= 100 else '%.1f' % us
-
-
-def times(x):
-    return significant(x) + ' times'
 
 
 def table(head, rows, left=1):
@@ -139,9 +140,10 @@ def limits(jobs):
         rows.append([what, significant(value), significant(limit), kept])
 
     for text in ['portion of 4,096 terms, (x^3+x+1)^1,365', 'period of 4,096 terms', 'period of 2,187 terms',
-                 'period of 251 terms']:
+                 'period of 251 terms, (x+250)^251', 'period of 251 terms, (x+250)^250']:
         j = by_name(jobs, text)
         row(j.name + ', over C tuned', j.ratio('tuned'), 3)
+        row(j.name + ', over C plain', j.ratio('plain'), 3)
     for p in (3, 251):
         for kind in ('4,096 random terms', '4,096 terms of a register of degree 1,000'):
             j = by_name(jobs, 'free way, %s, GF(%d)' % (kind, p))
@@ -168,9 +170,9 @@ def growth(jobs):
 
     def row(family, a, b, square):
         size = b.terms / a.terms
-        limit = size * size if square else size
+        limit = size * size if square else size if 'powers up to' in family else None
         grown = grown_by(a, b, 'rater')
-        kept = 'kept' if grown <= 1.05 * limit else 'MISSED'
+        kept = '–' if limit is None else 'kept' if grown <= EQUAL * limit else 'MISSED'
         rows.append([family, '{:,} to {:,}'.format(a.terms, b.terms), significant(grown, 3), significant(limit, 3),
                      kept, significant(grown_by(a, b, 'tuned'), 3)])
 
@@ -245,54 +247,50 @@ def crates():
 
 # ---- what is slower, and why
 
+FROBENIUS = ('trial division takes some p^(d/2) divisions by other polynomials, and the peers compare powers of x modulo the '
+             'polynomial, which takes some d^3 steps')
+WORDS = '%s keeps 64 coefficients of GF(2) in a word, and the rater one in a byte, as its callers do'
+SUMS = ('the sum of products: from the proved source the compiler makes a loop of 4 products a step, where the C compiler '
+        'makes one of 16')
+ACTION = 'the loops of the action, in vector code by the compiler there and by hand here'
 REASONS = {
-    ('free 2', 'NTL'): 'NTL keeps 64 coefficients of GF(2) in a word and halves the problem; the rater keeps one in a '
-                       'byte, as its callers do, and takes the square of the terms',
-    ('free 2', 'PARI'): 'PARI keeps 64 coefficients of GF(2) in a word; the rater keeps one in a byte, as its callers do',
-    ('irreducible', 'NTL'): 'trial division takes some p^(d/2) divisions; NTL compares powers of x modulo the '
-                            'polynomial, which takes some d^3 steps',
-    ('irreducible', 'FLINT'): 'the same: trial division beside powers of x modulo the polynomial',
-    ('irreducible', 'PARI'): 'the same: trial division beside powers of x modulo the polynomial',
+    ('free 2', 'NTL'): WORDS % 'NTL' + '; beside, NTL halves the problem and does not take the square of the terms',
+    ('free 2', 'PARI'): WORDS % 'PARI',
+    ('irreducible', 'NTL'): FROBENIUS, ('irreducible', 'FLINT'): FROBENIUS, ('irreducible', 'PARI'): FROBENIUS,
+    ('free 2', 'tuned'): SUMS, ('free', 'tuned'): SUMS,
+    ('portion', 'tuned'): ACTION, ('period', 'tuned'): ACTION, ('set', 'tuned'): ACTION,
+    ('irreducible', 'tuned'): 'the same trial division in packed words, but a remainder by p is one of 64 bits by a division '
+                              'here, and by a multiplication there',
 }
-REASONS_FILE = 'bench/reasons.tsv'
-
-
-def reasons():
-    known = dict(REASONS)
-    if os.path.exists(REASONS_FILE):
-        for line in open(REASONS_FILE, encoding='utf-8'):
-            group, who, text = line.rstrip('\n').split('\t')
-            known[group, who] = text
-    return known
 
 
 def group_of(j):
     return 'free 2' if j.way == 'free' and j.p == 2 else j.way
 
 
-EQUAL = 1.05      # what is not slower than this counts as equal
 GROUPS = {'free 2': 'free way over GF(2)', 'free': 'free way over GF(3) and GF(251)', 'period': 'period way',
           'portion': 'portion way', 'set': 'set way', 'irreducible': 'irreducible or not', 'route': 'whole route files'}
 
 
 def slower(jobs, routes):
-    lists = collections.OrderedDict()
-    known = reasons()
+    lists = collections.OrderedDict()                 # (group, reason) -> contestant -> ratios of the slower jobs
     for who in PEERS + ['plain', 'tuned']:
         for j in jobs + routes:
             r = best_ratio(j, who) if j.rounds else None
             if r is not None and r > EQUAL:
-                lists.setdefault((group_of(j), who), []).append((r, j))
+                why = REASONS.get((group_of(j), who), 'the reason is not known')
+                lists.setdefault((group_of(j), why), collections.OrderedDict()).setdefault(who, []).append(r)
     lines = []
-    for (group, who), found_ in lists.items():
-        low, high = min(r for r, _ in found_), max(r for r, _ in found_)
-        total = sum(1 for j in jobs + routes if j.rounds and group_of(j) == group and j.ratio(who) is not None)
-        span = significant(high) if significant(low) == significant(high) else significant(low) + ' to ' + significant(high)
-        count = 'in all %d jobs' % total if len(found_) == total else 'in %d of %d jobs' % (len(found_), total)
-        why = known.get((group, who), 'REASON NOT FOUND')
-        lines.append('- %s: the rater takes %s times as long as %s %s. %s.' %
-                     (GROUPS[group][0].upper() + GROUPS[group][1:], span, TITLES.get(who, who), count,
-                      why[0].upper() + why[1:]))
+    for (group, why), whos in lists.items():
+        total = sum(1 for j in jobs + routes if j.rounds and group_of(j) == group)
+        parts = []
+        for who, ratios in whos.items():
+            low, high = significant(min(ratios)), significant(max(ratios))
+            count = 'all %d' % total if len(ratios) == total else '%d of %d' % (len(ratios), total)
+            parts.append('%s times as long as %s in %s jobs' %
+                         (low if low == high else low + ' to ' + high, TITLES.get(who, who), count))
+        text = '%s: the rater takes %s. The reason: %s.' % (GROUPS[group], ', '.join(parts), why)
+        lines.append(textwrap.fill(text[0].upper() + text[1:], 124, initial_indent='- ', subsequent_indent='  '))
     return '\n'.join(lines) if lines else 'Nothing.'
 
 
@@ -305,14 +303,13 @@ def ratios_of(jobs, routes):
 
 
 def agreement(now):
-    """Keeps the ratios of this run, and says how far they are from those of the run before."""
-    path = BUILT + '/ratios.tsv'
+    """Keeps the ratios of this run, and says how far they are from those of the run before (before.tsv)."""
     before = {}
-    if os.path.exists(path):
-        for line in open(path, encoding='utf-8'):
+    if os.path.exists(BUILT + '/before.tsv'):
+        for line in open(BUILT + '/before.tsv', encoding='utf-8'):
             *key, value = line.rstrip('\n').split('\t')
             before[tuple(key)] = float(value)
-    with open(path, 'w', encoding='utf-8') as out:
+    with open(BUILT + '/ratios.tsv', 'w', encoding='utf-8') as out:
         for key, value in now.items():
             out.write('\t'.join(key) + '\t%.6g\n' % value)
     both = [(max(now[k] / before[k], before[k] / now[k]), k) for k in now if k in before]
@@ -329,7 +326,6 @@ COLOURS = {'rater': '#c0392b', 'plain': '#888888', 'tuned': '#222222', 'NTL': '#
 
 
 def panel(jobs, family, title, left, top, width, height):
-    import math
     members = sorted((j for j in jobs if j.family == family and j.rounds), key=lambda j: j.terms)
     lines = collections.OrderedDict()
     for who in ['plain', 'tuned', 'FLINT', 'PARI', 'NTL', 'rater']:
@@ -422,7 +418,9 @@ picture; it is repeated by one command (see the end).
 
 ## Where and when
 
-{date}, on {machine}. Versions: {versions}. Load of the machine when the run began: {load}.
+{date}, on {machine}.
+Versions: {versions}.
+Load of the machine when the run began (one, five, fifteen minutes): {load}.
 
 All run on one core, in alternation: {passes} processes one after the other, {rounds} rounds in each, in a round a batch of each
 contestant. The time is that of the thread, so that other work on the machine counts little. The rater's own time is the
@@ -462,8 +460,8 @@ The peers promise the shortest recurrence only where twice its degree is at most
 
 ## Growth
 
-Time at the larger number of terms over time at the smaller; the limit is the square of the growth of the terms for the free
-way and the growth itself for the others. *Powers up to*: the power of p that decides the search stays the same.
+Time at the larger number of terms over time at the smaller. The limit is the square of the growth of the terms for the free
+way, and the growth itself for the other ways where the power of p that decides the search stays the same (*powers up to*).
 
 {growth}
 
