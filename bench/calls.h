@@ -30,6 +30,8 @@
 extern "C" {
 #endif
 DECLARE_CALLS(rater)
+uint64_t rater_continue_sequence(uint64_t p, const uint8_t *polynomial, size_t coefficients, const uint8_t *start,
+                                 size_t count, uint8_t *buffer, size_t bytes, size_t place);
 DECLARE_CALLS(plain)
 DECLARE_CALLS(tuned)
 #ifdef __cplusplus

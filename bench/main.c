@@ -3,6 +3,7 @@
 //   job NUMBER WAY P TERMS FAMILY NAME      time NUMBER CONTESTANT ROUND NANOSECONDS
 //   answer NUMBER CONTESTANT VERDICT WORDS  stack CALL BYTES
 // With --terms NUMBER it prints the input of a job instead, and with --route NUMBER its route file.
+#include "calls.h"
 #include "jobs.h"
 #include <stdio.h>
 #include <stdlib.h>
@@ -144,6 +145,14 @@ static void measure(const job *jobs, size_t first, size_t count, int rounds) {
 
 // ---- the stack of each call, on its largest job
 
+// a register of degree 2,048 that fills 4,096 bytes
+static void continues(void *nothing) {
+    static uint8_t f[2049] = {1}, start[2048] = {1}, buffer[4096];
+    (void)nothing;
+    f[2048] = 1;
+    if (rater_continue_sequence(251, f, sizeof f, start, sizeof start, buffer, sizeof buffer, 0) != 0) exit(1);
+}
+
 static void stacks(const job *jobs, size_t count) {
     static const char *const calls[] = {"rate_free", "rate_period", "rate_portion", "rate_set", "is_irreducible"};
     for (int way = FREE; way <= IRREDUCIBLE; way++) {
@@ -157,6 +166,7 @@ static void stacks(const job *jobs, size_t count) {
         }
         printf("stack\t%s\t%zu\n", calls[way], most);
     }
+    printf("stack\tcontinue_sequence\t%zu\n", stack_used(continues, NULL));
 }
 
 static void show(const job *j) {

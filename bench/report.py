@@ -1,6 +1,6 @@
 #!/usr/bin/env python3
-"""Puts together what bench/run measured (target/bench): prints the tables, and writes docs/BENCHMARKS.md and the picture
-docs/benchmarks.svg. With --print it leaves docs/ as it is."""
+"""Puts together what bench/run measured (target/bench): prints the tables, and writes docs/BENCHMARKS.md and the
+picture docs/benchmarks.svg. With --print it leaves docs/ as it is."""
 import collections
 import datetime
 import glob
@@ -112,14 +112,23 @@ def different(j, who):
 def differences(jobs):
     groups = collections.OrderedDict()
     for j in jobs:
-        for who, (verdict, words) in j.answers.items():
+        for who, (_, words) in j.answers.items():
             if different(j, who):
                 groups.setdefault((j.number, words), (j, []))[1].append(who.replace(' twice', ' by twice the terms'))
-    rows = []
-    for (_, words), (j, whos) in groups.items():
-        shown = 'whole in the name of the job' if j.terms < 10 else '`target/bench/jobs --terms %d` prints it' % j.number
-        rows.append([j.name, ', '.join(whos), words, shown])
-    return table(['Job', 'Who', 'Answer', 'Input'], rows, 4) if rows else 'No answer differs.'
+    if not groups:
+        return 'No answer differs.'
+    rows = [[j.name, ', '.join(whos), words] for (_, words), (j, whos) in groups.items()]
+    inputs = collections.OrderedDict((j.number, j) for j, _ in groups.values() if j.terms > 9)
+    return '\n\n'.join([table(['Job', 'Who', 'Answer'], rows, 3)] + [input_of(j) for j in inputs.values()])
+
+
+def input_of(j):
+    """The terms of a job, as digits where p has one digit."""
+    shown = subprocess.run([BUILT + '/jobs', '--terms', str(j.number)], stdout=subprocess.PIPE, text=True, check=True)
+    terms = shown.stdout.splitlines()[-1].split()[1:]
+    text = ''.join(terms) if j.p < 10 else ' '.join(terms)
+    lines = textwrap.wrap(text, 118)
+    return 'Input of *%s*:\n\n' % j.name + '\n'.join('    ' + l for l in lines)
 
 
 def by_name(jobs, text):
@@ -189,7 +198,7 @@ def growth(jobs):
 
 def memory(stacks):
     lent = {'rate_free': '12,289', 'rate_period': '12,289', 'rate_portion': '12,289', 'rate_set': '12,289',
-            'is_irreducible': 'none'}
+            'is_irreducible': 'none', 'continue_sequence': 'the part that is filled'}
     rows = [['`%s`' % call, lent[call], '{:,}'.format(n)] for call, n in stacks.items()]
     return table(['Call', 'bytes lent', 'bytes of stack'], rows)
 
@@ -223,10 +232,10 @@ def found(crate, folder, ending):
 
 
 def proof_times():
-    path = BUILT + '/proofs.log'
-    if not os.path.exists(path):
-        return {}
-    return dict(re.findall(r'^rt: (\w+) (?:proved|built)[^(]*\((\d+) s\)', open(path, encoding='utf-8').read(), re.M))
+    """Seconds by crate: of `bench/run --proofs`, else of the check that target/log keeps."""
+    paths = [BUILT + '/proofs.log'] if os.path.exists(BUILT + '/proofs.log') else glob.glob('target/log/*.out')
+    text = '\n'.join(open(path, encoding='utf-8').read() for path in paths)
+    return dict(re.findall(r'^rt: (\w+) (?:proved|built)[^(]*\((\d+) s\)', text, re.M))
 
 
 def crates():
@@ -247,11 +256,11 @@ def crates():
 
 # ---- what is slower, and why
 
-FROBENIUS = ('trial division takes some p^(d/2) divisions by other polynomials, and the peers compare powers of x modulo the '
-             'polynomial, which takes some d^3 steps')
+FROBENIUS = ('trial division takes some p^(d/2) divisions by other polynomials, and the peers compare powers of x modulo '
+             'the polynomial, which takes some d^3 steps')
 WORDS = '%s keeps 64 coefficients of GF(2) in a word, and the rater one in a byte, as its callers do'
-SUMS = ('the sum of products: from the proved source the compiler makes a loop of 4 products a step, where the C compiler '
-        'makes one of 16')
+SUMS = ('the sum of products, of which the compiler of the proved source makes a loop of 8 products a step, and the C '
+        'compiler one of 16')
 ACTION = 'the loops of the action, in vector code by the compiler there and by hand here'
 REASONS = {
     ('free 2', 'NTL'): WORDS % 'NTL' + '; beside, NTL halves the problem and does not take the square of the terms',
@@ -259,8 +268,8 @@ REASONS = {
     ('irreducible', 'NTL'): FROBENIUS, ('irreducible', 'FLINT'): FROBENIUS, ('irreducible', 'PARI'): FROBENIUS,
     ('free 2', 'tuned'): SUMS, ('free', 'tuned'): SUMS,
     ('portion', 'tuned'): ACTION, ('period', 'tuned'): ACTION, ('set', 'tuned'): ACTION,
-    ('irreducible', 'tuned'): 'the same trial division in packed words, but a remainder by p is one of 64 bits by a division '
-                              'here, and by a multiplication there',
+    ('irreducible', 'tuned'): 'the same trial division in packed words, but a remainder by p is found by a division of '
+                              '64 bits here, and by a multiplication there',
 }
 
 
@@ -473,18 +482,23 @@ The stack was painted before a call and looked at afterwards, on all jobs of the
 
 ## Lines and proofs by crate
 
-Lines that are neither blank nor comments. {proofs}
+Lines that are neither blank nor comments.
+{proofs}
 
 {crates}
 
 ## To repeat
 
     bench/run --install     once: Debian's packages of NTL, FLINT and PARI
-    bench/run               this page, without the times of the proofs if they were never measured
-    bench/run --proofs      the times of the proofs too
+    bench/run               this page; the times of the proofs are those of the last check of all crates
+    bench/run --proofs      the same, after proving every crate anew
 
 `bench/leaves` compares the inner loops alone.
 '''
+
+
+PROVED = '''Seconds are by the clock, each crate proved from nothing over the crates that it depends on,
+with other work on the machine.'''
 
 
 def main():
@@ -496,7 +510,8 @@ def main():
     agreed = agreement(ratios_of(jobs, routes))
     said = ''
     if agreed:
-        said = 'The %d ratios of this run and of the run before it agree within a factor of %.2f.' % (agreed[2], agreed[0])
+        said = 'The %d ratios of this run and of the run before it agree within a factor of %.2f.' % (
+            agreed[2], agreed[0])
     sizes = [(name, file_size(path)) for name, path in (('The program `rate`', 'target/bin/rate'),
                                                        ('The library of the exported calls',
                                                         'target/staticlib/libexports.a'))]
@@ -507,8 +522,7 @@ def main():
         load=open(BUILT + '/load.txt').read().strip(), passes=passes, rounds=rounds, agreement=said,
         times=main_table(jobs, routes), differences=differences(jobs), limits=limits(jobs), growth=growth(jobs),
         memory=memory(stacks), sizes=' '.join('%s has %s.' % s for s in sizes if s[1]),
-        crates=crates(), proofs='The proofs were timed by the clock, one crate after the other, from nothing.' if seconds
-        else 'The times of the proofs were not measured in this run.')
+        crates=crates(), proofs=PROVED if seconds else 'The times of the proofs are not known here.')
     print(parts['times'], parts['differences'], parts['limits'], parts['growth'], parts['memory'], parts['crates'],
           'Slower than a peer:\n' + parts['slower'], sep='\n\n')
     if agreed:
