@@ -261,15 +261,15 @@ FROBENIUS = ('trial division takes some p^(d/2) divisions by other polynomials, 
 WORDS = '%s keeps 64 coefficients of GF(2) in a word, and the rater one in a byte, as its callers do'
 SUMS = ('the sum of products, of which the compiler of the proved source makes a loop of 8 products a step, and the C '
         'compiler one of 16')
-ACTION = 'the loops of the action, in vector code by the compiler there and by hand here'
+ACTION = 'the remainders of the sums, whose vector code is the compiler\'s in the rater and by hand in C'
 REASONS = {
-    ('free 2', 'NTL'): WORDS % 'NTL' + '; beside, NTL halves the problem and does not take the square of the terms',
+    ('free 2', 'NTL'): WORDS % 'NTL' + '; and the half-gcd of NTL takes less than the square of the terms',
     ('free 2', 'PARI'): WORDS % 'PARI',
     ('irreducible', 'NTL'): FROBENIUS, ('irreducible', 'FLINT'): FROBENIUS, ('irreducible', 'PARI'): FROBENIUS,
     ('free 2', 'tuned'): SUMS, ('free', 'tuned'): SUMS,
     ('portion', 'tuned'): ACTION, ('period', 'tuned'): ACTION, ('set', 'tuned'): ACTION,
     ('irreducible', 'tuned'): 'the same trial division in packed words, but a remainder by p is found by a division of '
-                              '64 bits here, and by a multiplication there',
+                              '64 bits in the rater, and by a multiplication in C',
 }
 
 
@@ -459,7 +459,7 @@ round: **below 1 the rater is faster**. {agreement}
 ### Where a peer answers differently
 
 Each answer was compared with the rater's. Under `some`, another polynomial of the same degree that fits is no difference.
-The peers promise the shortest recurrence only where twice its degree is at most the number of terms.
+What is asked of the peers here finds the shortest recurrence only where twice its degree is at most the number of terms.
 
 {differences}
 
