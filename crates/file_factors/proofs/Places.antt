@@ -1,10 +1,10 @@
 -- The factors of a file place by place, by the bodies of its records: looking through them, a number of each, and
 -- their coefficients stored one factor after another.
 -- Assumes nothing.
-use Prim.Native.Nat.{ℕ, suc, _+_, _≤_, _<_}
+use Prim.Native.Nat.{ℕ, zero, suc, _+_, _≤_, _<_}
 use native.Mathlib.Numerals.{add-one}
 use native.Mathlib.Omega.{arith}
-use mathlib.Core.Path.{_≡_, sym, ap, _∙_}
+use mathlib.Core.Path.{_≡_, refl, sym, ap, _∙_}
 use mathlib.Core.Bool.{Bool, true, false}
 use mathlib.Core.List.{List, [], _∷_, _++_, map, flatten, map-map}
 use lib.ListN.{length, getD, take, drop, set, length-append, length-map, drop-of-length-le}
@@ -71,18 +71,25 @@ pub factors-over : (file : List ℕ) (i : ℕ) (t : WrittenFactor → Bool) {x :
     → false ≡ x
 factors-over file i t e h = scan-over (some-scan t) noFactor (factorsIn file) i e h
 
+getD-map-in : {A B : Type 0} (g : A → B) (l : List A) (i : ℕ) (a : A) (b : B) → i < length l
+    → getD (map g l) i b ≡ g (getD l i a)
+getD-map-in g [] i a b h = absurd (omega arith)
+getD-map-in g (x ∷ l) zero a b h = refl
+getD-map-in g (x ∷ l) (suc i) a b h = getD-map-in g l i a b (omega arith)
+
 -- the polynomials from i on: that of factor i, and then the others
 module _ (file : List ℕ) (i : ℕ) (body : List ℕ) (b : body ≡ getD (bodies 4 (recordsFrom file 0)) i [])
     (inside : i < length (factorsIn file)) where
-  polynomial-at : getD (polynomialsIn file) i (polynomialOf noFactor) ≡ polynomialOf (fileFactor body)
-  polynomial-at = List·getD-map polynomialOf (factorsIn file) i noFactor ∙ ap polynomialOf (factor-body file i body b)
+  pub polynomial-at : (d : Polynomial) → getD (polynomialsIn file) i d ≡ polynomialOf (fileFactor body)
+  polynomial-at d =
+      getD-map-in polynomialOf (factorsIn file) i noFactor d inside ∙ ap polynomialOf (factor-body file i body b)
 
   polynomials-cons : drop i (polynomialsIn file)
       ≡ polynomialOf (fileFactor body) ∷ drop (i + 1) (polynomialsIn file)
   polynomials-cons =
       rw add-one
-      (drop-cons (polynomialsIn file) i (polynomialOf noFactor) (rw length-map inside)
-      ∙ ap (λ (g : Polynomial). g ∷ drop (suc i) (polynomialsIn file)) polynomial-at)
+      (drop-cons (polynomialsIn file) i [] (rw length-map inside)
+      ∙ ap (λ (g : Polynomial). g ∷ drop (suc i) (polynomialsIn file)) (polynomial-at []))
 
   flatten-split : flatten (drop i (polynomialsIn file))
       ≡ polynomialOf (fileFactor body) ++ flatten (drop (i + 1) (polynomialsIn file))

@@ -1,0 +1,68 @@
+-- What the mode of an accepted file says: its factors suit it, and the file is rated by its way.
+-- Assumes nothing.
+use Prim.Native.Nat.{ℕ, _≤_, _<_}
+use native.Mathlib.Decide.{decLt, ℕ-discrete}
+use native.Mathlib.Omega.{arith}
+use mathlib.Core.Path.{_≡_, _∙_}
+use mathlib.Core.Bool.{false, true≢false}
+use mathlib.Core.List.{List}
+use mathlib.Core.Option.{some}
+use lib.ListN.{length}
+use borrow.Author.Tests.{ltb-false}
+use Rattle.meaning.specs.Free.{Choice}
+use Rattle.meaning.specs.Route.{RouteRecord, Mode, periodMode, setMode, freeMode, lookUp, modeOf, byteOf, bodies}
+use Rattle.meaning.specs.Route.{modeUnsuited}
+use Rattle.meaning.specs.File.{termsOf, rateMode, rateRecords}
+use Rattle.framing.specs.Framing.{recordsFrom}
+use Rattle.contents.proofs.Modes.{unsuited-unknown, period-count, set-none, set-most}
+use Rattle.file_factors.specs.Written.{factorsIn}
+
+-- the mode and the number of factors as they were read
+module _ (rs : List RouteRecord) (suited : modeUnsuited rs ≡ false) (mode count : ℕ)
+    (mode-is : mode ≡ byteOf 3 rs) (count-is : count ≡ length (bodies 4 rs)) where
+  pub one-factor : mode ≡ 1 → count ≡ 1
+  one-factor e = go (ℕ-discrete count 1)
+    where
+      go : Dec (count ≡ 1) → count ≡ 1
+      go (yes h) = h
+      go (no h) = absurd (true≢false (period-count rs mode count mode-is count-is e h ∙ suited))
+
+  pub some-mode : (mode ≡ 3 → ⊥) → (mode ≡ 1 → ⊥) → mode ≡ 2
+  some-mode a b = go (ℕ-discrete mode 2)
+    where
+      go : Dec (mode ≡ 2) → mode ≡ 2
+      go (yes h) = h
+      go (no h) = absurd (true≢false (unsuited-unknown rs mode count mode-is count-is b h a ∙ suited))
+
+  pub some-factors : mode ≡ 2 → (1 ≤ count) × (count ≤ 8)
+  some-factors e = go (decLt count 1)
+    where
+      go : Dec (count < 1) → (1 ≤ count) × (count ≤ 8)
+      go (yes h) = absurd (true≢false (set-none rs mode count mode-is count-is e h ∙ suited))
+      go (no h) =
+          let low : 1 ≤ count = omega arith in
+          (low, ltb-false 8 count (set-most rs mode count mode-is count-is e low ∙ suited))
+
+-- the way of the mode
+module _ (pick : Choice) (file : List ℕ) (answer work : ℕ) {mode : ℕ}
+    (mode-is : mode ≡ byteOf 3 (recordsFrom file 0)) where
+  abbrev By : Mode → Type 0
+  By m =
+      rateRecords pick (recordsFrom file 0) answer work
+      ≡ rateMode pick m (byteOf 2 (recordsFrom file 0)) (factorsIn file) (termsOf (recordsFrom file 0)) answer work
+
+  rated-by : (m : Mode) → modeOf mode ≡ some m → By m
+  unfolding rateRecords factorsIn
+  rated-by m e = rw (← mode-is, e, rateRecords)
+
+  pub by-period : mode ≡ 1 → By periodMode
+  unfolding modeOf lookUp
+  by-period e = rated-by periodMode (rw e)
+
+  pub by-set : mode ≡ 2 → By setMode
+  unfolding modeOf lookUp
+  by-set e = rated-by setMode (rw e)
+
+  pub by-free : mode ≡ 3 → By freeMode
+  unfolding modeOf lookUp
+  by-free e = rated-by freeMode (rw e)
