@@ -106,6 +106,23 @@ module _ (m : ℕ) {sender : ℕ} {answer work : List ℕ} {r : FileRating} {ans
         lent = lent-set m x (h .lent);
       }
 
+-- the set way on the same factors and upper powers
+pub set-same : {p : ℕ} {fs gs : List Polynomial} {us vs ts answer work : List ℕ} {s : SetRating}
+    {answer′ work′ : List ℕ}
+    → fs ≡ gs
+    → us ≡ vs
+    → SetCall p fs us ts answer work s answer′ work′
+    → SetCall p gs vs ts answer work s answer′ work′
+set-same e f h = rw (← e, ← f) h
+
+-- the same result in other words
+pub rated-as : {sender : ℕ} {x y : Result (Rated FileFigures)} {answer work : List ℕ} {r : FileRating}
+    {answer′ work′ : List ℕ}
+    → x ≡ y
+    → RatedFile sender y answer work r answer′ work′
+    → RatedFile sender x answer work r answer′ work′
+rated-as e h = rw e h
+
 -- a refusal by another number than 17
 pub refused-rated : {sender n : ℕ} {result : Result (Rated FileFigures)} {answer work : List ℕ}
     {r : FileRating}

@@ -3,7 +3,7 @@
 use Prim.Native.Nat.{ℕ, _≤_}
 use native.Mathlib.Decide.{ℕ-discrete}
 use native.Mathlib.Omega.{arith}
-use mathlib.Core.Path.{_≡_, refl, sym, _∙_}
+use mathlib.Core.Path.{_≡_, refl, sym, ap, _∙_}
 use mathlib.Core.Bool.{false}
 use mathlib.Core.List.{List, [], _∷_, map, flatten}
 use lib.Dec.{eqb}
@@ -16,7 +16,8 @@ use Rattle.meaning.specs.Period.{ratePeriod}
 use Rattle.meaning.specs.Portion.{rateSet}
 use Rattle.meaning.specs.Free.{Choice, rateFree}
 use Rattle.meaning.specs.Route.{Mode, periodMode, setMode, byteOf, bodies}
-use Rattle.meaning.specs.File.{fileDegreeOutOfRange, ofPeriod, ofSet, ofFree, rateMode, rateRecords}
+use Rattle.meaning.specs.File.{fileDegreeOutOfRange, termsOf, ofPeriod, ofSet, ofFree}
+use Rattle.meaning.specs.File.{rateMode, rateRecords}
 use Rattle.meaning.specs.Answers.{numberOf}
 use Rattle.framing.specs.Framing.{recordsFrom}
 use Rattle.refusals.specs.declared.Verdict.{Verdict}
@@ -26,15 +27,41 @@ use Rattle.rater.proofs.Lent.{never-refused}
 use Rattle.file_factors.specs.Written.{factorsIn, polynomialsIn, writtenTable}
 use Rattle.file_factors.proofs.Places.{factors-count}
 use Rattle.file_factors.proofs.Polynomials.{AllWhole, factors-whole, polynomials-fit}
-use Rattle.file_ways.specs.Ratings.{Rateable}
+use Rattle.file_ways.specs.Ratings.{AcceptedRecords, Rateable}
 use Rattle.file_ways.proofs.Suited.{one-factor, some-mode, some-factors, by-period, by-set, by-free}
-use Rattle.file_ways.proofs.Modes.{period-factors, set-factors, period-way, set-way}
+use Rattle.file_ways.proofs.Suited.{rated-refused}
+use Rattle.file_ways.proofs.Terms.{cutTerms, cut-terms, cut-accepted}
+use Rattle.file_ways.proofs.Modes.{mode-terms, period-factors, set-factors, period-way, set-way}
 
 -- the first list of several is no longer than all
 first-within : (l : List (List ℕ)) → length (getD l 0 []) ≤ length (flatten l)
 unfolding flatten
 first-within [] = omega arith
 first-within (a ∷ l) = omega (arith, length-append a (flatten l))
+
+-- p and the terms as they were read, the terms cut after 4,097, and u the verdict on them
+module _ (file ts : List ℕ) (p : ℕ) (ok : AcceptedRecords (recordsFrom file 0))
+    (field : p ≡ byteOf 2 (recordsFrom file 0)) (cut : ts ≡ cutTerms (termsOf (recordsFrom file 0)))
+    {u : Verdict} (eu : numberIn u ≡ firstOf (termsTable p ts)) where
+  pub rateable : u ≡ Verdict.Accepted → Rateable p file ts
+  unfolding numberIn
+  rateable q =
+      record {
+        accepted = ok;
+        field = field;
+        terms = cut ∙ cut-accepted p (termsOf (recordsFrom file 0)) (rw (← cut) eu) q;
+        passed = sym eu ∙ ap numberIn q;
+      }
+
+  pub records-terms : (pick : Choice) (answer work : ℕ) {x : Refusal} → u ≡ Verdict.Refused x
+      → rateRecords pick (recordsFrom file 0) answer work ≡ refused (numberOf x)
+  records-terms pick answer work q =
+      rated-refused pick file answer work (ok .suited)
+      (λ m. mode-terms (byteOf 2 (recordsFrom file 0)) (factorsIn file) (termsOf (recordsFrom file 0)) answer work
+      (rw (← field) (eu ∙ rw cut (cut-terms p (termsOf (recordsFrom file 0)))))
+      pick
+      m
+      q)
 
 module _ (pick : Choice) (file ts : List ℕ) (answer work : ℕ) {p : ℕ} (ok : Rateable p file ts) (mode count : ℕ)
     (mode-is : mode ≡ byteOf 3 (recordsFrom file 0)) (count-is : count ≡ length (bodies 4 (recordsFrom file 0)))

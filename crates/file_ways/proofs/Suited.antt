@@ -3,12 +3,13 @@
 use Prim.Native.Nat.{ℕ, _≤_, _<_}
 use native.Mathlib.Decide.{decLt, ℕ-discrete}
 use native.Mathlib.Omega.{arith}
-use mathlib.Core.Path.{_≡_, _∙_}
+use mathlib.Core.Path.{_≡_, refl, _∙_}
 use mathlib.Core.Bool.{false, true≢false}
 use mathlib.Core.List.{List}
-use mathlib.Core.Option.{some}
+use mathlib.Core.Option.{Option, none, some}
 use lib.ListN.{length}
 use borrow.Author.Tests.{ltb-false}
+use Rattle.meaning.specs.Result.{refused}
 use Rattle.meaning.specs.Free.{Choice}
 use Rattle.meaning.specs.Route.{RouteRecord, Mode, periodMode, setMode, freeMode, lookUp, modeOf, byteOf, bodies}
 use Rattle.meaning.specs.Route.{modeUnsuited}
@@ -66,3 +67,18 @@ module _ (pick : Choice) (file : List ℕ) (answer work : ℕ) {mode : ℕ}
   pub by-free : mode ≡ 3 → By freeMode
   unfolding modeOf lookUp
   by-free e = rated-by freeMode (rw e)
+
+-- the refusal that p and the terms meet in any mode
+pub rated-refused : (pick : Choice) (file : List ℕ) (answer work : ℕ) {n : ℕ}
+    → modeUnsuited (recordsFrom file 0) ≡ false
+    → ((m : Mode)
+    → rateMode pick m (byteOf 2 (recordsFrom file 0)) (factorsIn file) (termsOf (recordsFrom file 0)) answer work
+    ≡ refused n)
+    → rateRecords pick (recordsFrom file 0) answer work ≡ refused n
+unfolding modeUnsuited
+rated-refused pick file answer work {n} suited each = go (modeOf (byteOf 3 (recordsFrom file 0))) refl
+  where
+    go : (o : Option Mode) → modeOf (byteOf 3 (recordsFrom file 0)) ≡ o
+        → rateRecords pick (recordsFrom file 0) answer work ≡ refused n
+    go none e = absurd (true≢false (rw (e, modeUnsuited) at suited))
+    go (some m) e = rated-by pick file answer work refl m e ∙ each m

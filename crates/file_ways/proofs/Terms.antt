@@ -6,12 +6,15 @@ use native.Mathlib.Omega.{arith}
 use mathlib.Core.Path.{_≡_, sym, ap, _∙_}
 use mathlib.Core.Bool.{true}
 use mathlib.Core.List.{List, [], _∷_}
-use lib.ListN.{length, take, replicate, length-take, length-replicate}
-use lib.Seq.{take-all, sets}
+use lib.ListN.{length, take, drop, length-take}
+use lib.Seq.{take-all}
 use borrow.Author.Tests.{lt-ltb, ne-eqb}
 use Rattle.meaning.specs.Conditions.{notPrime, countOutOfRange}
 use Rattle.meaning.specs.Result.{firstOf}
+use Rattle.meaning.specs.File.{termsOf}
 use Rattle.bridge.proofs.Accepted.{count-accepted}
+use Rattle.framing.specs.Framing.{recordsFrom}
+use Rattle.contents.specs.Contents.{Gathered}
 use Rattle.contents.proofs.Stores.{sets-front}
 use Rattle.refusals.specs.declared.Verdict.{Verdict}
 use Rattle.refusals.specs.Verdicts.{numberIn, termsTable}
@@ -49,7 +52,10 @@ module _ (p : ℕ) (ts : List ℕ) where
       take-all 4097 ts (omega arith)
 
 -- the terms as they were gathered in 4,097 bytes
-pub gathered-cut : (ts terms : List ℕ) (n : ℕ) → n ≡ length ts → terms ≡ sets (replicate 4097 0) 0 ts
-    → take n terms ≡ cutTerms ts
-gathered-cut ts terms n e f =
-    rw (e, f) (sets-front (replicate 4097 0) ts ∙ ap (λ (k : ℕ). take k ts) (length-replicate {A = ℕ} 4097 0))
+pub gathered-cut : {file terms terms′ part : List ℕ} {n : ℕ} → Gathered file terms n terms′
+    → length terms ≡ 4097
+    → part ≡ take n (drop 0 terms′)
+    → part ≡ cutTerms (termsOf (recordsFrom file 0))
+gathered-cut {file} {terms} g size e =
+    let ts = termsOf (recordsFrom file 0) in
+    e ∙ rw (g .count, g .bytes) (sets-front terms ts ∙ ap (λ (k : ℕ). take k ts) size)

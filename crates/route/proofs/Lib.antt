@@ -3,3 +3,4 @@ pub mod Walks
 pub mod Steps
 pub mod Readings
 pub mod Accepted
+pub mod Ratings

@@ -27,11 +27,11 @@ answer-known (answered qs) rs h = ap answered (h .0)
 suited-whole : (x : Result (List RouteRecord)) (rs : List RouteRecord) → AnswersWhole x rs
     → AnswersWhole (suited x) rs
 unfolding suited
-suited-whole (refused n) rs h = tt
+suited-whole (refused n) rs h = h
 suited-whole (answered qs) rs h = go (modeUnsuited qs) refl
   where
     go : (t : Bool) → modeUnsuited qs ≡ t → AnswersWhole (suited (answered qs)) rs
-    go true e = rw (e, suited) tt
+    go true e = rw (e, suited) refl
     go false e = rw (e, suited) h
 
 module _ (file : List ℕ) where
@@ -51,7 +51,7 @@ module _ (file : List ℕ) where
   records-whole = go (decLt 16384 (length file))
     where
       go : Dec (16384 < length file) → AnswersWhole (records file) (recordsFrom file 0)
-      go (yes h) = rw (records-long h) tt
+      go (yes h) = rw (records-long h) refl
       go (no h) = rw (records-short (omega arith)) (suited-whole _ _ walk-whole)
 
   -- the records of an accepted file

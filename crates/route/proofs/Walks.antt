@@ -2,7 +2,8 @@
 -- their lengths, of which none is cut.
 --
 --   Whole rs          == the bodies of the records have the lengths of their kinds
---   AnswersWhole x rs == where the result x is an answer, it is the records rs, and they are whole
+--   AnswersWhole x rs == where the result x is an answer, it is the records rs, and they are whole; a refusal is
+--                        not by 17
 -- Assumes nothing.
 use Prim.Native.Nat.{ℕ, zero, suc}
 use mathlib.Core.Path.{_≡_, refl, sym, ap, _∙_}
@@ -10,7 +11,7 @@ use mathlib.Core.Bool.{Bool, true, false}
 use mathlib.Core.List.{List, [], _∷_}
 use mathlib.Core.Option.{Option, none, some}
 use borrow.Author.Tests.{ltb-false}
-use lib.Dec.{ltb}
+use lib.Dec.{ltb, eqb}
 use lib.ListN.{length, take, drop}
 use lib.Seq.{length-take-le}
 use Rattle.meaning.specs.Result.{Result, refused, answered}
@@ -52,26 +53,26 @@ Whole [] = Unit {0}
 Whole (r ∷ rs) = (length (r .body) ≡ bodyLength (r .kind)) × Whole rs
 
 abbrev pub AnswersWhole : Result (List RouteRecord) → List RouteRecord → Type 0
-AnswersWhole (refused n) rs = Unit {0}
+AnswersWhole (refused n) rs = eqb n 17 ≡ false
 AnswersWhole (answered qs) rs = (qs ≡ rs) × Whole qs
 
-whole-refused : (rs : List RouteRecord) {n : ℕ} (x : Result (List RouteRecord)) → x ≡ refused n
+whole-refused : (rs : List RouteRecord) {n : ℕ} → eqb n 17 ≡ false → (x : Result (List RouteRecord)) → x ≡ refused n
     → AnswersWhole x rs
-whole-refused rs x e = rw e tt
+whole-refused rs h x e = rw e h
 
 whole-before : (rs : List RouteRecord) (r : RouteRecord) → length (r .body) ≡ bodyLength (r .kind)
     → (x : Result (List RouteRecord)) → AnswersWhole x rs → AnswersWhole (before r x) (r ∷ rs)
 unfolding before
-whole-before rs r e (refused n) h = tt
+whole-before rs r e (refused n) h = h
 whole-before rs r e (answered qs) h = (ap (_∷_ r) (h .0), (e, h .1))
 
 whole-stopped : (stage : Stage) → AnswersWhole (stopped stage) []
 unfolding stopped
-whole-stopped atStart = tt
-whole-stopped afterBox = tt
-whole-stopped afterField = tt
-whole-stopped inFactors = tt
-whole-stopped inTerms = tt
+whole-stopped atStart = refl
+whole-stopped afterBox = refl
+whole-stopped afterField = refl
+whole-stopped inFactors = refl
+whole-stopped inTerms = refl
 whole-stopped afterEnd = (refl, tt)
 
 -- one record, and then what the rest answers
@@ -91,17 +92,17 @@ module _ (kind : ℕ) (rest : List ℕ) (stage : Stage)
 
     whole-placed : ltb (length rest) n ≡ false → (o : Option Stage) → lookUp kind (admitted stage) ≡ o
         → Framed
-    whole-placed t none a = whole-refused _ _ (walk-misplaced kind rest stage e t a)
+    whole-placed t none a = whole-refused _ refl _ (walk-misplaced kind rest stage e t a)
     whole-placed t (some after) a =
         let l = length-take-le n rest (ltb-false _ _ t) ∙ sym length-found in
         rw (walk-good kind rest stage e t a, framed-found) (whole-before _ _ l _ (recur n after))
 
     whole-fitting : (t : Bool) → ltb (length rest) n ≡ t → Framed
-    whole-fitting true t = whole-refused _ _ (walk-cut kind rest stage e t)
+    whole-fitting true t = whole-refused _ refl _ (walk-cut kind rest stage e t)
     whole-fitting false t = whole-placed t (lookUp kind (admitted stage)) refl
 
   whole-record : (o : Option ℕ) → lookUp kind bodyLengths ≡ o → Framed
-  whole-record none e = whole-refused _ _ (walk-unknown kind rest stage e)
+  whole-record none e = whole-refused _ refl _ (walk-unknown kind rest stage e)
   whole-record (some n) e = whole-fitting e (ltb (length rest) n) refl
 
 pub walk-framed : (bytes : List ℕ) (skip : ℕ) (stage : Stage)

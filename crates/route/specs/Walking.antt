@@ -17,8 +17,8 @@ use Rattle.meaning.specs.Answers.{numberOf}
 use Rattle.meaning.specs.Result.{Result, refused, answered, mapResult}
 use Rattle.meaning.specs.Route.{RouteRecord, Stage, atStart, afterBox, afterField, inFactors, inTerms, afterEnd, before, walk}
 use Rattle.framing.specs.Framing.{recordAt}
+use Rattle.refusals.specs.declared.Verdict.{Verdict}
 use Rattle.route.specs.declared.walk.Step.{Step}
-use Rattle.route.specs.declared.walk.Verdict.{Verdict}
 
 unfoldable pub stageOf : ℕ → Stage
 stageOf zero = atStart

@@ -1,22 +1,29 @@
-// The route file: the refusals 1 to 5, and the reader by record number. Every function answers for every file
-// of any length, and none changes a lent byte.
+// The route file: the refusals 1 to 5, the reader by record number, and the rating of a file. Every function answers
+// for every file of any length, and none but `rate_file` changes a lent byte.
 mod walk;
 
+use contents::box_of;
+use contents::gather_terms;
 use contents::mode_unsuited;
+use file_ways::of_refusal;
+use file_ways::rate_records;
 use framing::body_at;
 use framing::kind_at;
+use framing::part;
 use framing::place_of;
+use meaning::FileRating;
 use meaning::FoundRecord;
 use meaning::RecordOutcome;
 use meaning::Refusal;
+use refusals::Verdict;
 use walk::walk_file;
 ghost use mathlib.Core.Path.{_≡_};
 ghost use Rattle.meaning.specs.Answers.{toldRecord};
-ghost use Rattle.meaning.specs.Calls.{bodyAfter, RecordCall};
+ghost use Rattle.meaning.specs.Calls.{bodyAfter, RecordCall, FileCall};
 ghost use Rattle.meaning.specs.Result.{mapResult};
 ghost use Rattle.meaning.specs.Route.{records, readRecord};
+ghost use Rattle.massey.specs.Shortest.{freeChoice};
 ghost use Rattle.route.specs.Walking.{verdictOf, toldVerdict};
-pub use walk::Verdict;
 
 // The longest file that is looked at.
 const MOST_BYTES: usize = 16384;
@@ -71,4 +78,23 @@ pub fn record<'a>(file: &'a [u8], n: usize) -> FoundRecord<'a>
     let outcome = record_outcome(file, n);
     let body = record_body(file, n);
     FoundRecord { outcome, body }
+}
+
+// The rating of a file, with the number of the box that sent it: the answer of the way that its mode names on what it
+// holds, or the refusal by 1 to 5 or by that way. Accepted, it leaves the polynomial at the front of the answer;
+// accepted or refused by 17, zeros in the first 8,192 work bytes. Every other lent byte stays as it was.
+pub fn rate_file(file: &[u8], answer: &mut [u8], work: &mut [u8]) -> FileRating
+    ensures { λ r. ⌜ FileCall freeChoice (now (file .entry)) (now (answer .entry)) (now (work .entry)) r
+        (now (answer .exit)) (now (work .exit)) ⌝ }
+{
+    let sender = box_of(file);
+    match verdict(file) {
+        Verdict::Refused(r) => of_refusal(sender, r),
+        Verdict::Accepted => {
+            // one more than 7 allows: further terms change nothing
+            let mut terms = [0u8; 4097];
+            let count = gather_terms(file, &mut terms);
+            rate_records(sender, file, part(&terms, 0, count), answer, work)
+        }
+    }
 }

@@ -3,17 +3,12 @@
 use framing::NO_KIND;
 use framing::body_length;
 use meaning::Refusal;
+use refusals::Verdict;
 ghost use mathlib.Core.Path.{_≡_};
 ghost use Prim.Native.Nat.{_<_};
 ghost use lib.ListN.{length};
 ghost use Rattle.meaning.specs.Route.{lookUp, admitted, walk, atStart};
 ghost use Rattle.route.specs.Walking.{stageOf, stageTold, verdictOf, toldVerdict, StepCall};
-
-// Whether a file is accepted.
-pub enum Verdict {
-    Accepted,
-    Refused(Refusal),
-}
 
 // What a step of the walk finds: a record in its place, with the place and the stage after it, or a bad one.
 pub enum Step {
