@@ -1,5 +1,5 @@
--- The factors of a file place by place, by the bodies of its records: looking through them, a number of each, and
--- their coefficients stored one factor after another.
+-- The factors of a file place by place, by the bodies of its records: looking through them, a number of each,
+-- and their coefficients stored one factor after another.
 -- Assumes nothing.
 use Prim.Native.Nat.{ℕ, zero, suc, _+_, _≤_, _<_}
 use native.Mathlib.Numerals.{add-one}
@@ -43,7 +43,8 @@ module _ (file : List ℕ) (i : ℕ) (body : List ℕ) (b : body ≡ getD (bodie
     body-next q = scan-next (some-scan t) noFactor (factorsIn file) i e inside (rw factor-body q)
 
   -- one more number of each factor
-  pub number-next : (g : WrittenFactor → ℕ) (ns : List ℕ) (n : ℕ) → i < length ns → i < length (factorsIn file)
+  pub number-next : (g : WrittenFactor → ℕ) (ns : List ℕ) (n : ℕ) → i < length ns
+      → i < length (factorsIn file)
       → take i ns ≡ take i (map g (factorsIn file))
       → n ≡ g (fileFactor body)
       → take (i + 1) (set ns i n) ≡ take (i + 1) (map g (factorsIn file))
@@ -63,7 +64,9 @@ pub numbers-all : (file : List ℕ) (g : WrittenFactor → ℕ) (i n : ℕ) (ns 
     → take i ns ≡ take i (map g (factorsIn file))
     → take n ns ≡ map g (factorsIn file)
 numbers-all file g i n ns same all e =
-    ap (λ (k : ℕ). take k ns) (sym same) ∙ e ∙ take-all i (map g (factorsIn file)) (rw length-map (omega arith))
+    ap (λ (k : ℕ). take k ns) (sym same)
+    ∙ e
+    ∙ take-all i (map g (factorsIn file)) (rw length-map (omega arith))
 
 pub factors-over : (file : List ℕ) (i : ℕ) (t : WrittenFactor → Bool) {x : Bool}
     → holdsForSome t (drop i (factorsIn file)) ≡ x
@@ -82,7 +85,8 @@ module _ (file : List ℕ) (i : ℕ) (body : List ℕ) (b : body ≡ getD (bodie
     (inside : i < length (factorsIn file)) where
   pub polynomial-at : (d : Polynomial) → getD (polynomialsIn file) i d ≡ polynomialOf (fileFactor body)
   polynomial-at d =
-      getD-map-in polynomialOf (factorsIn file) i noFactor d inside ∙ ap polynomialOf (factor-body file i body b)
+      getD-map-in polynomialOf (factorsIn file) i noFactor d inside
+      ∙ ap polynomialOf (factor-body file i body b)
 
   polynomials-cons : drop i (polynomialsIn file)
       ≡ polynomialOf (fileFactor body) ∷ drop (i + 1) (polynomialsIn file)

@@ -4,8 +4,9 @@
 --   polynomialsIn file == their polynomials
 --   noFactor           == what a place beyond the last factor reads as
 --   writtenTable p fs  == the refusals 10 and 11 of factors as a file writes them
---   Packed gs count to ns to′ == the first `count` numbers of ns are the lengths of the polynomials gs, and the lent
---                        bytes `to` are left with their coefficients stored one after another from their front on
+--   Packed gs count to ns to′ == the first `count` numbers of ns are the lengths of the polynomials gs, and
+--                        the lent bytes `to` are left with their coefficients stored one after another from
+--                        their front on
 use Prim.Native.Nat.{ℕ}
 use mathlib.Core.Path.{_≡_}
 use mathlib.Core.List.{List, [], _∷_, map, flatten}

@@ -1,5 +1,5 @@
-// The factors of a file: 10 and 11 as a file meets them, and the factors as lists of coefficients in lent bytes. A
-// `count` is the number of the factors of the file.
+// The factors of a file: 10 and 11 as a file meets them, and the factors as lists of coefficients in lent
+// bytes. A `count` is the number of the factors of the file.
 use checks::files::file_degree_out_of_range;
 use checks::files::file_not_monic;
 use contents::lay_factor;
@@ -79,8 +79,9 @@ pub fn gather_uppers(file: &[u8], count: usize) -> [u64; 8]
     uppers
 }
 
-// The lengths of the polynomials of the factors in their order, and then zeros. The coefficients of each, with the
-// leading 1, are written to the front of the lent bytes, one factor after another, and nothing after them.
+// The lengths of the polynomials of the factors in their order, and then zeros. The coefficients of each,
+// with the leading 1, are written to the front of the lent bytes, one factor after another, and nothing
+// after them.
 pub fn pack_factors(file: &[u8], count: usize, to: &mut [u8]) -> [u64; 8]
     requires { ⌜ (count ≡ length (factorsIn (now file))) × (count ≤ 8)
         × (length (flatten (polynomialsIn (now file))) ≤ length (now to)) ⌝ }
@@ -89,7 +90,7 @@ pub fn pack_factors(file: &[u8], count: usize, to: &mut [u8]) -> [u64; 8]
     let mut lengths = [0u64; 8];
     let mut at = 0;
     let mut i = 0;
-    // the first i lengths stand in their places, and the stores of the factors from i on, at `at` = all stores
+    // the first i lengths stand in their places; the stores of the factors from i on, at `at` = all stores
     while i < count {
         let n = lay_factor(body_of(file, 4, i), to, at);
         lengths[i] = n as u64;

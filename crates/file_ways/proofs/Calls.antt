@@ -68,7 +68,8 @@ unfolding ofSet fileAnswer figuresOf mapResult setFiguresTold fileFiguresTold la
 told-set m (refused n) = refl
 told-set m (answered a) = refl
 
-padded-set : (m : ℕ) (x : Result (Rated SetFigures)) → setPadded (figuresOf x) ≡ filePadded (figuresOf (ofSet m x))
+padded-set : (m : ℕ) (x : Result (Rated SetFigures))
+    → setPadded (figuresOf x) ≡ filePadded (figuresOf (ofSet m x))
 unfolding ofSet fileAnswer figuresOf mapResult setPadded filePadded labelPowers
 padded-set m (refused n) = refl
 padded-set m (answered a) = refl
@@ -77,7 +78,8 @@ module _ (m : ℕ) {sender : ℕ} {answer work : List ℕ} {r : FileRating} {ans
   pub period-rated : {p : ℕ} {f ts : List ℕ} {q : PowerRating}
       → PeriodCall p f ts answer work q answer′ work′
       → Tells sender (mapResult (powerFigures m) (toldPower q)) r
-      → RatedFile sender (ofPeriod m (ratePeriod p f ts (length answer) (length work))) answer work r answer′ work′
+      → RatedFile sender (ofPeriod m (ratePeriod p f ts (length answer) (length work))) answer work r answer′
+      work′
   period-rated {p} {f} {ts} h t =
       let x = ratePeriod p f ts (length answer) (length work) in
       record { tells = rw (figures-period m x, ← h .rating) t; lent = lent-period m x (h .lent) }
@@ -85,7 +87,8 @@ module _ (m : ℕ) {sender : ℕ} {answer work : List ℕ} {r : FileRating} {ans
   pub free-rated : {pick : Choice} {p : ℕ} {ts : List ℕ} {q : FreeRating}
       → FreeCall pick p ts answer work q answer′ work′
       → Tells sender (mapResult (freeFigures m) (toldFree q)) r
-      → RatedFile sender (ofFree m (rateFree pick p ts (length answer) (length work))) answer work r answer′ work′
+      → RatedFile sender (ofFree m (rateFree pick p ts (length answer) (length work))) answer work r answer′
+      work′
   free-rated {pick} {p} {ts} h t =
       let x = rateFree pick p ts (length answer) (length work) in
       record { tells = rw (figures-free m x, ← h .rating) t; lent = lent-free m x (h .lent) }
@@ -93,14 +96,18 @@ module _ (m : ℕ) {sender : ℕ} {answer work : List ℕ} {r : FileRating} {ans
   pub set-rated : {p : ℕ} {fs : List Polynomial} {us ts : List ℕ} {s : SetRating}
       → SetCall p fs us ts answer work s answer′ work′
       → TellsSet sender m s r
-      → RatedFile sender (ofSet m (rateSet p fs us ts (length answer) (length work))) answer work r answer′ work′
+      → RatedFile sender (ofSet m (rateSet p fs us ts (length answer) (length work))) answer work r answer′
+      work′
   set-rated {p} {fs} {us} {ts} h t =
       let x = rateSet p fs us ts (length answer) (length work) in
       record {
         tells =
             record {
               box = t .box;
-              rating = t .rating ∙ ap (mapResult (λ a. withPowers (a .degree) m (a .count))) (h .rating) ∙ told-set m x;
+              rating =
+                  t .rating
+                  ∙ ap (mapResult (λ a. withPowers (a .degree) m (a .count))) (h .rating)
+                  ∙ told-set m x;
               powers = t .powers ∙ h .powers ∙ padded-set m x;
             };
         lent = lent-set m x (h .lent);

@@ -56,15 +56,17 @@ module _ (file ts : List ℕ) (p : ℕ) (ok : AcceptedRecords (recordsFrom file 
   pub records-terms : (pick : Choice) (answer work : ℕ) {x : Refusal} → u ≡ Verdict.Refused x
       → rateRecords pick (recordsFrom file 0) answer work ≡ refused (numberOf x)
   records-terms pick answer work q =
+      let rs = recordsFrom file 0 in
       rated-refused pick file answer work (ok .suited)
-      (λ m. mode-terms (byteOf 2 (recordsFrom file 0)) (factorsIn file) (termsOf (recordsFrom file 0)) answer work
+      (λ m. mode-terms (byteOf 2 rs) (factorsIn file) (termsOf rs) answer work
       (rw (← field) (eu ∙ rw cut (cut-terms p (termsOf (recordsFrom file 0)))))
       pick
       m
       q)
 
-module _ (pick : Choice) (file ts : List ℕ) (answer work : ℕ) {p : ℕ} (ok : Rateable p file ts) (mode count : ℕ)
-    (mode-is : mode ≡ byteOf 3 (recordsFrom file 0)) (count-is : count ≡ length (bodies 4 (recordsFrom file 0)))
+module _ (pick : Choice) (file ts : List ℕ) (answer work : ℕ) {p : ℕ} (ok : Rateable p file ts)
+    (mode count : ℕ) (mode-is : mode ≡ byteOf 3 (recordsFrom file 0))
+    (count-is : count ≡ length (bodies 4 (recordsFrom file 0)))
   where
     abbrev rated : Mode → Type 0
     rated m =
@@ -94,7 +96,8 @@ module _ (pick : Choice) (file ts : List ℕ) (answer work : ℕ) {p : ℕ} (ok 
 
     one : mode ≡ 1 → length (factorsIn file) ≡ 1
     one e =
-        sym count-factors ∙ one-factor (recordsFrom file 0) (ok .accepted .suited) mode count mode-is count-is e
+        sym count-factors
+        ∙ one-factor (recordsFrom file 0) (ok .accepted .suited) mode count mode-is count-is e
 
     several : mode ≡ 2 → (1 ≤ length (factorsIn file)) × (length (factorsIn file) ≤ 8)
     several e =
@@ -147,7 +150,8 @@ module _ (pick : Choice) (file ts : List ℕ) (answer work : ℕ) {p : ℕ} (ok 
             rated-set e ∙ set-way p (factorsIn file) ts answer work terms-accepted refl ev q whole pick
 
         -- the polynomials fit in 33 bytes each
-        pub one-fits : mode ≡ 1 → (1 ≤ length (factorsIn file)) × (length (getD (polynomialsIn file) 0 []) ≤ 33)
+        pub one-fits : mode ≡ 1
+            → (1 ≤ length (factorsIn file)) × (length (getD (polynomialsIn file) 0 []) ≤ 33)
         one-fits e =
             let n = one e in
             let f = polynomials-fit (prime p) (factorsIn file) whole degrees in

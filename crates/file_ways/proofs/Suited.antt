@@ -11,8 +11,8 @@ use lib.ListN.{length}
 use borrow.Author.Tests.{ltb-false}
 use Rattle.meaning.specs.Result.{refused}
 use Rattle.meaning.specs.Free.{Choice}
-use Rattle.meaning.specs.Route.{RouteRecord, Mode, periodMode, setMode, freeMode, lookUp, modeOf, byteOf, bodies}
-use Rattle.meaning.specs.Route.{modeUnsuited}
+use Rattle.meaning.specs.Route.{RouteRecord, Mode, periodMode, setMode, freeMode, lookUp, modeOf}
+use Rattle.meaning.specs.Route.{byteOf, bodies, modeUnsuited}
 use Rattle.meaning.specs.File.{termsOf, rateMode, rateRecords}
 use Rattle.framing.specs.Framing.{recordsFrom}
 use Rattle.contents.proofs.Modes.{unsuited-unknown, period-count, set-none, set-most}
@@ -50,7 +50,8 @@ module _ (pick : Choice) (file : List ℕ) (answer work : ℕ) {mode : ℕ}
   abbrev By : Mode → Type 0
   By m =
       rateRecords pick (recordsFrom file 0) answer work
-      ≡ rateMode pick m (byteOf 2 (recordsFrom file 0)) (factorsIn file) (termsOf (recordsFrom file 0)) answer work
+      ≡ rateMode pick m (byteOf 2 (recordsFrom file 0)) (factorsIn file) (termsOf (recordsFrom file 0)) answer
+      work
 
   rated-by : (m : Mode) → modeOf mode ≡ some m → By m
   unfolding rateRecords factorsIn
@@ -72,7 +73,8 @@ module _ (pick : Choice) (file : List ℕ) (answer work : ℕ) {mode : ℕ}
 pub rated-refused : (pick : Choice) (file : List ℕ) (answer work : ℕ) {n : ℕ}
     → modeUnsuited (recordsFrom file 0) ≡ false
     → ((m : Mode)
-    → rateMode pick m (byteOf 2 (recordsFrom file 0)) (factorsIn file) (termsOf (recordsFrom file 0)) answer work
+    → rateMode pick m (byteOf 2 (recordsFrom file 0)) (factorsIn file) (termsOf (recordsFrom file 0)) answer
+    work
     ≡ refused n)
     → rateRecords pick (recordsFrom file 0) answer work ≡ refused n
 unfolding modeUnsuited

@@ -1,4 +1,5 @@
--- The terms of a file, cut after 4,097: 6, 7 and 8 are met as by all of them, and accepted terms are all of them.
+-- The terms of a file, cut after 4,097: 6, 7 and 8 are met as by all of them, and accepted terms are all of
+-- them.
 -- Assumes nothing.
 use Prim.Native.Nat.{ℕ, _<_}
 use native.Mathlib.Decide.{decLt}

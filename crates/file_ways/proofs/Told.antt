@@ -14,8 +14,8 @@ use Rattle.meaning.specs.declared.SetOutcome.{SetOutcome}
 use Rattle.meaning.specs.declared.SetRating.{SetRating}
 use Rattle.meaning.specs.declared.FileOutcome.{FileOutcome}
 use Rattle.meaning.specs.declared.FileRating.{FileRating}
-use Rattle.meaning.specs.Result.{refused, mapResult}
-use Rattle.meaning.specs.File.{freeLabel}
+use Rattle.meaning.specs.Result.{refused, answered, mapResult}
+use Rattle.meaning.specs.File.{FileFigures, freeLabel}
 use Rattle.meaning.specs.Answers.{numberOf, toldPower, toldFree, toldSet}
 use Rattle.meaning.specs.Answers.{toldFile, labelTold, fileFiguresTold, padded, labelPowers, filePadded}
 use Rattle.file_ways.specs.Ratings.{powerFigures, freeFigures, Tells, TellsSet}
@@ -30,6 +30,13 @@ module _ (sender : ℕ) where
   unfolding toldFile mapResult filePadded padded
   refusal-tells x = record { box = refl; rating = refl; powers = refl }
 
+  -- figures, with the powers of their label
+  figures-told : {a : FileFigures} {o : FileOutcome} {l : List ℕ} → toldFile o ≡ answered (fileFiguresTold a)
+      → l ≡ padded (labelPowers (a .label))
+      → Tells sender (answered a) (places l o sender)
+  unfolding mapResult filePadded
+  figures-told e f = record { box = refl; rating = e; powers = f }
+
   module _ (m : ℕ) where
     pub power-refused : {q : PowerRating} {x : Refusal} {r : FileRating} → q ≡ PowerRating.Refused x
         → Tells sender (refused (numberOf x)) r
@@ -40,8 +47,8 @@ module _ (sender : ℕ) where
     pub power-rated : {q : PowerRating} {power degree bound : ℕ} → q ≡ PowerRating.Rated power degree bound
         → Tells sender (mapResult (powerFigures m) (toldPower q))
         (places (power ∷ replicate 7 0) (FileOutcome.Powers degree m 1) sender)
-    unfolding toldPower mapResult powerFigures toldFile fileFiguresTold labelTold filePadded labelPowers padded
-    power-rated e = rw e (record { box = refl; rating = refl; powers = refl })
+    unfolding toldPower mapResult powerFigures toldFile fileFiguresTold labelTold labelPowers padded
+    power-rated e = rw e (figures-told refl refl)
 
     pub free-refused : {q : FreeRating} {x : Refusal} {r : FileRating} → q ≡ FreeRating.Refused x
         → Tells sender (refused (numberOf x)) r
@@ -52,14 +59,14 @@ module _ (sender : ℕ) where
     pub free-unique : {q : FreeRating} {degree : ℕ} → q ≡ FreeRating.Unique degree
         → Tells sender (mapResult (freeFigures m) (toldFree q))
         (places (replicate 8 0) (FileOutcome.Unique degree m) sender)
-    unfolding toldFree mapResult freeFigures freeLabel toldFile fileFiguresTold labelTold filePadded labelPowers padded
-    free-unique e = rw e (record { box = refl; rating = refl; powers = refl })
+    unfolding toldFree mapResult freeFigures freeLabel toldFile fileFiguresTold labelTold labelPowers padded
+    free-unique e = rw e (figures-told refl refl)
 
     pub free-several : {q : FreeRating} {degree : ℕ} → q ≡ FreeRating.Several degree
         → Tells sender (mapResult (freeFigures m) (toldFree q))
         (places (replicate 8 0) (FileOutcome.Several degree m) sender)
-    unfolding toldFree mapResult freeFigures freeLabel toldFile fileFiguresTold labelTold filePadded labelPowers padded
-    free-several e = rw e (record { box = refl; rating = refl; powers = refl })
+    unfolding toldFree mapResult freeFigures freeLabel toldFile fileFiguresTold labelTold labelPowers padded
+    free-several e = rw e (figures-told refl refl)
 
     pub set-refused : {s : SetRating} {x : Refusal} → s .outcome ≡ SetOutcome.Refused x
         → TellsSet sender m s (places (s .powers) (FileOutcome.Refused x) sender)

@@ -1,13 +1,14 @@
 -- What the contracts of the ratings of a file cite.
 --
---   powerFigures m a, freeFigures m a == the figures of a file with m terms, from those of the way with one factor and
---                         of the free way
+--   powerFigures m a, freeFigures m a == the figures of a file with m terms, from those of the way with one
+--                         factor and of the free way
 --   Tells sender x r   == the rating r names the sender, and tells the figures or the refusal x
 --   TellsSet sender m s r == r names the sender, and tells for m terms what the rating s of the set way tells
---   RatedFile sender x answer work r answer′ work′ == r tells the result x, and the lent bytes are left as x says
+--   RatedFile sender x answer work r answer′ work′ == r tells the result x, and the lent bytes are left as x
+--                         says
 --   AcceptedRecords rs == no body of a factor is cut, and the factors suit the mode
---   Rateable p file ts == the records of the file are accepted, and so are p and the terms ts that they hold, by 6, 7
---                         and 8
+--   Rateable p file ts == the records of the file are accepted, and so are p and the terms ts that they hold,
+--                         by 6, 7 and 8
 use Prim.Native.Nat.{ℕ, _<_}
 use mathlib.Core.Path.{_≡_}
 use mathlib.Core.Bool.{false}

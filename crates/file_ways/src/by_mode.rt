@@ -33,7 +33,8 @@ pub fn rate_free_file(
 ) -> FileRating
     ensures { λ r. ⌜ RatedFile sender
         (ofFree (length (now (terms .entry)))
-        (rateFree freeChoice p (now (terms .entry)) (length (now (answer .entry))) (length (now (work .entry)))))
+        (rateFree freeChoice p (now (terms .entry)) (length (now (answer .entry)))
+        (length (now (work .entry)))))
         (now (answer .entry)) (now (work .entry)) r (now (answer .exit)) (now (work .exit)) ⌝ }
 {
     let rating = rate_free(p, terms, answer, work);
@@ -49,7 +50,8 @@ pub fn rate_period_file(
     answer: &mut [u8],
     work: &mut [u8],
 ) -> FileRating
-    requires { ⌜ (1 ≤ length (factorsIn (now file))) × (length (getD (polynomialsIn (now file)) 0 []) ≤ 33) ⌝ }
+    requires { ⌜ (1 ≤ length (factorsIn (now file)))
+        × (length (getD (polynomialsIn (now file)) 0 []) ≤ 33) ⌝ }
     ensures { λ r. ⌜ RatedFile sender
         (ofPeriod (length (now (terms .entry)))
         (ratePeriod p (getD (polynomialsIn (now (file .entry))) 0 []) (now (terms .entry))

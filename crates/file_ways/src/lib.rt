@@ -19,8 +19,8 @@ ghost use Rattle.massey.specs.Shortest.{freeChoice};
 ghost use Rattle.file_ways.specs.Ratings.{RatedFile, AcceptedRecords, Rateable};
 pub use telling::of_refusal;
 
-// The rating of an accepted file, once 6, 7 and 8 accept p and the terms: a file's own part of 10 and 11, and then
-// the way of the mode.
+// The rating of an accepted file, once 6, 7 and 8 accept p and the terms: a file's own part of 10 and 11, and
+// then the way of the mode.
 fn rate_accepted(
     sender: u64,
     p: u64,
@@ -52,8 +52,8 @@ fn rate_accepted(
     }
 }
 
-// The rating of an accepted file, whose terms are given, at most the first 4,097 of them: 6, 7 and 8, and then the
-// rest.
+// The rating of an accepted file, whose terms are given, at most the first 4,097 of them: 6, 7 and 8, and
+// then the rest.
 pub fn rate_records(
     sender: u64,
     file: &[u8],

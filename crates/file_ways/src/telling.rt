@@ -1,5 +1,5 @@
-// The rating of a file, from the refusal or the rating of the way that its mode names. No function here is lent a
-// byte.
+// The rating of a file, from the refusal or the rating of the way that its mode names. No function here
+// is lent a byte.
 use meaning::FileOutcome;
 use meaning::FileRating;
 use meaning::FreeRating;

@@ -51,7 +51,8 @@ module _ (file : List ℕ) where
     unfolding rateFile
     file-rated v = rw (records-accepted file v, rateFile)
 
-    pub file-refused : {n : ℕ} → refused n ≡ verdictOf (records file) → rateFile pick file answer work ≡ refused n
+    pub file-refused : {n : ℕ} → refused n ≡ verdictOf (records file)
+        → rateFile pick file answer work ≡ refused n
     unfolding rateFile mapResult
     file-refused v = rw (records-known file v, rateFile)
 

@@ -12,7 +12,8 @@ use borrow.Author.Tests.{lt-ltb, le-ltb}
 use lib.ListN.{length, getD, drop}
 use lib.Seq.{getD-drop}
 use Rattle.meaning.specs.Result.{Result, refused, answered, mapResult}
-use Rattle.meaning.specs.Route.{RouteRecord, atStart, walk, modeUnsuited, suited, records, endRecord, readRecord}
+use Rattle.meaning.specs.Route.{RouteRecord, atStart, walk, modeUnsuited, suited, records, endRecord}
+use Rattle.meaning.specs.Route.{readRecord}
 use Rattle.framing.specs.Framing.{recordsFrom}
 use Rattle.route.specs.Walking.{verdictOf}
 use Rattle.route.proofs.Walks.{AnswersWhole, walk-framed}

@@ -13,7 +13,8 @@ use native.Mathlib.Omega.{arith}
 use borrow.Author.Tests.{ne-eqb}
 use lib.Dec.{T, eqb, eqb→eq}
 use lib.ListN.{length, getD}
-use Rattle.meaning.specs.Route.{Stage, atStart, afterBox, afterField, inFactors, inTerms, afterEnd, lookUp, admitted}
+use Rattle.meaning.specs.Route.{Stage, atStart, afterBox, afterField, inFactors, inTerms, afterEnd}
+use Rattle.meaning.specs.Route.{lookUp, admitted}
 use Rattle.framing.proofs.Tables.{both, both-left, both-right, every, at}
 use Rattle.framing.proofs.Lookup.{keysBelow, lookUp-beyond}
 use Rattle.route.specs.Walking.{stageOf, stageTold}

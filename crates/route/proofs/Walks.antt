@@ -2,8 +2,8 @@
 -- their lengths, of which none is cut.
 --
 --   Whole rs          == the bodies of the records have the lengths of their kinds
---   AnswersWhole x rs == where the result x is an answer, it is the records rs, and they are whole; a refusal is
---                        not by 17
+--   AnswersWhole x rs == where the result x is an answer, it is the records rs, and they are whole; a refusal
+--                        is not by 17
 -- Assumes nothing.
 use Prim.Native.Nat.{ℕ, zero, suc}
 use mathlib.Core.Path.{_≡_, refl, sym, ap, _∙_}
@@ -15,7 +15,8 @@ use lib.Dec.{ltb, eqb}
 use lib.ListN.{length, take, drop}
 use lib.Seq.{length-take-le}
 use Rattle.meaning.specs.Result.{Result, refused, answered}
-use Rattle.meaning.specs.Route.{RouteRecord, Stage, atStart, afterBox, afterField, inFactors, inTerms, afterEnd, lookUp, bodyLengths, admitted, before, stopped, walk}
+use Rattle.meaning.specs.Route.{RouteRecord, Stage, atStart, afterBox, afterField, inFactors, inTerms}
+use Rattle.meaning.specs.Route.{afterEnd, lookUp, bodyLengths, admitted, before, stopped, walk}
 use Rattle.framing.specs.Framing.{orElse, bodyLength, framed}
 
 -- what is left of a body is passed over
@@ -56,7 +57,8 @@ abbrev pub AnswersWhole : Result (List RouteRecord) → List RouteRecord → Typ
 AnswersWhole (refused n) rs = eqb n 17 ≡ false
 AnswersWhole (answered qs) rs = (qs ≡ rs) × Whole qs
 
-whole-refused : (rs : List RouteRecord) {n : ℕ} → eqb n 17 ≡ false → (x : Result (List RouteRecord)) → x ≡ refused n
+whole-refused : (rs : List RouteRecord) {n : ℕ} → eqb n 17 ≡ false → (x : Result (List RouteRecord))
+    → x ≡ refused n
     → AnswersWhole x rs
 whole-refused rs h x e = rw e h
 

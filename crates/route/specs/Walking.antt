@@ -15,7 +15,8 @@ use lib.Dec.{eqb}
 use lib.ListN.{length, drop}
 use Rattle.meaning.specs.Answers.{numberOf}
 use Rattle.meaning.specs.Result.{Result, refused, answered, mapResult}
-use Rattle.meaning.specs.Route.{RouteRecord, Stage, atStart, afterBox, afterField, inFactors, inTerms, afterEnd, before, walk}
+use Rattle.meaning.specs.Route.{RouteRecord, Stage, atStart, afterBox, afterField, inFactors, inTerms}
+use Rattle.meaning.specs.Route.{afterEnd, before, walk}
 use Rattle.framing.specs.Framing.{recordAt}
 use Rattle.refusals.specs.declared.Verdict.{Verdict}
 use Rattle.route.specs.declared.walk.Step.{Step}

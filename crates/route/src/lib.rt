@@ -1,5 +1,5 @@
-// The route file: the refusals 1 to 5, the reader by record number, and the rating of a file. Every function answers
-// for every file of any length, and none but `rate_file` changes a lent byte.
+// The route file: the refusals 1 to 5, the reader by record number, and the rating of a file. Every function
+// answers for every file of any length, and none but `rate_file` changes a lent byte.
 mod walk;
 
 use contents::box_of;
@@ -80,9 +80,10 @@ pub fn record<'a>(file: &'a [u8], n: usize) -> FoundRecord<'a>
     FoundRecord { outcome, body }
 }
 
-// The rating of a file, with the number of the box that sent it: the answer of the way that its mode names on what it
-// holds, or the refusal by 1 to 5 or by that way. Accepted, it leaves the polynomial at the front of the answer;
-// accepted or refused by 17, zeros in the first 8,192 work bytes. Every other lent byte stays as it was.
+// The rating of a file, with the number of the box that sent it: the answer of the way that its mode
+// names on what it holds, or the refusal by 1 to 5 or by that way. Accepted, it leaves the polynomial at
+// the front of the answer; accepted or refused by 17, zeros in the first 8,192 work bytes. Every other
+// lent byte stays as it was.
 pub fn rate_file(file: &[u8], answer: &mut [u8], work: &mut [u8]) -> FileRating
     ensures { λ r. ⌜ FileCall freeChoice (now (file .entry)) (now (answer .entry)) (now (work .entry)) r
         (now (answer .exit)) (now (work .exit)) ⌝ }

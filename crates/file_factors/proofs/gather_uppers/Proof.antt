@@ -57,7 +57,8 @@ returns : tie.Need-returns Inv-loop μ-loop
 returns c =
     let l = c .before .loop in
     let a = c .before .before .before .args in
-    numbers-all (a .file .now) (λ f. f .upper) (l .i) (a .count) (l .uppers) (omega arith) (omega arith) (l .inv .2)
+    numbers-all (a .file .now) (λ f. f .upper) (l .i) (a .count) (l .uppers) (omega arith) (omega arith)
+    (l .inv .2)
 
 pub gather-uppers-spec : {M : Type 1} → statement M
 gather-uppers-spec =

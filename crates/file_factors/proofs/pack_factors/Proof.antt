@@ -1,5 +1,6 @@
--- `pack_factors` meets its contract. The invariant: the first i lengths stand in their places, and the stores of the
--- factors from i on, at `at`, leave what all stores leave; so the place of each lies within the lent bytes.
+-- `pack_factors` meets its contract. The invariant: the first i lengths stand in their places, and the
+-- stores of the factors from i on, at `at`, leave what all stores leave; so the place of each lies within
+-- the lent bytes.
 -- Assumes nothing.
 use Prim.Native.Nat.{_+_, _-_, _≤_, _<_}
 use native.Mathlib.Omega.{arith}
@@ -67,7 +68,8 @@ loop-again c =
     let q = pack-count _ _ _ (b .body-of .ensures) inside (f .lay-factor .ensures .count) in (
       omega arith,
       (simp length-set (l .inv .1)),
-      number-next _ _ _ (b .body-of .ensures) (λ f. length (polynomialOf f)) _ _ (omega arith) inside (l .inv .2)
+      number-next _ _ _ (b .body-of .ensures) (λ f. length (polynomialOf f)) _ _ (omega arith) inside
+          (l .inv .2)
           (f .lay-factor .ensures .count),
       omega arith,
       sym (pack-next _ _ _ (b .body-of .ensures) inside (f .lay-factor .ensures)) ∙ l .inv .4,

@@ -3,8 +3,8 @@
 use mathlib.Core.Path.{_≡_}
 use borrow.Author.Needs.{needs}
 use Rattle.massey.specs.Shortest.{freeChoice}
-use Rattle.file_ways.proofs.Rates.{count-factors, not-others, records-free, records-refused, factors-number}
-use Rattle.file_ways.proofs.Rates.{records-period, records-set, one-fits, all-fit}
+use Rattle.file_ways.proofs.Rates.{count-factors, not-others, records-free, records-refused}
+use Rattle.file_ways.proofs.Rates.{factors-number, records-period, records-set, one-fits, all-fit}
 use Rattle.file_ways.proofs.Calls.{rated-as, refused-rated}
 use Rattle.file_ways.proofs.rate_accepted.Statement.{statement}
 use Rattle.file_ways.proofs.rate_accepted.Tie as tie
@@ -42,7 +42,8 @@ returns c =
     let t = f .before .before .before in
     let n = t .before in
     rated-as
-    (records-free _ _ _ _ _ (start n .pre) _ _ (n .before .byte-of .ensures) (n .count-of .ensures) (t .if1 .taken))
+    (records-free _ _ _ _ _ (start n .pre) _ _ (n .before .byte-of .ensures) (n .count-of .ensures)
+    (t .if1 .taken))
     (f .rate-free-file .ensures)
 
 factors-verdict-requires : tie.Need-factors-verdict-requires

@@ -60,7 +60,8 @@ returns c =
     let s = f .before .before .before .before .before .before in
     let e = split-packed (f .pack-factors .ensures) (s .pre .2) in
     let u = ap (λ (n : ℕ). take n (g .gather-uppers .result)) (sub-zero (s .args .count)) in
-    set-rated _ (set-same e (u ∙ g .gather-uppers .ensures) (r .rate-joined-set .ensures)) (c .of-set .ensures)
+    let h = set-same e (u ∙ g .gather-uppers .ensures) (r .rate-joined-set .ensures) in
+    set-rated _ h (c .of-set .ensures)
 
 pub rate-set-file-spec : {M : Type 1} → statement M
 rate-set-file-spec =
