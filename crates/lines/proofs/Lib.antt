@@ -1,0 +1,4 @@
+pub mod Parts
+pub mod Reports
+pub mod Sizes
+pub mod FileResults

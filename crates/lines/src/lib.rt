@@ -1,0 +1,97 @@
+// The lines that the rating program prints, as bytes at the front of a lent buffer that always suffices.
+mod result;
+
+use answers::number_of;
+use meaning::FileOutcome;
+use meaning::FileRating;
+use result::put_poly;
+use result::put_powers_line;
+use result::put_refused;
+use result::put_word_line;
+use words::put_word;
+ghost use mathlib.Core.Path.{_≡_};
+ghost use mathlib.Core.List.{[]};
+ghost use Prim.Native.Nat.{suc, _+_, _≤_, min};
+ghost use lib.ListN.{length};
+ghost use Rattle.meaning.specs.Print.{resultLine};
+ghost use Rattle.lines.specs.Lines.{ratedResult, coefficientCount, PrintCall};
+ghost use Rattle.words.specs.Words.{PutWithin};
+
+// The lent answer bytes of the program.
+pub const ANSWER_BYTES: usize = 4097;
+
+// The most bytes that are printed: 26 of the header, 235 of the result line, 16,393 of the poly line.
+pub const MOST_PRINTED: usize = 16654;
+
+// The number after n, or the most.
+fn next_at_most(n: u64, most: usize) -> usize
+    ensures { λ r. ⌜ r ≡ min (suc n) most ⌝ }
+{
+    if n < most as u64 {
+        n as usize + 1
+    } else {
+        most
+    }
+}
+
+// How many coefficients are printed: one more than the degree, at most as many as there are bytes; none of a
+// refusal.
+fn coefficient_count(outcome: FileOutcome, most: usize) -> usize
+    ensures { λ r. ⌜ r ≡ coefficientCount outcome most ⌝ }
+{
+    match outcome {
+        FileOutcome::Powers {
+            degree,
+            terms: _,
+            count: _,
+        } => next_at_most(degree, most),
+        FileOutcome::Unique { degree, terms: _ } => next_at_most(degree, most),
+        FileOutcome::Several { degree, terms: _ } => next_at_most(degree, most),
+        FileOutcome::Refused(_) => 0,
+    }
+}
+
+// The result line: the box, `ok`, the density, and the powers or the word `one` or `some`; or the box,
+// `refused` and the number.
+fn put_result(
+    sender: u64,
+    outcome: FileOutcome,
+    powers: [u64; 8],
+    out: &mut [u8],
+    at: usize,
+) -> usize
+    requires { ⌜ at + 235 ≤ length (now out) ⌝ }
+    ensures { λ r. ⌜ PutWithin 235 (resultLine sender (ratedResult outcome powers []))
+        at (now (out .entry)) r (now (out .exit)) ⌝ }
+{
+    match outcome {
+        FileOutcome::Powers {
+            degree,
+            terms,
+            count,
+        } => put_powers_line(sender, degree, terms, count, &powers, out, at),
+        FileOutcome::Unique { degree, terms } => {
+            put_word_line(sender, degree, terms, b"one", out, at)
+        }
+        FileOutcome::Several { degree, terms } => {
+            put_word_line(sender, degree, terms, b"some", out, at)
+        }
+        FileOutcome::Refused(reason) => put_refused(sender, number_of(reason), out, at),
+    }
+}
+
+// Writes the header, the result line and, where the file is rated, the poly line to the front of `out`, and
+// returns their number of bytes. All other bytes are left as they were.
+pub fn print_rating(
+    rating: FileRating,
+    answer: &[u8; ANSWER_BYTES],
+    out: &mut [u8; MOST_PRINTED],
+) -> usize
+    ensures { λ n. ⌜ PrintCall rating (now (answer .entry)) (now (out .entry)) n (now (out .exit)) ⌝ }
+{
+    let outcome = rating.outcome;
+    let powers = rating.powers;
+    let at = put_word(b"box result density powers\n", out, 0);
+    let next = put_result(rating.sender, outcome, powers, out, at);
+    put_poly(coefficient_count(outcome, ANSWER_BYTES), answer, out, next)
+}
