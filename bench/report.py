@@ -261,13 +261,14 @@ FROBENIUS = ('trial division takes some p^(d/2) divisions by other polynomials, 
 WORDS = '%s keeps 64 coefficients of GF(2) in a word, and the rater one in a byte, as its callers do'
 SUMS = ('the sum of products, of which the compiler of the proved source makes a loop of 8 products a step, and the C '
         'compiler one of 16')
-ACTION = 'the remainders of the sums, whose vector code is the compiler\'s in the rater and by hand in C'
+PRODUCT = ('the product in the answer, where the rater takes a remainder for each coefficient of a factor, zeros included, '
+           'and C one for all of them')
 REASONS = {
     ('free 2', 'NTL'): WORDS % 'NTL' + '; and the half-gcd of NTL takes less than the square of the terms',
     ('free 2', 'PARI'): WORDS % 'PARI',
     ('irreducible', 'NTL'): FROBENIUS, ('irreducible', 'FLINT'): FROBENIUS, ('irreducible', 'PARI'): FROBENIUS,
     ('free 2', 'tuned'): SUMS, ('free', 'tuned'): SUMS,
-    ('portion', 'tuned'): ACTION, ('period', 'tuned'): ACTION, ('set', 'tuned'): ACTION,
+    ('set', 'tuned'): PRODUCT,
     ('irreducible', 'tuned'): 'the same trial division in packed words, but a remainder by p is found by a division of '
                               '64 bits in the rater, and by a multiplication in C',
 }
@@ -438,8 +439,8 @@ round: **below 1 the rater is faster**. {agreement}
 
 - *C plain* and *C tuned* (`bench/ways.c`): the same calls in C by the same algorithms, with the same checks, product and
   clearing of the lent bytes, for any p. Plain: bytes, and a remainder by `%` at each product; its free way is the textbook's.
-  Tuned: sums in 16 and 32 bits, few remainders and none by a division, vectorised; the free way in place. Both by the same
-  compiler at -O3 for any x86-64, which is what the proved functions are compiled for.
+  Tuned: sums in 16 and 32 bits with few remainders, in the inner loops none by a division, vectorised; the free way in
+  place. Both by the same compiler at -O3 for any x86-64, which is what the proved functions are compiled for.
 - NTL: `MinPolySeq`, `GCD`, `IterIrredTest` of GF2X over GF(2), of zz_pX else. FLINT: `nmod_berlekamp_massey`,
   `nmod_poly_gcd`, `nmod_poly_is_irreducible`. PARI: `F2x_halfgcd`, `F2x_gcd`, `F2x_is_irred` over GF(2), those of Flx else.
   They get the input in their own form and leave the answer in it, and none of that is timed.
