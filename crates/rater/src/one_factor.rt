@@ -81,8 +81,8 @@ pub fn rate_portion(
         Verdict::Refused(r) => PowerRating::Refused(r),
         Verdict::Accepted => {
             let field = GaloisField::of_prime(p);
-            let found = portion_power(field, work, factor, upper, terms);
-            rated(field, answer, factor, found)
+            let least = portion_power(field, work, factor, upper, terms);
+            rated(field, answer, factor, least)
         }
     }
 }
