@@ -17,6 +17,7 @@ use lib.Dec.{T, eqb, ltb}
 use borrow.Author.Tests.{ltb-false}
 use Rattle.meaning.specs.declared.Refusal.{Refusal}
 use Rattle.meaning.specs.declared.SetOutcome.{SetOutcome}
+use Rattle.meaning.specs.declared.SetRating.{SetRating}
 use Rattle.meaning.specs.Search.{holdsForSome}
 use Rattle.meaning.specs.Field.{Field, prime, primeInRange}
 use Rattle.meaning.specs.Polynomial.{Polynomial, degree, product}
@@ -47,22 +48,21 @@ use Rattle.ways.proofs.Sizes.{set-count, set-product, named-padded}
 use Rattle.rater.proofs.Lent.{names, never-refused, lent-refused, lent-seventeen, lent-rated}
 
 -- A refusal tells its number and no powers.
-module _ {p : ℕ} {fs : List Polynomial} {us ts answer work answer′ work′ : List ℕ} {x : Refusal} where
-  refused-call :
-      rateSet p fs us ts (length answer) (length work) ≡ refused (numberOf x)
-      → LentAfter (rateSet p fs us ts (length answer) (length work)) answer work answer′ work′
-      → SetCall p fs us ts answer work
-      (record { outcome = SetOutcome.Refused x; powers = replicate 8 0 })
-      answer′
-      work′
-  unfolding toldSet mapResult figuresOf setPadded padded
-  refused-call e l =
-      record {
-        rating =
-            ap (λ (r : Result (Rated SetFigures)). mapResult setFiguresTold (figuresOf r)) (sym e);
-        powers = ap (λ (r : Result (Rated SetFigures)). setPadded (figuresOf r)) (sym e);
-        lent = l;
-      }
+refused-call :
+    {p : ℕ} {fs : List Polynomial} {us ts answer work answer′ work′ : List ℕ} {x : Refusal} {s : SetRating}
+    → (s .outcome ≡ SetOutcome.Refused x) × (s .powers ≡ replicate 8 0)
+    → rateSet p fs us ts (length answer) (length work) ≡ refused (numberOf x)
+    → LentAfter (rateSet p fs us ts (length answer) (length work)) answer work answer′ work′
+    → SetCall p fs us ts answer work s answer′ work′
+unfolding toldSet mapResult figuresOf setPadded padded
+refused-call (o, z) e l =
+    record {
+      rating =
+          ap toldSet o
+          ∙ ap (λ (r : Result (Rated SetFigures)). mapResult setFiguresTold (figuresOf r)) (sym e);
+      powers = z ∙ ap (λ (r : Result (Rated SetFigures)). setPadded (figuresOf r)) (sym e);
+      lent = l;
+    }
 
 -- The answer with the powers rs, when the polynomial is written from them as they stand in eight places.
 answer-polynomial :
@@ -75,23 +75,25 @@ answer-polynomial F fs us rs size =
 
 rated-call :
     {p : ℕ} {fs : List Polynomial} {us ts answer work : List ℕ} {F : Field} (rs : List ℕ)
-    {powers answer′ work′ : List ℕ} {n k : ℕ}
+    {powers answer′ work′ : List ℕ} {n k : ℕ} {s : SetRating}
+    → (s .outcome ≡ SetOutcome.Rated n k) × (s .powers ≡ powers)
     → length rs ≡ length fs
     → rateSet p fs us ts (length answer) (length work) ≡ answered (setRating F (named fs us) rs)
     → powers ≡ padded rs
     → k ≡ length fs
     → ProductWritten F fs (padded rs) answer answer′ n
     → work′ ≡ cleared work
-    → SetCall p fs us ts answer work (record { outcome = SetOutcome.Rated n k; powers = powers }) answer′ work′
+    → SetCall p fs us ts answer work s answer′ work′
 unfolding toldSet setFiguresTold mapResult figuresOf setPadded setRating
-rated-call {fs = fs} {us = us} {answer = answer} {F = F} rs {n = n} size e i k y w =
+rated-call {fs = fs} {us = us} {answer = answer} {F = F} rs {n = n} (o, z) size e i k y w =
     let g = answer-polynomial F fs us rs size in
     record {
       rating =
-          ap (λ c. answered (record { degree = n; count = c })) (k ∙ sym size)
+          ap toldSet o
+          ∙ ap (λ c. answered (record { degree = n; count = c })) (k ∙ sym size)
           ∙ ap (λ d. answered (record { degree = d; count = length rs })) (y .newDegree ∙ ap degree g)
           ∙ ap (λ (r : Result (Rated SetFigures)). mapResult setFiguresTold (figuresOf r)) (sym e);
-      powers = i ∙ ap (λ (r : Result (Rated SetFigures)). setPadded (figuresOf r)) (sym e);
+      powers = z ∙ i ∙ ap (λ (r : Result (Rated SetFigures)). setPadded (figuresOf r)) (sym e);
       lent = lent-rated e (y .answer ∙ ap (λ h. written h answer) g) w;
     }
 
@@ -109,15 +111,13 @@ module _ (p : ℕ) (fs : List Polynomial) (us ts answer work : List ℕ) {v : Ve
   refused-by q = rw (set-last p ts (length answer) (length work) fs us) (settle-early _ _ _ e q)
 
   pub set-refused :
-      {x : Refusal}
+      {x : Refusal} {s : SetRating}
       → v ≡ Verdict.Refused x
-      → SetCall p fs us ts answer work
-      (record { outcome = SetOutcome.Refused x; powers = replicate 8 0 })
-      answer
-      work
-  set-refused q =
+      → (s .outcome ≡ SetOutcome.Refused x) × (s .powers ≡ replicate 8 0)
+      → SetCall p fs us ts answer work s answer work
+  set-refused q o =
       let k = refused-by q in
-      refused-call k
+      refused-call o k
       (lent-refused k (never-refused 17 _ (no-seventeen p fs us ts (length answer) (length work)) e q))
 
   module _ (q : v ≡ Verdict.Accepted) where
@@ -185,15 +185,14 @@ module _ (p : ℕ) (fs : List Polynomial) (us ts answer work : List ℕ) {v : Ve
             ∙ ap (λ G. annihilatesKnown G (product G (named fs us)) ts) h)
 
         pub set-seventeen :
-            r .annihilated ≡ false
-            → SetCall p fs us ts answer work
-            (record { outcome = SetOutcome.Refused Refusal.NotAnnihilated; powers = replicate 8 0 })
-            answer
-            work′
+            {s : SetRating}
+            → r .annihilated ≡ false
+            → (s .outcome ≡ SetOutcome.Refused Refusal.NotAnnihilated) × (s .powers ≡ replicate 8 0)
+            → SetCall p fs us ts answer work s answer work′
         unfolding numberOf
-        set-seventeen n =
+        set-seventeen n o =
             let k = not-annihilated (decided ∙ n) in
-            refused-call k (lent-seventeen k (y .work))
+            refused-call o k (lent-seventeen k (y .work))
 
         module _ (n : r .annihilated ≡ true) where
           pub set-powers-input : ProductInput F fs (r .powers)
@@ -202,17 +201,16 @@ module _ (p : ℕ) (fs : List Polynomial) (us ts answer work : List ℕ) {v : Ve
               subst (ProductInput F fs) (sym (answer-powers I set-input y n s)) (set-product I set-input s)
 
           pub set-rated :
-              {answer′ : List ℕ} {d k : ℕ}
+              {answer′ : List ℕ} {d k : ℕ} {t : SetRating}
               → k ≡ length fs
               → ProductWritten F fs (r .powers) answer answer′ d
-              → SetCall p fs us ts answer work
-              (record { outcome = SetOutcome.Rated d k; powers = r .powers })
-              answer′
-              work′
-          set-rated {answer′} {d} k z =
+              → (t .outcome ≡ SetOutcome.Rated d k) × (t .powers ≡ r .powers)
+              → SetCall p fs us ts answer work t answer′ work′
+          set-rated {answer′} {d} k z o =
               let (rs, s) = setPowers-exists I (named fs us) nonempties ts in
               let i = answer-powers I set-input y n s in
               rated-call rs
+              o
               (set-count I set-input s)
               (annihilated (decided ∙ n) (ap (λ G. setPowers G (named fs us) ts) (sym h) ∙ s)
               ∙ ap (λ G. answered (setRating G (named fs us) rs)) (sym h))

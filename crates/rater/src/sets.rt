@@ -7,8 +7,31 @@ use powers::write_product;
 use refusals::Verdict;
 use refusals::ratings::set_verdict;
 use ways::set_powers;
+ghost use mathlib.Core.Path.{_≡_};
+ghost use lib.ListN.{replicate};
+ghost use Rattle.meaning.specs.declared.SetOutcome.{SetOutcome};
 ghost use Rattle.meaning.specs.Calls.{SetCall};
 ghost use Rattle.factor_checks.specs.Contents.{contents};
+
+// A refusal, which has no powers.
+fn refused(r: Refusal) -> SetRating
+    ensures { λ s. ⌜ (s .outcome ≡ SetOutcome.Refused r) × (s .powers ≡ replicate 8 0) ⌝ }
+{
+    SetRating {
+        outcome: SetOutcome::Refused(r),
+        powers: [0u64; 8],
+    }
+}
+
+// A rating with the degree of the polynomial and as many powers as there are factors.
+fn rated(degree: u64, count: u64, powers: [u64; 8]) -> SetRating
+    ensures { λ s. ⌜ (s .outcome ≡ SetOutcome.Rated degree count) × (s .powers ≡ powers) ⌝ }
+{
+    SetRating {
+        outcome: SetOutcome::Rated { degree, count },
+        powers,
+    }
+}
 
 // The powers of the factors in the minimal polynomial of the continuation of the first D terms, D the total
 // degree of the upper powers, and the degree of that polynomial; or the refusal by 6 to 17. Accepted, it leaves
@@ -26,13 +49,7 @@ pub fn rate_set(
         (now (answer .entry)) (now (work .entry)) r (now (answer .exit)) (now (work .exit)) ⌝ }
 {
     match set_verdict(p, factors, uppers, terms, answer.len(), work.len()) {
-        Verdict::Refused(r) => {
-            let powers = [0u64; 8];
-            SetRating {
-                outcome: SetOutcome::Refused(r),
-                powers,
-            }
-        }
+        Verdict::Refused(r) => refused(r),
         Verdict::Accepted => {
             let field = GaloisField::of_prime(p);
             let found = set_powers(field, work, factors, uppers, terms);
@@ -40,16 +57,9 @@ pub fn rate_set(
                 let powers = found.powers;
                 let degree = write_product(field, answer, factors, &powers);
                 let count = factors.len() as u64;
-                SetRating {
-                    outcome: SetOutcome::Rated { degree, count },
-                    powers,
-                }
+                rated(degree, count, powers)
             } else {
-                let powers = [0u64; 8];
-                SetRating {
-                    outcome: SetOutcome::Refused(Refusal::NotAnnihilated),
-                    powers,
-                }
+                refused(Refusal::NotAnnihilated)
             }
         }
     }

@@ -24,6 +24,9 @@ set-verdict-requires c κs = search needs
 enum-known-r : tie.Need-enum-known-r
 enum-known-r c = search needs
 
+refused-requires : tie.Need-refused-requires
+refused-requires c κs = search needs
+
 enum-told : tie.Need-enum-told
 enum-told c = search needs
 
@@ -61,8 +64,16 @@ write-product-requires c κs =
       ),
     )
 
+rated-requires : tie.Need-rated-requires
+rated-requires c κs = search needs
+
+refused-requires-2 : tie.Need-refused-requires-2
+refused-requires-2 c κs = search needs
+
 returns : tie.Need-returns
-returns c = set-refused _ _ _ _ _ _ (c .before .before .before .set-verdict .ensures) (c .before .r .given .1)
+returns c =
+    let v = c .before .before in
+    set-refused _ _ _ _ _ _ (v .before .before .set-verdict .ensures) (v .r .given .1) (c .refused .ensures)
 
 same-length : tie.Need-same-length
 same-length c = search needs
@@ -72,7 +83,7 @@ same-length-2 c = search needs
 
 returns-2 : tie.Need-returns-2
 returns-2 c =
-    let w = c .before .before in
+    let w = c .before .before .before in
     let t = w .before .before .before .before in
     let y = t .before .before .before in
     let f = y .before .before in
@@ -82,18 +93,21 @@ returns-2 c =
     (t .if1 .taken)
     (sym (contents-length _))
     (w .write-product .ensures)
+    (c .rated .ensures)
 
 same-length-3 : tie.Need-same-length-3
 same-length-3 c = search needs
 
 returns-3 : tie.Need-returns-3
 returns-3 c =
-    let y = c .before .before .before in
+    let t = c .before in
+    let y = t .before .before .before in
     let f = y .before .before in
     let a = f .before in
     set-seventeen _ _ _ _ _ _ (a .before .before .set-verdict .ensures) (a .enum-told .given .1)
     (f .of-prime .ensures .isField) (field-isField (f .of-prime .ensures .wellFormed)) (y .set-powers .ensures)
-    (c .if1 .left)
+    (t .if1 .left)
+    (c .refused2 .ensures)
 
 pub rate-set-spec : {M : Type 1} → statement M
 rate-set-spec =
@@ -101,11 +115,14 @@ rate-set-spec =
     (tie.spec
     set-verdict-requires
     enum-known-r
+    refused-requires
     enum-told
     of-prime-requires
     set-powers-requires
     slice-aggregate-write-product
     write-product-requires
+    rated-requires
+    refused-requires-2
     returns
     same-length
     same-length-2
