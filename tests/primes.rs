@@ -3,7 +3,7 @@ mod common;
 
 use common::calls::prime_in_range;
 use common::random::Random;
-use common::{expect, primes, sieve, Tests, NO_PRIMES};
+use common::{expect, primes, run, sieve, NO_PRIMES};
 
 const RANDOM_CASES: u64 = 100_000;
 
@@ -54,11 +54,14 @@ fn large() -> Result<u64, String> {
 }
 
 fn main() {
-    let mut tests = Tests::of("primes");
-    tests.test("numbers up to 100,000", against_a_sieve);
-    tests.test("all primes in range", all_in_range);
-    tests.test("no primes", none_of_these);
-    tests.test("primes in the lower bits", lower_bits);
-    tests.test("large numbers", large);
-    tests.end()
+    run(
+        "primes",
+        &[
+            ("numbers up to 100,000", against_a_sieve),
+            ("all primes in range", all_in_range),
+            ("no primes", none_of_these),
+            ("primes in the lower bits", lower_bits),
+            ("large numbers", large),
+        ],
+    )
 }

@@ -1,4 +1,5 @@
 // The exported calls of crates/exports. A slice passes as its start and its length.
+use super::rater::{Factor, Input, Way};
 
 // An answer, or the number of the refusal.
 pub type Answer<T> = Result<T, u64>;
@@ -21,6 +22,63 @@ mod exported {
             buffer: *mut u8,
             size: usize,
             place: usize,
+        ) -> u64;
+        pub fn rater_rate_period(
+            p: u64,
+            factor: *const u8,
+            coefficients: usize,
+            terms: *const u8,
+            count: usize,
+            answer: *mut u8,
+            answer_size: usize,
+            work: *mut u8,
+            work_size: usize,
+            power: *mut u64,
+            degree: *mut u64,
+            bound: *mut u64,
+        ) -> u64;
+        pub fn rater_rate_portion(
+            p: u64,
+            factor: *const u8,
+            coefficients: usize,
+            upper: u64,
+            terms: *const u8,
+            count: usize,
+            answer: *mut u8,
+            answer_size: usize,
+            work: *mut u8,
+            work_size: usize,
+            power: *mut u64,
+            degree: *mut u64,
+            bound: *mut u64,
+        ) -> u64;
+        pub fn rater_rate_set(
+            p: u64,
+            factors: *const u8,
+            coefficients: usize,
+            lengths: *const u64,
+            factor_count: usize,
+            uppers: *const u64,
+            upper_count: usize,
+            terms: *const u8,
+            count: usize,
+            answer: *mut u8,
+            answer_size: usize,
+            work: *mut u8,
+            work_size: usize,
+            powers: *mut [u64; 8],
+            degree: *mut u64,
+        ) -> u64;
+        pub fn rater_rate_free(
+            p: u64,
+            terms: *const u8,
+            count: usize,
+            answer: *mut u8,
+            answer_size: usize,
+            work: *mut u8,
+            work_size: usize,
+            degree: *mut u64,
+            unique: *mut u8,
         ) -> u64;
     }
 }
@@ -70,4 +128,136 @@ pub fn continue_sequence(
             place,
         )
     })
+}
+
+// What a rating call tells: its status, 0 or the number of the refusal, and the numbers that were lent to it. They hold
+// marks beforehand, which a refusal has to leave.
+#[derive(Debug, PartialEq)]
+pub struct Told {
+    pub status: u64,
+    pub powers: [u64; 8],
+    pub degree: u64,
+    pub bound: u64,
+    pub unique: u8,
+}
+
+impl Told {
+    pub fn marks(status: u64) -> Self {
+        const MARK: u64 = 0xa5c3_96e1_87d2_b4f0;
+        Told {
+            status,
+            powers: [MARK; 8],
+            degree: MARK,
+            bound: MARK,
+            unique: 0xa5,
+        }
+    }
+}
+
+fn coefficients(factor: &Factor) -> &[u8] {
+    match factor {
+        Factor::List(list) => list,
+        Factor::Record { .. } => panic!("a factor of a file"),
+    }
+}
+
+// The rating call of the input's way; `answer` and `work` have the sizes that the input names.
+pub fn rate(input: &Input, answer: &mut [u8], work: &mut [u8]) -> Told {
+    match input.way {
+        Way::Period => rate_period(input, answer, work),
+        Way::Portion => rate_portion(input, answer, work),
+        Way::Set => rate_set(input, answer, work),
+        Way::Free => rate_free(input, answer, work),
+    }
+}
+
+fn rate_period(input: &Input, answer: &mut [u8], work: &mut [u8]) -> Told {
+    let mut told = Told::marks(0);
+    let (factor, terms) = (coefficients(&input.factors[0]), &input.terms);
+    told.status = unsafe {
+        exported::rater_rate_period(
+            input.p,
+            factor.as_ptr(),
+            factor.len(),
+            terms.as_ptr(),
+            terms.len(),
+            answer.as_mut_ptr(),
+            answer.len(),
+            work.as_mut_ptr(),
+            work.len(),
+            &mut told.powers[0],
+            &mut told.degree,
+            &mut told.bound,
+        )
+    };
+    told
+}
+
+fn rate_portion(input: &Input, answer: &mut [u8], work: &mut [u8]) -> Told {
+    let mut told = Told::marks(0);
+    let (factor, terms) = (coefficients(&input.factors[0]), &input.terms);
+    told.status = unsafe {
+        exported::rater_rate_portion(
+            input.p,
+            factor.as_ptr(),
+            factor.len(),
+            input.uppers[0],
+            terms.as_ptr(),
+            terms.len(),
+            answer.as_mut_ptr(),
+            answer.len(),
+            work.as_mut_ptr(),
+            work.len(),
+            &mut told.powers[0],
+            &mut told.degree,
+            &mut told.bound,
+        )
+    };
+    told
+}
+
+// The factors pass one after another, with the number of coefficients of each.
+fn rate_set(input: &Input, answer: &mut [u8], work: &mut [u8]) -> Told {
+    let mut told = Told::marks(0);
+    let lists: Vec<&[u8]> = input.factors.iter().map(coefficients).collect();
+    let lengths: Vec<u64> = lists.iter().map(|list| list.len() as u64).collect();
+    let (factors, terms) = (lists.concat(), &input.terms);
+    told.status = unsafe {
+        exported::rater_rate_set(
+            input.p,
+            factors.as_ptr(),
+            factors.len(),
+            lengths.as_ptr(),
+            lengths.len(),
+            input.uppers.as_ptr(),
+            input.uppers.len(),
+            terms.as_ptr(),
+            terms.len(),
+            answer.as_mut_ptr(),
+            answer.len(),
+            work.as_mut_ptr(),
+            work.len(),
+            &mut told.powers,
+            &mut told.degree,
+        )
+    };
+    told
+}
+
+fn rate_free(input: &Input, answer: &mut [u8], work: &mut [u8]) -> Told {
+    let mut told = Told::marks(0);
+    told.status = unsafe {
+        exported::rater_rate_free(
+            input.p,
+            input.terms.as_ptr(),
+            input.terms.len(),
+            answer.as_mut_ptr(),
+            answer.len(),
+            work.as_mut_ptr(),
+            work.len(),
+            &mut told.degree,
+            &mut told.unique,
+        )
+    };
+    told
 }

@@ -1,4 +1,7 @@
 // Tables of expected answers: lines of words, with blanks between them; # begins a comment.
+use super::poly;
+use super::rater::Rating;
+use super::sequence;
 
 pub fn rows(text: &str) -> Vec<Vec<&str>> {
     text.lines()
@@ -20,4 +23,72 @@ fn repeated(item: &str) -> Vec<u8> {
         Some((a, n)) => vec![a.parse().unwrap(); n.parse().unwrap()],
         None => vec![item.parse().unwrap()],
     }
+}
+
+// Lists with ; between them, or - for none.
+pub fn lists(word: &str) -> Vec<Vec<u8>> {
+    if word == "-" {
+        return vec![];
+    }
+    word.split(';').map(bytes).collect()
+}
+
+// A list of numbers with commas, or - for none.
+pub fn numbers(word: &str) -> Vec<u64> {
+    if word == "-" {
+        return vec![];
+    }
+    word.split(',').map(|n| n.parse().unwrap()).collect()
+}
+
+// The last words of a row for the period or the portion way: power, polynomial and bound, or the number of the refusal.
+pub fn power_rating(words: &[&str]) -> Result<Rating, u64> {
+    let [power, polynomial, bound] = words else {
+        return Err(refusal(words));
+    };
+    Ok(Rating {
+        powers: numbers(power),
+        polynomial: sequence::of_bytes(&bytes(polynomial)),
+        bound: Some(bound.parse().unwrap()),
+        unique: None,
+    })
+}
+
+// The same for the set way: powers and polynomial.
+pub fn set_rating(words: &[&str]) -> Result<Rating, u64> {
+    let [powers, polynomial] = words else {
+        return Err(refusal(words));
+    };
+    Ok(Rating {
+        powers: numbers(powers),
+        polynomial: sequence::of_bytes(&bytes(polynomial)),
+        bound: None,
+        unique: None,
+    })
+}
+
+// The same for the free way: degree and word, under `one` also the polynomial.
+pub fn free_rating(words: &[&str]) -> Result<Rating, u64> {
+    let (degree, unique, polynomial) = match words {
+        [degree, "one", polynomial] => (degree, true, Some(polynomial)),
+        [degree, "some"] => (degree, false, None),
+        _ => return Err(refusal(words)),
+    };
+    let degree: usize = degree.parse().unwrap();
+    let polynomial =
+        polynomial.map_or(poly::monic(2, degree, 0), |f| sequence::of_bytes(&bytes(f)));
+    assert_eq!(poly::degree(&polynomial), degree);
+    Ok(Rating {
+        powers: vec![],
+        polynomial,
+        bound: None,
+        unique: Some(unique),
+    })
+}
+
+fn refusal(words: &[&str]) -> u64 {
+    let [number] = words else {
+        panic!("a bad row: {words:?}");
+    };
+    number.parse().unwrap()
 }

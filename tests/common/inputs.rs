@@ -1,0 +1,182 @@
+// Inputs that are made for the rating calls: irreducible factors, and sequences whose minimal polynomials are known from how
+// they are made.
+use super::largest_degree;
+use super::massey;
+use super::poly::{self, degree, Poly};
+use super::random::Random;
+use super::rater::{Factor, Input, Way};
+use super::sequence::{added, annihilates, continued, of_bytes, Terms};
+
+pub fn list(f: &[u64]) -> Factor {
+    Factor::List(poly::to_bytes(f))
+}
+
+// An irreducible polynomial of degree d.
+pub fn irreducible(random: &mut Random, p: u64, d: usize) -> Poly {
+    loop {
+        let f = of_bytes(&random.monic(p, d));
+        if poly::is_irreducible(p, &f) {
+            return f;
+        }
+    }
+}
+
+// n different irreducible polynomials of degree at most d, or of larger degrees where there are too few.
+pub fn factors(random: &mut Random, p: u64, n: usize, d: usize) -> Vec<Poly> {
+    more_factors(random, p, n, d, vec![])
+}
+
+// Such polynomials other than x.
+pub fn factors_but_x(random: &mut Random, p: u64, n: usize, d: usize) -> Vec<Poly> {
+    more_factors(random, p, n + 1, d, vec![vec![0, 1]])[1..].to_vec()
+}
+
+// More polynomials, up to n in all. With each that is there already the largest degree grows by one, as there may not be as
+// many of degree at most d.
+fn more_factors(
+    random: &mut Random,
+    p: u64,
+    n: usize,
+    mut d: usize,
+    mut factors: Vec<Poly>,
+) -> Vec<Poly> {
+    while factors.len() < n {
+        let degree = random.between(1, d.min(largest_degree(p)) as u64);
+        let f = irreducible(random, p, degree as usize);
+        if factors.contains(&f) {
+            d += 1;
+        } else {
+            factors.push(f);
+        }
+    }
+    factors
+}
+
+// D, the sum of upper power × degree.
+pub fn total_degree(factors: &[Poly], uppers: &[u64]) -> usize {
+    let named = factors.iter().zip(uppers);
+    named.map(|(f, &v)| v as usize * degree(f)).sum()
+}
+
+// Positive upper powers of the factors with a total degree of at most `total`; the last takes what the others leave.
+pub fn uppers(random: &mut Random, factors: &[Poly], total: usize) -> Vec<u64> {
+    let mut left = total - factors.iter().map(|f| degree(f)).sum::<usize>();
+    let last = factors.len() - 1;
+    let mut uppers = vec![];
+    for (i, f) in factors.iter().enumerate() {
+        let most = (left / degree(f)) as u64;
+        let more = if i == last {
+            most
+        } else {
+            random.between(0, most)
+        };
+        left -= more as usize * degree(f);
+        uppers.push(1 + more);
+    }
+    uppers
+}
+
+// n terms without a rule.
+pub fn terms(random: &mut Random, p: u64, n: usize) -> Terms {
+    of_bytes(&random.elements(p, n))
+}
+
+// A power from 0 to `most`, often at its ends or beside a power of p.
+pub fn power(random: &mut Random, p: u64, most: u64) -> u64 {
+    let mut beside = 1;
+    while beside * p <= most && random.below(3) > 0 {
+        beside *= p;
+    }
+    let any = random.between(0, most);
+    let choice = [any, any, 0, most, beside - 1, beside, beside + 1];
+    random.one_of(&choice).min(most)
+}
+
+// n terms of a sequence whose minimal polynomial is f^r, for an irreducible f.
+pub fn register(random: &mut Random, p: u64, f: &[u64], r: u64, n: usize) -> Terms {
+    if r == 0 {
+        return vec![0; n];
+    }
+    let less = poly::power(p, f, r - 1);
+    let whole = poly::product(p, &less, f);
+    loop {
+        let start = terms(random, p, degree(&whole));
+        if !annihilates(p, &less, &start) {
+            return continued(p, &whole, &start, n);
+        }
+    }
+}
+
+// n terms of a sequence whose minimal polynomial is the product of the powers: a sum of one register for each factor.
+pub fn registers(random: &mut Random, p: u64, factors: &[Poly], powers: &[u64], n: usize) -> Terms {
+    let mut terms = vec![0; n];
+    for (f, r) in factors.iter().zip(powers) {
+        terms = added(p, &terms, &register(random, p, f, *r, n));
+    }
+    terms
+}
+
+pub fn period(p: u64, f: &[u64], terms: &[u64]) -> Input {
+    Input::of(Way::Period, p, vec![list(f)], vec![], poly::to_bytes(terms))
+}
+
+pub fn portion(p: u64, f: &[u64], upper: u64, terms: &[u64]) -> Input {
+    let terms = poly::to_bytes(terms);
+    Input::of(Way::Portion, p, vec![list(f)], vec![upper], terms)
+}
+
+pub fn set(p: u64, factors: &[Poly], uppers: &[u64], terms: &[u64]) -> Input {
+    let factors = factors.iter().map(|f| list(f)).collect();
+    let terms = poly::to_bytes(terms);
+    Input::of(Way::Set, p, factors, uppers.to_vec(), terms)
+}
+
+pub fn free(p: u64, terms: &[u64]) -> Input {
+    Input::of(Way::Free, p, vec![], vec![], poly::to_bytes(terms))
+}
+
+// The least d of at least 1 with p^d ≡ 1 modulo e, for p coprime to e.
+fn order(p: u64, e: u64) -> usize {
+    let mut d = 1;
+    let mut power = p % e;
+    while power != 1 % e {
+        power = power * p % e;
+        d += 1;
+    }
+    d
+}
+
+// The numbers e up to `last`, not divisible by p, whose primitive e-th roots of 1 have minimal polynomials of an accepted
+// degree d over GF(p): pairs (d, e).
+pub fn roots_of_one(p: u64, last: u64) -> Vec<(usize, u64)> {
+    (1..=last)
+        .filter(|e| e % p != 0)
+        .map(|e| (order(p, e), e))
+        .filter(|(d, _)| *d <= largest_degree(p))
+        .collect()
+}
+
+// An irreducible polynomial of degree d that divides x^e − 1, for such a pair: the minimal polynomial of an e-th root of 1
+// in GF(p^d), which is that of the constant coefficients of its powers.
+pub fn divisor(random: &mut Random, p: u64, d: usize, e: u64) -> Poly {
+    let field = irreducible(random, p, d);
+    loop {
+        let any = terms(random, p, d);
+        let root = poly::power_modulo(p, &any, (p.pow(d as u32) - 1) / e, &field);
+        let powers = (0..2 * d as u64).map(|k| poly::power_modulo(p, &root, k, &field));
+        let constants = powers.map(|h| h.first().copied().unwrap_or(0));
+        let f = massey::shortest(p, &constants.collect::<Vec<_>>());
+        if degree(&f) == d && f[0] != 0 {
+            return f;
+        }
+    }
+}
+
+// All lists of 1 to `longest` terms.
+pub fn all_terms(p: u64, longest: usize) -> impl Iterator<Item = Terms> {
+    let all = (1..=longest).flat_map(move |n| poly::monics(p, n));
+    all.map(|mut f| {
+        f.pop();
+        f
+    })
+}

@@ -1,0 +1,129 @@
+// Rating calls on lent bytes that hold marks: every byte of the answer and of the work is looked at afterwards, and so are
+// the bytes before and after them.
+use super::calls::{self, Told};
+use super::poly;
+use super::random::Random;
+use super::rater::{self, Factor, Input, Rating, Way};
+use super::sequence::{self, annihilates};
+use super::{expect, list};
+use std::sync::LazyLock;
+
+const MARGIN: usize = 32;
+
+// Lent bytes in the midst of others, all of them marks.
+#[derive(PartialEq)]
+struct Lent {
+    all: Vec<u8>,
+    size: usize,
+}
+
+impl Lent {
+    fn of(size: usize) -> Self {
+        static MARKS: LazyLock<Vec<u8>> = LazyLock::new(|| Random::of_seed(100).bytes(1 << 17));
+        Lent {
+            all: MARKS[..size + 2 * MARGIN].to_vec(),
+            size,
+        }
+    }
+
+    fn bytes(&mut self) -> &mut [u8] {
+        &mut self.all[MARGIN..MARGIN + self.size]
+    }
+
+    // Where two differ, counted from the start of the lent bytes.
+    fn difference(&self, other: &Lent) -> Option<isize> {
+        let place = (0..self.all.len()).find(|&i| self.all[i] != other.all[i])?;
+        Some(place as isize - MARGIN as isize)
+    }
+}
+
+// The call answers an input as the second rater does.
+pub fn agrees(input: &Input) -> Result<(), String> {
+    answers(input, &rater::rate(input))
+}
+
+// The call refuses an input by this number.
+pub fn refuses(input: &Input, number: u64) -> Result<(), String> {
+    answers(input, &Err(number))
+}
+
+// The call answers an input as it is expected to, and leaves the lent bytes so.
+pub fn answers(input: &Input, expected: &Result<Rating, u64>) -> Result<(), String> {
+    let (mut answer, mut work) = (Lent::of(input.answer), Lent::of(input.work));
+    let told = calls::rate(input, answer.bytes(), work.bytes());
+    expect(told, telling(input.way, expected), || case(input))?;
+    let (mut answer_after, mut work_after) = (Lent::of(input.answer), Lent::of(input.work));
+    if let Ok(rating) = expected {
+        let size = rating.polynomial.len();
+        let mut polynomial = poly::to_bytes(&rating.polynomial);
+        if rating.unique == Some(false) {
+            polynomial = answer.bytes()[..size].to_vec();
+            fits(input, &polynomial)?;
+        }
+        expect(&answer.bytes()[..size], &polynomial[..], || case(input))?;
+        answer_after.bytes()[..size].copy_from_slice(&polynomial);
+    }
+    if matches!(expected, Ok(_) | Err(17)) {
+        work_after.bytes()[..8192].fill(0);
+    }
+    let differences = [
+        answer.difference(&answer_after),
+        work.difference(&work_after),
+    ];
+    expect(differences, [None, None], || {
+        format!("{}: wrong bytes in the answer and the work", case(input))
+    })
+}
+
+// What the call has to tell; what it does not write keeps its mark.
+fn telling(way: Way, expected: &Result<Rating, u64>) -> Told {
+    let rating = match expected {
+        Err(number) => return Told::marks(*number),
+        Ok(rating) => rating,
+    };
+    let mut told = Told::marks(0);
+    told.degree = poly::degree(&rating.polynomial) as u64;
+    if way == Way::Set {
+        told.powers = [0; 8];
+    }
+    told.powers[..rating.powers.len()].copy_from_slice(&rating.powers);
+    told.bound = rating.bound.unwrap_or(told.bound);
+    told.unique = rating.unique.map_or(told.unique, |one| one as u8);
+    told
+}
+
+// A polynomial that may be returned under `some`: monic over the field, and it annihilates the known terms.
+fn fits(input: &Input, polynomial: &[u8]) -> Result<(), String> {
+    let (f, terms) = (
+        sequence::of_bytes(polynomial),
+        sequence::of_bytes(&input.terms),
+    );
+    let over_the_field = f.iter().all(|&c| c < input.p);
+    let monic = f.last() == Some(&1);
+    if over_the_field && monic && annihilates(input.p, &f, &terms) {
+        Ok(())
+    } else {
+        Err(format!(
+            "{}: {} does not fit",
+            case(input),
+            list(polynomial)
+        ))
+    }
+}
+
+fn case(input: &Input) -> String {
+    let factor = |f: &Factor| match f {
+        Factor::List(coefficients) => list(coefficients),
+        Factor::Record { .. } => format!("{f:?}"),
+    };
+    format!(
+        "{:?}, p {}, factors {:?}, upper powers {:?}, terms {}, {} and {} bytes lent",
+        input.way,
+        input.p,
+        input.factors.iter().map(factor).collect::<Vec<_>>(),
+        input.uppers,
+        list(&input.terms),
+        input.answer,
+        input.work
+    )
+}

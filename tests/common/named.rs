@@ -1,0 +1,288 @@
+// Tests that the portion and set ways share: stretches of sequences with known powers of the named factors, and the refusals
+// 14, 15 and 17. Each takes the way that it tests; the portion way has one factor, the set way up to eight.
+use super::inputs::{self, all_terms, factors, power, registers, total_degree, uppers};
+use super::lent::{agrees, answers, refuses};
+use super::poly::{self, degree, Poly};
+use super::random::Random;
+use super::rater::{power_rating, set_rating, Input, Rating, Way};
+use super::sequence::Terms;
+use super::{primes, Outcome};
+
+// Terms as an input of the portion or the set way.
+pub fn input(way: Way, p: u64, factors: &[Poly], uppers: &[u64], terms: &[u64]) -> Input {
+    match way {
+        Way::Portion => inputs::portion(p, &factors[0], uppers[0], terms),
+        _ => inputs::set(p, factors, uppers, terms),
+    }
+}
+
+// Its rating with these powers of the factors.
+pub fn rating(way: Way, p: u64, factors: &[Poly], powers: &[u64]) -> Rating {
+    match way {
+        Way::Portion => power_rating(p, &factors[0], powers[0]),
+        _ => set_rating(p, factors, powers),
+    }
+}
+
+fn most_factors(way: Way) -> u64 {
+    match way {
+        Way::Portion => 1,
+        _ => 8,
+    }
+}
+
+// Named factors with their upper powers, and true powers up to these.
+struct Named {
+    p: u64,
+    factors: Vec<Poly>,
+    uppers: Vec<u64>,
+    powers: Vec<u64>,
+}
+
+impl Named {
+    // Random ones of degree at most d, as many as suit the way, with a total degree of at most `total`.
+    fn of(random: &mut Random, way: Way, p: u64, d: usize, total: usize) -> Self {
+        let n = random.between(1, most_factors(way)) as usize;
+        let mut factors = factors(random, p, n, d);
+        while total_degree(&factors, &[1; 8]) > total {
+            factors.pop();
+        }
+        if factors.is_empty() {
+            factors.push(vec![p - 1, 1]);
+        }
+        Named::with(random, p, factors, total)
+    }
+
+    // The same with just this total degree: the last factor is x − 1.
+    fn exactly(random: &mut Random, way: Way, p: u64, d: usize, total: usize) -> Self {
+        let mut factors = Named::of(random, way, p, d, total).factors;
+        let last = vec![p - 1, 1];
+        factors.retain(|f| *f != last);
+        factors.truncate(most_factors(way) as usize - 1);
+        factors.push(last);
+        Named::with(random, p, factors, total)
+    }
+
+    fn with(random: &mut Random, p: u64, factors: Vec<Poly>, total: usize) -> Self {
+        let uppers = uppers(random, &factors, total);
+        let powers = uppers.iter().map(|&v| power(random, p, v)).collect();
+        Named {
+            p,
+            factors,
+            uppers,
+            powers,
+        }
+    }
+
+    fn total_degree(&self) -> usize {
+        total_degree(&self.factors, &self.uppers)
+    }
+
+    fn terms(&self, random: &mut Random, n: usize) -> Terms {
+        registers(random, self.p, &self.factors, &self.powers, n)
+    }
+
+    fn input(&self, way: Way, terms: &[u64]) -> Input {
+        input(way, self.p, &self.factors, &self.uppers, terms)
+    }
+
+    // The call finds the true powers in n terms.
+    fn found(&self, random: &mut Random, way: Way, n: usize) -> Result<(), String> {
+        let rating = rating(way, self.p, &self.factors, &self.powers);
+        let terms = self.terms(random, n);
+        answers(&self.input(way, &terms), &Ok(rating))
+    }
+}
+
+// All terms up to a length, with all factors up to a degree and all upper powers that leave enough terms: one factor for
+// the portion way, up to three for the set way.
+pub fn all_short(way: Way) -> Outcome {
+    let most = if way == Way::Portion { 1 } else { 3 };
+    let mut cases = 0;
+    for (p, largest, longest) in [(2, 3, 8), (3, 2, 5), (5, 1, 4), (7, 1, 3)] {
+        let all = (1..=largest).flat_map(|d| poly::monics(p, d));
+        let all: Vec<Poly> = all.filter(|f| poly::is_irreducible(p, f)).collect();
+        for factors in choices(&all).filter(|factors| factors.len() <= most) {
+            for uppers in small_uppers(factors.len(), longest) {
+                let total = total_degree(&factors, &uppers);
+                for terms in all_terms(p, longest).filter(|terms| terms.len() >= total) {
+                    agrees(&input(way, p, &factors, &uppers, &terms))?;
+                    cases += 1;
+                }
+            }
+        }
+    }
+    Ok(cases)
+}
+
+// All choices of one or more.
+fn choices(all: &[Poly]) -> impl Iterator<Item = Vec<Poly>> + '_ {
+    (1..1u32 << all.len()).map(|chosen| {
+        let indices = (0..all.len()).filter(|i| chosen >> i & 1 == 1);
+        indices.map(|i| all[i].clone()).collect()
+    })
+}
+
+// All lists of n numbers from 1 to `last`.
+fn small_uppers(n: usize, last: usize) -> impl Iterator<Item = Vec<u64>> {
+    let digits = poly::monics(last as u64, n);
+    digits.map(move |digits| digits[..n].iter().map(|c| c + 1).collect())
+}
+
+// Stretches of sequences with known powers, of total degrees up to 2,000, over all primes.
+pub fn made(way: Way) -> Outcome {
+    const EACH: u64 = 40;
+    let mut random = Random::of_seed(110);
+    for p in primes() {
+        for _ in 0..EACH {
+            let d = random.one_of(&[1, 2, 4, 32]);
+            let total = random.one_of(&[40, 100, 300, 1000, 2000]);
+            let named = Named::of(&mut random, way, p, d, total);
+            let last = random.one_of(&[named.total_degree() as u64 + 10, 4096]);
+            let n = random.between(named.total_degree() as u64, last);
+            named.found(&mut random, way, n as usize)?;
+        }
+    }
+    Ok(EACH * primes().len() as u64)
+}
+
+// Short stretches against the second rater, and the same with any one term changed.
+pub fn against_the_second_rater(way: Way) -> Outcome {
+    const EACH: u64 = 30;
+    let mut random = Random::of_seed(111);
+    for p in primes() {
+        for _ in 0..EACH {
+            let d = random.one_of(&[1, 2, 4, 32]);
+            let named = Named::of(&mut random, way, p, d, 60);
+            let n = named.total_degree() + random.between(0, 60) as usize;
+            let mut terms = named.terms(&mut random, n);
+            agrees(&named.input(way, &terms))?;
+            let place = random.below(n as u64) as usize;
+            terms[place] = (terms[place] + random.between(1, p - 1)) % p;
+            agrees(&named.input(way, &terms))?;
+        }
+    }
+    Ok(2 * EACH * primes().len() as u64)
+}
+
+// The largest total degree, with as many terms.
+pub fn largest(way: Way) -> Outcome {
+    let mut random = Random::of_seed(112);
+    for p in primes() {
+        let named = Named::exactly(&mut random, way, p, 8, 4096);
+        assert_eq!(named.total_degree(), 4096);
+        named.found(&mut random, way, 4096)?;
+        let named = Named::of(&mut random, way, p, 32, 4096);
+        named.found(&mut random, way, 4096)?;
+    }
+    Ok(2 * primes().len() as u64)
+}
+
+// The largest numbers: all terms are 250, of a continuation by polynomials with many large coefficients.
+pub fn largest_numbers(way: Way) -> Outcome {
+    let factors = [vec![249, 1], vec![1, 1]];
+    for total in [1000, 4096] {
+        let uppers = match way {
+            Way::Portion => vec![total, 0],
+            _ => vec![total / 2; 2],
+        };
+        let terms = vec![250; total as usize];
+        agrees(&input(way, 251, &factors, &uppers, &terms))?;
+    }
+    Ok(2)
+}
+
+// 14: upper powers of any size, in the set way at each place. D is 4,096 at most, and no sum wraps.
+pub fn upper_powers(way: Way) -> Outcome {
+    let mut random = Random::of_seed(113);
+    let mut cases = 0;
+    for p in primes() {
+        let n = most_factors(way).min(4) as usize;
+        let factors = factors(&mut random, p, n, 5);
+        for (place, f) in factors.iter().enumerate() {
+            let with = |v: u64| {
+                let mut uppers = vec![1; n];
+                uppers[place] = v;
+                uppers
+            };
+            let d = degree(f);
+            let last = ((4096 - total_degree(&factors, &with(0))) / d) as u64;
+            for v in beyond(d as u64, last) {
+                let terms = inputs::terms(&mut random, p, 4096);
+                refuses(&input(way, p, &factors, &with(v), &terms), 14)?;
+                cases += 1;
+            }
+            for v in [1, last] {
+                let powers = with(v.min(2));
+                let terms = registers(&mut random, p, &factors, &powers, 4096);
+                let rating = rating(way, p, &factors, &powers);
+                answers(&input(way, p, &factors, &with(v), &terms), &Ok(rating))?;
+                cases += 1;
+            }
+        }
+    }
+    Ok(cases)
+}
+
+// Upper powers of a factor of degree d that 14 refuses where `last` is the largest that it does not; for some of them
+// d times the power is small in 64 bits.
+fn beyond(d: u64, last: u64) -> Vec<u64> {
+    let wraps = u64::MAX / d + 1;
+    let large = [
+        1 << 32,
+        (1 << 32) + 1,
+        1 << 63,
+        (1 << 63) + 1,
+        u64::MAX - 1,
+        u64::MAX,
+    ];
+    let near = [0, last + 1, last + 2, 4097, 65536, 65537];
+    let all = near.into_iter().chain(large);
+    match d {
+        1 => all.collect(),
+        _ => all.chain([wraps, wraps + 1]).collect(),
+    }
+}
+
+// 15: D − 1 terms are too few, D are enough.
+pub fn too_few(way: Way) -> Outcome {
+    let mut random = Random::of_seed(114);
+    let mut cases = 0;
+    for p in primes() {
+        for total in [2, 3, 5, 10, 33, 300, 4096] {
+            let named = Named::of(&mut random, way, p, 4, total);
+            let n = named.total_degree();
+            named.found(&mut random, way, n)?;
+            let terms = named.terms(&mut random, n);
+            let fewer = random.between(1, n as u64 - 1) as usize;
+            for few in [n - 1, fewer, 1] {
+                refuses(&named.input(way, &terms[..few]), 15)?;
+            }
+            cases += 4;
+        }
+    }
+    Ok(cases)
+}
+
+// 17: one term beyond the first D is not what the continuation has there, the last of all among them.
+pub fn one_term_changed(way: Way) -> Outcome {
+    let mut random = Random::of_seed(115);
+    let mut cases = 0;
+    for p in primes() {
+        for total in [1, 5, 50, 400, 4000] {
+            let d = random.one_of(&[1, 4]);
+            let named = Named::of(&mut random, way, p, d, total);
+            let first = named.total_degree() as u64;
+            let n = first + random.between(1, 96);
+            let terms = named.terms(&mut random, n as usize);
+            for place in [first, random.between(first, n - 1), n - 1] {
+                let mut changed = terms.clone();
+                let term = &mut changed[place as usize];
+                *term = (*term + random.between(1, p - 1)) % p;
+                answers(&named.input(way, &changed), &Err(17))?;
+                cases += 1;
+            }
+        }
+    }
+    Ok(cases)
+}

@@ -1,0 +1,218 @@
+// rate_free: known answers, all short portions against all polynomials, long ones against the Berlekamp-Massey algorithm in
+// its textbook form, and every refusal.
+mod common;
+
+use common::inputs::{self, all_terms, factors, registers, uppers};
+use common::lent::{agrees, answers};
+use common::poly::{self, degree, Poly};
+use common::random::Random;
+use common::rater::{free_rating, Input, Rating, Way};
+use common::sequence::{annihilates, continued, Terms};
+use common::{expect, faults, primes, run, table, Outcome};
+
+fn known_answers() -> Outcome {
+    let rows = table::rows(include_str!("data/free.txt"));
+    for row in &rows {
+        let (p, terms) = (row[0].parse().unwrap(), table::bytes(row[1]));
+        let input = Input::of(Way::Free, p, vec![], vec![], terms);
+        answers(&input, &table::free_rating(&row[2..]))?;
+    }
+    Ok(rows.len() as u64)
+}
+
+// All monic polynomials of the least degree that annihilate the terms, by trying all of each degree.
+fn fitting(p: u64, terms: &[u64]) -> Vec<Poly> {
+    let of_degree = |d| {
+        poly::monics(p, d)
+            .filter(|f| annihilates(p, f, terms))
+            .collect()
+    };
+    let mut all = (0..=terms.len()).map(of_degree);
+    all.find(|fitting: &Vec<Poly>| !fitting.is_empty()).unwrap()
+}
+
+// All portions up to a length. Under `one` the polynomial is the only one, under `some` there are others.
+fn all_short() -> Outcome {
+    let mut cases = 0;
+    for (p, longest) in [(2, 13), (3, 8), (5, 6), (7, 5), (13, 4), (251, 1)] {
+        for terms in all_terms(p, longest) {
+            let fitting = fitting(p, &terms);
+            let unique = 2 * degree(&fitting[0]) <= terms.len();
+            expect(fitting.len() == 1, unique, || format!("p {p}, {terms:?}"))?;
+            let rating = Rating {
+                powers: vec![],
+                polynomial: fitting[0].clone(),
+                bound: None,
+                unique: Some(unique),
+            };
+            expect(
+                degree(&free_rating(p, &terms).polynomial),
+                degree(&fitting[0]),
+                || format!("the second rater, p {p}, {terms:?}"),
+            )?;
+            answers(&inputs::free(p, &terms), &Ok(rating))?;
+            cases += 1;
+        }
+    }
+    Ok(cases)
+}
+
+// A random length up to `longest`, often a short one.
+fn length(random: &mut Random, longest: u64) -> usize {
+    let last = longest >> random.below(6);
+    random.between(1, last) as usize
+}
+
+// Portions of registers of any polynomial, whose constant coefficient may be 0, with enough terms and with too few; and
+// the same with one term changed.
+fn any_register() -> Outcome {
+    const EACH: u64 = 30;
+    let mut random = Random::of_seed(31);
+    for p in primes() {
+        for _ in 0..EACH {
+            let n = length(&mut random, 1500);
+            let d = random.between(0, n as u64) as usize;
+            let f = inputs::terms(&mut random, p, d).into_iter().chain([1]);
+            let start = inputs::terms(&mut random, p, d);
+            let mut terms = continued(p, &Vec::from_iter(f), &start, n);
+            agrees(&inputs::free(p, &terms))?;
+            let place = random.below(n as u64) as usize;
+            terms[place] = (terms[place] + random.between(1, p - 1)) % p;
+            agrees(&inputs::free(p, &terms))?;
+        }
+    }
+    Ok(2 * EACH * primes().len() as u64)
+}
+
+// Portions of at least twice as many terms as the degree of a known minimal polynomial, x among its factors.
+fn known_polynomials() -> Outcome {
+    const EACH: u64 = 20;
+    let mut random = Random::of_seed(32);
+    for p in primes() {
+        for _ in 0..EACH {
+            let n = random.between(1, 8) as usize;
+            let factors = factors(&mut random, p, n, 3);
+            let total = random.one_of(&[40, 100, 300, 800]);
+            let powers = uppers(&mut random, &factors, total);
+            let polynomial = common::rater::set_rating(p, &factors, &powers).polynomial;
+            let least = 2 * degree(&polynomial);
+            let n = random.between(least as u64, least as u64 + 40);
+            let terms = registers(&mut random, p, &factors, &powers, n as usize);
+            let rating = Rating {
+                powers: vec![],
+                polynomial,
+                bound: None,
+                unique: Some(true),
+            };
+            answers(&inputs::free(p, &terms), &Ok(rating))?;
+        }
+    }
+    Ok(EACH * primes().len() as u64)
+}
+
+// Terms without a rule: their shortest recurrence has half as many terms, or about.
+fn noise() -> Outcome {
+    const EACH: u64 = 30;
+    let mut random = Random::of_seed(33);
+    for p in primes() {
+        for _ in 0..EACH {
+            let n = length(&mut random, 1500);
+            agrees(&inputs::free(p, &inputs::terms(&mut random, p, n)))?;
+        }
+    }
+    Ok(EACH * primes().len() as u64)
+}
+
+// Few terms that are not 0: the degree stays for long and then changes by much.
+fn sparse() -> Outcome {
+    const EACH: u64 = 30;
+    let mut random = Random::of_seed(34);
+    for p in primes() {
+        for _ in 0..EACH {
+            let n = length(&mut random, 1500);
+            let mut terms: Terms = vec![0; n];
+            for _ in 0..random.between(1, 6) {
+                terms[random.below(n as u64) as usize] = random.between(1, p - 1);
+            }
+            agrees(&inputs::free(p, &terms))?;
+        }
+    }
+    Ok(EACH * primes().len() as u64)
+}
+
+// The largest degree: zeros, and a last term that is not 0.
+fn last_term_alone() -> Outcome {
+    let mut random = Random::of_seed(35);
+    let mut cases = 0;
+    for p in primes() {
+        for n in [1, 2, 3, 100, 4095, 4096] {
+            let mut terms = vec![0; n];
+            terms[n - 1] = random.between(1, p - 1);
+            let rating = free_rating(p, &terms);
+            assert_eq!(
+                (degree(&rating.polynomial), rating.unique),
+                (n, Some(false))
+            );
+            answers(&inputs::free(p, &terms), &Ok(rating))?;
+            cases += 1;
+        }
+    }
+    Ok(cases)
+}
+
+// The longest portions: without a rule, of long registers, and of the largest numbers with a rule and without.
+fn longest() -> Outcome {
+    let mut random = Random::of_seed(36);
+    let mut cases = 0;
+    for p in [2, 3, 5, 7, 13, 61, 127, 241, 251] {
+        agrees(&inputs::free(p, &inputs::terms(&mut random, p, 4096)))?;
+        for d in [2047, 2048, 2049] {
+            let f = inputs::terms(&mut random, p, d).into_iter().chain([1]);
+            let start = inputs::terms(&mut random, p, d);
+            let terms = continued(p, &Vec::from_iter(f), &start, 4096);
+            agrees(&inputs::free(p, &terms))?;
+        }
+        let mut terms = vec![p - 1; 4096];
+        agrees(&inputs::free(p, &terms))?;
+        terms[4095] = 0;
+        agrees(&inputs::free(p, &terms))?;
+        cases += 6;
+    }
+    Ok(cases)
+}
+
+// Every length up to the longest of one portion.
+fn every_length() -> Outcome {
+    let mut random = Random::of_seed(37);
+    let mut cases = 0;
+    for p in [2, 251] {
+        let terms = inputs::terms(&mut random, p, 300);
+        for n in 1..=terms.len() {
+            agrees(&inputs::free(p, &terms[..n]))?;
+            cases += 1;
+        }
+    }
+    Ok(cases)
+}
+
+fn main() {
+    run(
+        "free",
+        &[
+            ("known answers", known_answers),
+            ("all short portions", all_short),
+            ("known polynomials", known_polynomials),
+            ("registers", any_register),
+            ("noise", noise),
+            ("few terms that are not 0", sparse),
+            ("the last term alone", last_term_alone),
+            ("the longest portions", longest),
+            ("every length", every_length),
+            ("refused by 6", || faults::not_prime(Way::Free)),
+            ("refused by 7", || faults::counts(Way::Free)),
+            ("refused by 8", || faults::terms(Way::Free)),
+            ("refused by 16", || faults::lent(Way::Free)),
+            ("the first condition refuses", || faults::orders(Way::Free)),
+        ],
+    )
+}
