@@ -1,14 +1,13 @@
 // rate_period: known answers, all short periods, periods of sequences with a known power of the factor, and every refusal.
 mod common;
 
-use common::inputs::{self, divisor, factors, irreducible, power, register, roots_of_one};
+use common::inputs::{self, dividing, divisor, factors, irreducible, power, register};
 use common::lent::{agrees, answers, refuses};
-use common::poly::{self, Poly};
+use common::poly;
 use common::random::Random;
 use common::rater::{power_rating, Factor, Input, Way};
 use common::sequence::added;
 use common::{faults, largest_degree, primes, run, table, Outcome};
-use std::collections::BTreeSet;
 
 fn known_answers() -> Outcome {
     let rows = table::rows(include_str!("data/period.txt"));
@@ -33,21 +32,6 @@ fn all_short() -> Outcome {
         }
     }
     Ok(cases)
-}
-
-// A factor f that divides some x^e − 1 with e up to `last`, such an e, and a power p^w for which e·p^w is at most `longest`.
-// Each degree that such a factor can have is as likely as the others.
-fn dividing(random: &mut Random, p: u64, last: u64, longest: u64) -> (Poly, u64, u64) {
-    let pairs = roots_of_one(p, last);
-    let degrees: BTreeSet<usize> = pairs.iter().map(|(d, _)| *d).collect();
-    let d = random.one_of(&Vec::from_iter(degrees));
-    let orders = pairs.iter().filter(|(c, _)| *c == d).map(|(_, e)| *e);
-    let e = random.one_of(&Vec::from_iter(orders));
-    let mut q = 1;
-    while e * q * p <= longest && random.below(3) > 0 {
-        q *= p;
-    }
-    (divisor(random, p, d, e), e, q)
 }
 
 // Periods of sequences with the minimal polynomial f^r, where f^r divides (x^e − 1)^(p^w): they have the period e·p^w and

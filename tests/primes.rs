@@ -3,11 +3,11 @@ mod common;
 
 use common::calls::prime_in_range;
 use common::random::Random;
-use common::{expect, primes, run, sieve, NO_PRIMES};
+use common::{expect, primes, run, sieve, Outcome, NO_PRIMES};
 
 const RANDOM_CASES: u64 = 100_000;
 
-fn against_a_sieve() -> Result<u64, String> {
+fn against_a_sieve() -> Outcome {
     let last = 100_000;
     let prime = sieve(last);
     for n in 0..=last {
@@ -18,7 +18,7 @@ fn against_a_sieve() -> Result<u64, String> {
     Ok(last as u64 + 1)
 }
 
-fn all_in_range() -> Result<u64, String> {
+fn all_in_range() -> Outcome {
     let found = (0..=u16::MAX as u64)
         .filter(|&n| prime_in_range(n))
         .collect::<Vec<_>>();
@@ -27,14 +27,14 @@ fn all_in_range() -> Result<u64, String> {
     Ok(1 << 16)
 }
 
-fn none_of_these() -> Result<u64, String> {
+fn none_of_these() -> Outcome {
     for n in NO_PRIMES {
         expect(prime_in_range(n), false, || n.to_string())?;
     }
     Ok(NO_PRIMES.len() as u64)
 }
 
-fn lower_bits() -> Result<u64, String> {
+fn lower_bits() -> Outcome {
     for q in primes() {
         for bit in 8..64 {
             let n = q + (1 << bit);
@@ -44,7 +44,7 @@ fn lower_bits() -> Result<u64, String> {
     Ok(primes().len() as u64 * 56)
 }
 
-fn large() -> Result<u64, String> {
+fn large() -> Outcome {
     let mut random = Random::of_seed(1);
     for _ in 0..RANDOM_CASES {
         let n = random.next() >> random.below(56);

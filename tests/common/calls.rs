@@ -216,21 +216,32 @@ fn rate_portion(input: &Input, answer: &mut [u8], work: &mut [u8]) -> Told {
     told
 }
 
-// The factors pass one after another, with the number of coefficients of each.
 fn rate_set(input: &Input, answer: &mut [u8], work: &mut [u8]) -> Told {
-    let mut told = Told::marks(0);
     let lists: Vec<&[u8]> = input.factors.iter().map(coefficients).collect();
     let lengths: Vec<u64> = lists.iter().map(|list| list.len() as u64).collect();
-    let (factors, terms) = (lists.concat(), &input.terms);
+    rate_joined_set(&lists.concat(), &lengths, input, answer, work)
+}
+
+// The set way on factors that stand one after another in `joined`: each takes as many bytes as its length says, or what
+// is left. The input's own factors are not looked at.
+pub fn rate_joined_set(
+    joined: &[u8],
+    lengths: &[u64],
+    input: &Input,
+    answer: &mut [u8],
+    work: &mut [u8],
+) -> Told {
+    let mut told = Told::marks(0);
+    let (uppers, terms) = (&input.uppers, &input.terms);
     told.status = unsafe {
         exported::rater_rate_set(
             input.p,
-            factors.as_ptr(),
-            factors.len(),
+            joined.as_ptr(),
+            joined.len(),
             lengths.as_ptr(),
             lengths.len(),
-            input.uppers.as_ptr(),
-            input.uppers.len(),
+            uppers.as_ptr(),
+            uppers.len(),
             terms.as_ptr(),
             terms.len(),
             answer.as_mut_ptr(),

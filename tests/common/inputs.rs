@@ -6,6 +6,7 @@ use super::poly::{self, degree, Poly};
 use super::random::Random;
 use super::rater::{Factor, Input, Way};
 use super::sequence::{added, annihilates, continued, of_bytes, Terms};
+use std::collections::BTreeSet;
 
 pub fn list(f: &[u64]) -> Factor {
     Factor::List(poly::to_bytes(f))
@@ -58,9 +59,10 @@ pub fn total_degree(factors: &[Poly], uppers: &[u64]) -> usize {
     named.map(|(f, &v)| v as usize * degree(f)).sum()
 }
 
-// Positive upper powers of the factors with a total degree of at most `total`; the last takes what the others leave.
+// Positive upper powers of the factors with a total degree of at most `total`, or all 1; the last takes what the others
+// leave.
 pub fn uppers(random: &mut Random, factors: &[Poly], total: usize) -> Vec<u64> {
-    let mut left = total - factors.iter().map(|f| degree(f)).sum::<usize>();
+    let mut left = total.saturating_sub(total_degree(factors, &vec![1; factors.len()]));
     let last = factors.len() - 1;
     let mut uppers = vec![];
     for (i, f) in factors.iter().enumerate() {
@@ -148,7 +150,7 @@ fn order(p: u64, e: u64) -> usize {
 
 // The numbers e up to `last`, not divisible by p, whose primitive e-th roots of 1 have minimal polynomials of an accepted
 // degree d over GF(p): pairs (d, e).
-pub fn roots_of_one(p: u64, last: u64) -> Vec<(usize, u64)> {
+fn roots_of_one(p: u64, last: u64) -> Vec<(usize, u64)> {
     (1..=last)
         .filter(|e| e % p != 0)
         .map(|e| (order(p, e), e))
@@ -170,6 +172,21 @@ pub fn divisor(random: &mut Random, p: u64, d: usize, e: u64) -> Poly {
             return f;
         }
     }
+}
+
+// A factor f that divides some x^e − 1 with e up to `last`, such an e, and a power p^w for which e·p^w is at most `longest`.
+// Each degree that such a factor can have is as likely as the others.
+pub fn dividing(random: &mut Random, p: u64, last: u64, longest: u64) -> (Poly, u64, u64) {
+    let pairs = roots_of_one(p, last);
+    let degrees: BTreeSet<usize> = pairs.iter().map(|(d, _)| *d).collect();
+    let d = random.one_of(&Vec::from_iter(degrees));
+    let orders = pairs.iter().filter(|(c, _)| *c == d).map(|(_, e)| *e);
+    let e = random.one_of(&Vec::from_iter(orders));
+    let mut q = 1;
+    while e * q * p <= longest && random.below(3) > 0 {
+        q *= p;
+    }
+    (divisor(random, p, d, e), e, q)
 }
 
 // All lists of 1 to `longest` terms.

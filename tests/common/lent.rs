@@ -42,15 +42,27 @@ pub fn agrees(input: &Input) -> Result<(), String> {
     answers(input, &rater::rate(input))
 }
 
-// The call refuses an input by this number.
+// The call refuses an input by this number, and so does the second rater.
 pub fn refuses(input: &Input, number: u64) -> Result<(), String> {
+    expect(rater::rate(input).err(), Some(number), || {
+        format!("the second rater: {}", case(input))
+    })?;
     answers(input, &Err(number))
 }
 
 // The call answers an input as it is expected to, and leaves the lent bytes so.
 pub fn answers(input: &Input, expected: &Result<Rating, u64>) -> Result<(), String> {
+    answers_by(calls::rate, input, expected)
+}
+
+// The same of a call that is made otherwise.
+pub fn answers_by(
+    call: impl Fn(&Input, &mut [u8], &mut [u8]) -> Told,
+    input: &Input,
+    expected: &Result<Rating, u64>,
+) -> Result<(), String> {
     let (mut answer, mut work) = (Lent::of(input.answer), Lent::of(input.work));
-    let told = calls::rate(input, answer.bytes(), work.bytes());
+    let told = call(input, answer.bytes(), work.bytes());
     expect(told, telling(input.way, expected), || case(input))?;
     let (mut answer_after, mut work_after) = (Lent::of(input.answer), Lent::of(input.work));
     if let Ok(rating) = expected {
