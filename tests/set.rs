@@ -43,7 +43,11 @@ fn joined(p: u64, bytes: &[u8], lengths: &[u64], terms: &[u8]) -> Result<(), Str
 // Lengths that do not fit the bytes: x + 1, x^2 + x + 1 and x^3 + x + 1 stand there, then bytes of no factor.
 fn any_lengths() -> Outcome {
     let bytes = [1, 1, 1, 1, 1, 1, 1, 0, 1, 255, 255];
-    let terms = [0, 1, 1, 0, 1, 1, 0, 1];
+    let all_terms = [
+        &[0, 1, 1][..],
+        &[0, 1, 1, 0, 1, 1, 0, 1],
+        &[0, 0, 0, 0, 0, 1],
+    ];
     let mut cases = 0;
     for used in 0..=bytes.len() {
         for lengths in [
@@ -68,8 +72,10 @@ fn any_lengths() -> Outcome {
             &[0; 9],
             &[0; 300],
         ] {
-            joined(2, &bytes[..used], lengths, &terms)?;
-            cases += 1;
+            for terms in all_terms {
+                joined(2, &bytes[..used], lengths, terms)?;
+                cases += 1;
+            }
         }
     }
     Ok(cases)
