@@ -27,6 +27,7 @@ fn main() {
             ("against the second rater", || {
                 named::against_the_second_rater(Way::Portion)
             }),
+            ("the factor x", || named::factor_x(Way::Portion)),
             ("the largest total degree", || named::largest(Way::Portion)),
             ("the largest numbers", || {
                 named::largest_numbers(Way::Portion)

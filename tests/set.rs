@@ -3,9 +3,11 @@
 mod common;
 
 use common::calls::rate_joined_set;
-use common::lent::{answers, answers_by};
+use common::inputs::{self, factors, registers};
+use common::lent::{answers, answers_by, refuses};
+use common::random::Random;
 use common::rater::{rate, Factor, Input, Way};
-use common::{faults, named, run, table, Outcome};
+use common::{faults, named, primes, run, table, Outcome};
 
 fn known_answers() -> Outcome {
     let rows = table::rows(include_str!("data/set.txt"));
@@ -81,6 +83,69 @@ fn any_lengths() -> Outcome {
     Ok(cases)
 }
 
+// 9, at both sides of both limits
+fn factor_counts() -> Outcome {
+    let mut random = Random::of_seed(50);
+    let mut cases = 0;
+    for p in primes() {
+        for n in [1, 8] {
+            let factors = factors(&mut random, p, n, 3);
+            let terms = registers(&mut random, p, &factors, &vec![1; n], 100);
+            faults::rates(&inputs::set(p, &factors, &vec![1; n], &terms))?;
+        }
+        for n in [0, 9, 10, 16, 17, 256, 257, 1000] {
+            let factors = vec![vec![p - 1, 1]; n];
+            refuses(&inputs::set(p, &factors, &vec![1; n], &[0; 100]), 9)?;
+        }
+        cases += 10;
+    }
+    Ok(cases)
+}
+
+// 13, at each pair of places, with equal and with other upper powers
+fn equal_factors() -> Outcome {
+    let mut random = Random::of_seed(51);
+    let mut cases = 0;
+    for p in primes() {
+        let n = random.between(2, 8) as usize;
+        let all = factors(&mut random, p, n, 32);
+        let uppers: Vec<u64> = (0..n).map(|_| random.between(1, 2)).collect();
+        for i in 0..n {
+            for j in (0..n).filter(|j| *j != i) {
+                let mut equal = all.clone();
+                equal[i] = all[j].clone();
+                refuses(&inputs::set(p, &equal, &uppers, &[0; 600]), 13)?;
+                cases += 1;
+            }
+        }
+        faults::rates(&inputs::set(p, &all, &uppers, &[0; 600]))?;
+        cases += 1;
+    }
+    Ok(cases)
+}
+
+// 14: a factor without an upper power has 0; upper powers without a factor are not looked at
+fn upper_counts() -> Outcome {
+    let mut random = Random::of_seed(52);
+    let mut cases = 0;
+    for p in primes() {
+        let n = random.between(1, 8) as usize;
+        let factors = factors(&mut random, p, n, 3);
+        let terms = registers(&mut random, p, &factors, &vec![1; n], 100);
+        for given in 0..n {
+            refuses(&inputs::set(p, &factors, &vec![1; given], &terms), 14)?;
+            cases += 1;
+        }
+        for more in [0, 1, 5000, u64::MAX] {
+            let mut uppers = vec![1; n];
+            uppers.resize(n + random.between(1, 10) as usize, more);
+            faults::rates(&inputs::set(p, &factors, &uppers, &terms))?;
+            cases += 1;
+        }
+    }
+    Ok(cases)
+}
+
 fn main() {
     run(
         "set",
@@ -92,14 +157,18 @@ fn main() {
             ("against the second rater", || {
                 named::against_the_second_rater(Way::Set)
             }),
+            ("the factor x", || named::factor_x(Way::Set)),
             ("the largest total degree", || named::largest(Way::Set)),
             ("the largest numbers", || named::largest_numbers(Way::Set)),
             ("refused by 6", || faults::not_prime(Way::Set)),
             ("refused by 7", || faults::counts(Way::Set)),
             ("refused by 8", || faults::terms(Way::Set)),
+            ("refused by 9", factor_counts),
             ("refused by 10", || faults::degrees(Way::Set)),
             ("refused by 11", || faults::coefficients(Way::Set)),
             ("refused by 12", || faults::reducible(Way::Set)),
+            ("refused by 13", equal_factors),
+            ("the number of upper powers", upper_counts),
             ("refused by 14", || named::upper_powers(Way::Set)),
             ("refused by 15", || named::too_few(Way::Set)),
             ("refused by 16", || faults::lent(Way::Set)),

@@ -48,7 +48,7 @@ pub fn counts(way: Way) -> Outcome {
                 Way::Free => inputs::free(p, &terms),
             };
             if (1..=4096).contains(&n) {
-                expect_rated(&input)?;
+                rates(&input)?;
             } else {
                 refuses(&input, 7)?;
             }
@@ -58,11 +58,12 @@ pub fn counts(way: Way) -> Outcome {
     Ok(cases)
 }
 
-// The call rates an input that the second rater accepts.
-fn expect_rated(input: &Input) -> Result<(), String> {
-    let rating = rate(input);
-    assert!(rating.is_ok());
-    answers(input, &rating)
+// The call rates an input, as the second rater does.
+pub fn rates(input: &Input) -> Result<(), String> {
+    match rate(input) {
+        Err(number) => Err(format!("the second rater refuses by {number}")),
+        rating => answers(input, &rating),
+    }
 }
 
 // 8, at each place of the terms
@@ -189,7 +190,7 @@ pub fn lent(way: Way) -> Outcome {
             let mut input = accepted(&mut random, way, p);
             (input.answer, input.work) = (answer, work);
             if answer >= 4097 && work >= 8192 {
-                expect_rated(&input)?;
+                rates(&input)?;
             } else {
                 refuses(&input, 16)?;
             }
@@ -201,12 +202,13 @@ pub fn lent(way: Way) -> Outcome {
 
 // An input that breaks any choice of the way's conditions is refused by the first of them.
 pub fn orders(way: Way) -> Outcome {
-    const ROUNDS: u64 = 3;
     let mut random = Random::of_seed(107);
     let conditions = way.conditions();
-    for _ in 0..ROUNDS {
-        expect_rated(&accepted(&mut random, way, 251))?;
-        for broken in 1..1u32 << conditions.len() {
+    let choices = 1u32 << conditions.len();
+    let rounds = 3 * 4096 / choices;
+    for _ in 0..rounds {
+        rates(&accepted(&mut random, way, 251))?;
+        for broken in 1..choices {
             let mut input = accepted(&mut random, way, 251);
             for i in (0..conditions.len()).rev().filter(|i| broken >> i & 1 == 1) {
                 break_by(&mut random, conditions[i], &mut input);
@@ -214,7 +216,7 @@ pub fn orders(way: Way) -> Outcome {
             refuses(&input, conditions[broken.trailing_zeros() as usize])?;
         }
     }
-    Ok(ROUNDS << conditions.len())
+    Ok((rounds * choices) as u64)
 }
 
 // Makes a condition hold. Conditions are broken from the last to the first, and breaking one makes none before it hold.

@@ -1,6 +1,8 @@
 // Tests that the portion and set ways share: stretches of sequences with known powers of the named factors, and the refusals
 // 14, 15 and 17. Each takes the way that it tests; the portion way has one factor, the set way up to eight.
-use super::inputs::{self, all_terms, factors, power, registers, total_degree, uppers};
+use super::inputs::{
+    self, all_terms, factors, factors_but_x, power, registers, total_degree, uppers,
+};
 use super::lent::{agrees, answers, refuses};
 use super::poly::{self, degree, Poly};
 use super::random::Random;
@@ -163,6 +165,26 @@ pub fn against_the_second_rater(way: Way) -> Outcome {
         }
     }
     Ok(2 * EACH * primes().len() as u64)
+}
+
+// The factor x to a positive power, in the set way among others.
+pub fn factor_x(way: Way) -> Outcome {
+    const EACH: u64 = 10;
+    let mut random = Random::of_seed(116);
+    for p in primes() {
+        for _ in 0..EACH {
+            let n = random.between(1, most_factors(way)) as usize;
+            let mut factors = factors_but_x(&mut random, p, n, 4);
+            let place = random.below(n as u64) as usize;
+            factors[place] = vec![0, 1];
+            let total = random.one_of(&[50, 300, 1000]);
+            let mut named = Named::with(&mut random, p, factors, total);
+            named.powers[place] = random.between(1, named.uppers[place]);
+            let n = named.total_degree() + random.between(0, 40) as usize;
+            named.found(&mut random, way, n)?;
+        }
+    }
+    Ok(EACH * primes().len() as u64)
 }
 
 // The largest total degree, with as many terms.
