@@ -1,6 +1,6 @@
-// The rating does not depend on where a sequence was cut, how long the stretch is, and which way rated it: endless sequences
-// that named factors other than x annihilate, cut at random places into stretches of all accepted lengths. The polynomial is
-// known from how the sequence is made.
+// The rating does not depend on where a sequence was cut, how long the stretch is, and which way rated it: endless
+// sequences that named factors other than x annihilate, cut at random places into stretches of all accepted
+// lengths. The polynomial is known from how the sequence is made.
 mod common;
 
 use common::inputs::{self, dividing, factors_but_x, power, register, registers, total_degree};

@@ -1,5 +1,5 @@
-// rate_free: known answers, all short portions against all polynomials, long ones against the Berlekamp-Massey algorithm in
-// its textbook form, and every refusal.
+// rate_free: known answers, all short portions against all polynomials, long ones against the Berlekamp-Massey
+// algorithm in its textbook form, and every refusal.
 mod common;
 
 use common::inputs::{self, all_terms, factors, registers, uppers};
@@ -63,8 +63,8 @@ fn length(random: &mut Random, longest: u64) -> usize {
     random.between(1, last) as usize
 }
 
-// Portions of registers of any polynomial, whose constant coefficient may be 0, with enough terms and with too few; and
-// the same with one term changed.
+// Portions of registers of any polynomial, whose constant coefficient may be 0, with enough terms and with too few;
+// and the same with one term changed.
 fn any_register() -> Outcome {
     const EACH: u64 = 30;
     let mut random = Random::of_seed(31);

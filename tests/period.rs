@@ -1,4 +1,5 @@
-// rate_period: known answers, all short periods, periods of sequences with a known power of the factor, and every refusal.
+// rate_period: known answers, all short periods, periods of sequences with a known power of the factor, and every
+// refusal.
 mod common;
 
 use common::inputs::{self, dividing, divisor, factors, irreducible, power, register};
@@ -34,8 +35,8 @@ fn all_short() -> Outcome {
     Ok(cases)
 }
 
-// Periods of sequences with the minimal polynomial f^r, where f^r divides (x^e − 1)^(p^w): they have the period e·p^w and
-// its multiples.
+// Periods of sequences with the minimal polynomial f^r, where f^r divides (x^e − 1)^(p^w): they have the period
+// e·p^w and its multiples.
 fn made() -> Outcome {
     const EACH: u64 = 60;
     let mut random = Random::of_seed(20);

@@ -1,5 +1,5 @@
-// rate_set: known answers, all short portions with up to three factors, stretches of sequences with known powers of up to
-// eight factors, and every refusal.
+// rate_set: known answers, all short portions with up to three factors, stretches of sequences with known powers of
+// up to eight factors, and every refusal.
 mod common;
 
 use common::calls::rate_joined_set;

@@ -130,8 +130,8 @@ pub fn continue_sequence(
     })
 }
 
-// What a rating call tells: its status, 0 or the number of the refusal, and the numbers that were lent to it. They hold
-// marks beforehand, which a refusal has to leave.
+// What a rating call tells: its status, 0 or the number of the refusal, and the numbers that were lent to it. They
+// hold marks beforehand, which a refusal has to leave.
 #[derive(Debug, PartialEq)]
 pub struct Told {
     pub status: u64,
@@ -222,8 +222,8 @@ fn rate_set(input: &Input, answer: &mut [u8], work: &mut [u8]) -> Told {
     rate_joined_set(&lists.concat(), &lengths, input, answer, work)
 }
 
-// The set way on factors that stand one after another in `joined`: each takes as many bytes as its length says, or what
-// is left. The input's own factors are not looked at.
+// The set way on factors that stand one after another in `joined`: each takes as many bytes as its length says, or
+// what is left. The input's own factors are not looked at.
 pub fn rate_joined_set(
     joined: &[u8],
     lengths: &[u64],

@@ -1,4 +1,5 @@
-// Tests that the ways share: the refusals 6 to 8, 10 to 12 and 16 at both sides of their limits, and the order of all.
+// Tests that the ways share: the refusals 6 to 8, 10 to 12 and 16 at both sides of their limits, and the order of
+// all.
 use super::inputs::{self, factors_but_x, irreducible, list, registers};
 use super::lent::{agrees, answers, refuses};
 use super::poly;
@@ -219,7 +220,8 @@ pub fn orders(way: Way) -> Outcome {
     Ok((rounds * choices) as u64)
 }
 
-// Makes a condition hold. Conditions are broken from the last to the first, and breaking one makes none before it hold.
+// Makes a condition hold. Conditions are broken from the last to the first, and breaking one makes none before it
+// hold.
 fn break_by(random: &mut Random, number: u64, input: &mut Input) {
     let place = random.below(input.factors.len().max(1) as u64) as usize;
     match number {

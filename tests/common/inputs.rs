@@ -1,5 +1,5 @@
-// Inputs that are made for the rating calls: irreducible factors, and sequences whose minimal polynomials are known from how
-// they are made.
+// Inputs that are made for the rating calls: irreducible factors, and sequences whose minimal polynomials are known
+// from how they are made.
 use super::largest_degree;
 use super::massey;
 use super::poly::{self, degree, Poly};
@@ -32,8 +32,8 @@ pub fn factors_but_x(random: &mut Random, p: u64, n: usize, d: usize) -> Vec<Pol
     more_factors(random, p, n + 1, d, vec![vec![0, 1]])[1..].to_vec()
 }
 
-// More polynomials, up to n in all. With each that is there already the largest degree grows by one, as there may not be as
-// many of degree at most d.
+// More polynomials, up to n in all. With each that is there already the largest degree grows by one, as there may
+// not be as many of degree at most d.
 fn more_factors(
     random: &mut Random,
     p: u64,
@@ -59,8 +59,8 @@ pub fn total_degree(factors: &[Poly], uppers: &[u64]) -> usize {
     named.map(|(f, &v)| v as usize * degree(f)).sum()
 }
 
-// Positive upper powers of the factors with a total degree of at most `total`, or all 1; the last takes what the others
-// leave.
+// Positive upper powers of the factors with a total degree of at most `total`, or all 1; the last takes what the
+// others leave.
 pub fn uppers(random: &mut Random, factors: &[Poly], total: usize) -> Vec<u64> {
     let mut left = total.saturating_sub(total_degree(factors, &vec![1; factors.len()]));
     let last = factors.len() - 1;
@@ -148,8 +148,8 @@ fn order(p: u64, e: u64) -> usize {
     d
 }
 
-// The numbers e up to `last`, not divisible by p, whose primitive e-th roots of 1 have minimal polynomials of an accepted
-// degree d over GF(p): pairs (d, e).
+// The numbers e up to `last`, not divisible by p, whose primitive e-th roots of 1 have minimal polynomials of an
+// accepted degree d over GF(p): pairs (d, e).
 fn roots_of_one(p: u64, last: u64) -> Vec<(usize, u64)> {
     (1..=last)
         .filter(|e| e % p != 0)
@@ -158,8 +158,8 @@ fn roots_of_one(p: u64, last: u64) -> Vec<(usize, u64)> {
         .collect()
 }
 
-// An irreducible polynomial of degree d that divides x^e − 1, for such a pair: the minimal polynomial of an e-th root of 1
-// in GF(p^d), which is that of the constant coefficients of its powers.
+// An irreducible polynomial of degree d that divides x^e − 1, for such a pair: the minimal polynomial of an e-th
+// root of 1 in GF(p^d), which is that of the constant coefficients of its powers.
 pub fn divisor(random: &mut Random, p: u64, d: usize, e: u64) -> Poly {
     let field = irreducible(random, p, d);
     loop {
@@ -174,8 +174,8 @@ pub fn divisor(random: &mut Random, p: u64, d: usize, e: u64) -> Poly {
     }
 }
 
-// A factor f that divides some x^e − 1 with e up to `last`, such an e, and a power p^w for which e·p^w is at most `longest`.
-// Each degree that such a factor can have is as likely as the others.
+// A factor f that divides some x^e − 1 with e up to `last`, such an e, and a power p^w for which e·p^w is at most
+// `longest`. Each degree that such a factor can have is as likely as the others.
 pub fn dividing(random: &mut Random, p: u64, last: u64, longest: u64) -> (Poly, u64, u64) {
     let pairs = roots_of_one(p, last);
     let degrees: BTreeSet<usize> = pairs.iter().map(|(d, _)| *d).collect();

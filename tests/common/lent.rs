@@ -1,5 +1,5 @@
-// Rating calls on lent bytes that hold marks: every byte of the answer and of the work is looked at afterwards, and so are
-// the bytes before and after them.
+// Rating calls on lent bytes that hold marks: every byte of the answer and of the work is looked at afterwards, and
+// so are the bytes before and after them.
 use super::calls::{self, Told};
 use super::poly;
 use super::random::Random;

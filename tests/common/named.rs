@@ -1,5 +1,6 @@
-// Tests that the portion and set ways share: stretches of sequences with known powers of the named factors, and the refusals
-// 14, 15 and 17. Each takes the way that it tests; the portion way has one factor, the set way up to eight.
+// Tests that the portion and set ways share: stretches of sequences with known powers of the named factors, and the
+// refusals 14, 15 and 17. Each takes the way that it tests; the portion way has one factor, the set way up to
+// eight.
 use super::inputs::{
     self, all_terms, factors, factors_but_x, power, registers, total_degree, uppers,
 };
@@ -96,8 +97,8 @@ impl Named {
     }
 }
 
-// All terms up to a length, with all factors up to a degree and all upper powers that leave enough terms: one factor for
-// the portion way, up to three for the set way.
+// All terms up to a length, with all factors up to a degree and all upper powers that leave enough terms: one
+// factor for the portion way, up to three for the set way.
 pub fn all_short(way: Way) -> Outcome {
     let most = if way == Way::Portion { 1 } else { 3 };
     let mut cases = 0;

@@ -41,7 +41,8 @@ pub fn numbers(word: &str) -> Vec<u64> {
     word.split(',').map(|n| n.parse().unwrap()).collect()
 }
 
-// The last words of a row for the period or the portion way: power, polynomial and bound, or the number of the refusal.
+// The last words of a row for the period or the portion way: power, polynomial and bound, or the number of the
+// refusal.
 pub fn power_rating(words: &[&str]) -> Result<Rating, u64> {
     let [power, polynomial, bound] = words else {
         return Err(refusal(words));
