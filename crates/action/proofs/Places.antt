@@ -1,23 +1,21 @@
 -- Lists written into others, and what stands where afterwards.
 --
 --   copied            == a list copied over another of its length
---   put-paste         == a lent part that comes back is pasted in its place
---   zeros-length, zeros-lent == zeros that are lent from the front
 --   writing-block     == a turn of a loop that writes m numbers of a list at once
 --   kept-half, placed == numbers pasted at the front of a half: what stands in the two halves and beyond
 --   lent-length, block-acted == the terms that are lent to an action, and the block of its values that comes
 --                          back
 --
 -- Assumes nothing.
-use Prim.Native.Nat.{ℕ, zero, suc, _+_, _*_, _-_, _≤_}
-use mathlib.Core.Path.{_≡_, refl, sym, ap, ap₂, subst, _∙_}
+use Prim.Native.Nat.{ℕ, _+_, _*_, _-_, _≤_}
+use mathlib.Core.Path.{_≡_, sym, ap, ap₂, subst, _∙_}
 use mathlib.Core.Bool.{Bool}
-use mathlib.Core.List.{List, _∷_, _++_, append-assoc, append-nil}
-use native.Mathlib.Nat.{sub-zero, add-sub-cancel-left, not-suc-le-zero, le-of-suc-le-suc}
+use mathlib.Core.List.{List, _++_, append-assoc, append-nil}
+use native.Mathlib.Nat.{add-sub-cancel-left}
 use native.Mathlib.Decide.{decLt}
 use native.Mathlib.Omega.{arith}
-use lib.ListN.{length, take, drop, replicate, length-take, length-replicate, drop-of-length-le}
-use lib.Seq.{take-all, take-length, take-take, take-add, drop-drop}
+use lib.ListN.{length, take, drop, drop-of-length-le}
+use lib.Seq.{take-length, take-take, take-add, drop-drop}
 use lib.Seq.{paste, take-paste, drop-paste, length-paste}
 use borrow.Rule.Slice.PartMut.{putMid}
 use Rattle.meaning.specs.Field.{Field}
@@ -28,34 +26,11 @@ use Rattle.bridge.proofs.KnownActions.{allZero}
 use Rattle.arith.specs.Slices.{part}
 use Rattle.arith.proofs.Slices.{length-part, part-paste-inside, part-paste-before, part-paste-after}
 use Rattle.arith.proofs.Writing.{Writing}
+use Rattle.lent.proofs.Parts.{put-paste}
 use Rattle.action.specs.Halves.{half, Halves, Placed, values, BlockActed}
 
 pub copied : (l t : List ℕ) → length l ≤ length t → take (length t) t ++ drop (length t) l ≡ t
 copied l t h = ap₂ _++_ (take-length t) (drop-of-length-le l h) ∙ append-nil t
-
-pub put-paste :
-    (l : List ℕ) (x n : ℕ) (y : List ℕ) → length y ≡ n → putMid x (x + n - x) l y ≡ paste l x y n
-put-paste l x n y e =
-    ap (λ t. take x l ++ (y ++ t)) (ap (λ k. drop k (drop x l)) (add-sub-cancel-left x n) ∙ drop-drop n x l)
-    ∙ sym (append-assoc (take x l) y (drop (x + n) l))
-    ∙ ap (λ t. take x l ++ t ++ drop (x + n) l) (sym (take-all n y (omega arith)))
-
--- Zeros
-
-zeros-front : (m n : ℕ) → m ≤ n → _≡_ {A = List ℕ} (take m (replicate n 0)) (replicate m 0)
-zeros-front zero n h = refl
-zeros-front (suc m) zero h = absurd (not-suc-le-zero h)
-zeros-front (suc m) (suc n) h = ap (_∷_ 0) (zeros-front m n (le-of-suc-le-suc h))
-
-module _ (m n : ℕ) (h : m ≤ n) where
-  pub zeros-length : length {A = ℕ} (take (m - 0) (replicate n 0)) ≡ m
-  zeros-length = omega (arith, length-take {A = ℕ} (m - 0) (replicate n 0), length-replicate {A = ℕ} n 0)
-
-  pub zeros-lent :
-      _≡_ {A = List ℕ} (take (m - 0) (replicate n 0))
-      (replicate (length {A = ℕ} (take (m - 0) (replicate n 0))) 0)
-  zeros-lent =
-      zeros-front (m - 0) n (omega arith) ∙ ap (λ k. replicate k 0) (sub-zero m ∙ sym zeros-length)
 
 -- A list written piece by piece
 module _ (l : List ℕ) (x : ℕ) (t : List ℕ) (i m : ℕ) (h : x + i + m ≤ length l) (k : i + m ≤ length t) where

@@ -1,6 +1,6 @@
 // The sums of an action on a period, for a block of at most 256 places of it.
 ghost use mathlib.Core.Path.{_≡_};
-ghost use Prim.Native.Nat.{_+_, _%_, _≤_, _<_, min};
+ghost use Prim.Native.Nat.{_+_, _%_, _≤_, _<_};
 ghost use lib.ListN.{length, replicate};
 ghost use Rattle.meaning.specs.Sequence.{cut, periodic};
 ghost use Rattle.bridge.proofs.Actions.{actStride};
@@ -8,13 +8,7 @@ ghost use Rattle.arith.specs.Represented.{fieldOf, WellFormed};
 ghost use Rattle.sums.specs.Sums.{Room, elementsOf, ProductsAdded};
 ghost use Rattle.action.specs.Halves.{Halves, BlockActed};
 use arith::GaloisField;
-
-// The smaller of two numbers.
-pub fn smaller(a: usize, b: usize) -> usize
-    ensures { λ r. ⌜ r ≡ min a b ⌝ }
-{
-    if a < b { a } else { b }
-}
+use lent::smaller;
 
 // The place `step` places after `at` in a period of n terms.
 fn advance(at: usize, step: usize, n: usize) -> usize

@@ -1,6 +1,10 @@
 pub mod Rows
-pub mod Filling
+pub mod Convolution
+pub mod Between
+pub mod Summing
+pub mod Made
 pub mod Growing
+pub mod Zeros
 pub mod Multiples
 pub mod Repeating
 pub mod Raising

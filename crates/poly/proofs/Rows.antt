@@ -1,24 +1,16 @@
--- The product of f(x^q) and a by rows: one multiple of a for each coefficient of f, from the last to the
--- first.
+-- The product of f(x^q) and a by rows: one multiple of a for each coefficient of f.
 --
 --   times-spread-cons == the product with c + x^q·g(x^q) is c·a and, q places on, the product with g(x^q)
---   partial F f q a i == the product with the coefficients of f from i on, as it stands in the places of the
---                        whole product; zeros for i = length f
---   partial-row       == one row more
+--   times-spread-one  == the product with c is c·a
 --
 -- Assumes nothing.
-use Prim.Native.Nat.{ℕ, zero, suc, _+_, _*_, _-_, _≤_, _<_}
+use Prim.Native.Nat.{ℕ, zero, suc, _+_, _-_, _≤_, _<_}
 use mathlib.Core.Path.{_≡_, refl, sym, ap, ap₂, _∙_}
-use mathlib.Core.Bool.{true, false}
-use mathlib.Core.List.{List, [], _∷_, _++_, append-assoc}
-use lib.ListN.{length, getD, drop, replicate, length-replicate, length-append}
-use lib.ListN.{replicate-append-replicate, length-drop, drop-of-length-le}
-use lib.Seq.{drop-cons}
-use lib.Dec.{T, ltb}
-use native.Mathlib.Nat.{le-of-suc-le-suc, le-of-eq, mul-suc, add-comm}
-use native.Mathlib.Decide.{decLt}
+use mathlib.Core.List.{List, [], _∷_, _++_}
+use lib.ListN.{length, replicate}
+use lib.Dec.{T}
+use native.Mathlib.Nat.{le-of-suc-le-suc}
 use native.Mathlib.Omega.{arith}
-use borrow.Author.Tests.{lt-ltb, le-ltb}
 use Rattle.meaning.specs.Field.{Field, areElements}
 use Rattle.meaning.specs.Polynomial.{plus, scale, times}
 use Rattle.bridge.proofs.Interpretation.{IsField, number-add-comm, number-zero-add, number-zero-mul}
@@ -27,20 +19,6 @@ use Rattle.bridge.proofs.Polynomials.{elements-cons, elements-uncons, length-sc
 use Rattle.bridge.proofs.Polynomials.{length-times}
 use Rattle.bridge.proofs.Polynomials.{scale-elements, times-elements}
 use Rattle.bridge.proofs.Spread.{gap, spread, spread-cons, spread-nil, gap-nil, spread-nonempty}
-use Rattle.poly.specs.Product.{places}
-
--- A sum with a list that is not longer than the first part
-pub plus-append :
-    (F : Field) (u v g : List ℕ) → length g ≤ length u → plus F (u ++ v) g ≡ plus F u g ++ v
-unfolding plus
-plus-append F [] v [] l = plus-nil F v
-  where
-    plus-nil : (F : Field) (v : List ℕ) → plus F v [] ≡ v
-    plus-nil F [] = refl
-    plus-nil F (a ∷ v) = refl
-plus-append F [] v (b ∷ g) l = absurd (omega arith)
-plus-append F (a ∷ u) v [] l = refl
-plus-append F (a ∷ u) v (b ∷ g) l = ap (λ w. (F .add) a b ∷ w) (plus-append F u v g (le-of-suc-le-suc l))
 
 gap-nonempty : (k b : ℕ) (g : List ℕ) → 0 < length (gap k (b ∷ g))
 unfolding gap
@@ -90,7 +68,7 @@ module _ {F : Field} (I : IsField F) where
         ∙ ap (λ w. 0 ∷ w) (times-gap k (b ∷ g) l)
 
     -- the row of c before the product with g
-    times-spread-cons :
+    pub times-spread-cons :
         (q : ℕ) → 0 < q → (c : ℕ) (g : List ℕ) → 0 < length g
         → times F (spread q (c ∷ g)) a ≡ plus F (replicate q 0 ++ times F (spread q g) a) (scale F c a)
     times-spread-cons q pos c g l =
@@ -104,7 +82,7 @@ module _ {F : Field} (I : IsField F) where
         whole = omega arith
 
     -- the row of the last coefficient
-    times-spread-one :
+    pub times-spread-one :
         (q c : ℕ) → times F (spread q (c ∷ [])) a ≡ plus F (replicate (length a) 0) (scale F c a)
     unfolding times
     times-spread-one q c =
@@ -113,92 +91,3 @@ module _ {F : Field} (I : IsField F) where
         ∙ plus-comm (scale F c a) (0 ∷ [])
         ∙ plus-zeros 1 (scale F c a) (scale-elements I c a) (omega (arith, length-scale F c a))
         ∙ sym (plus-zeros (length a) (scale F c a) (scale-elements I c a) (omega (arith, length-scale F c a)))
-
--- The product as it stands after the rows from i on
-unfoldable pub partial : Field → List ℕ → ℕ → List ℕ → ℕ → List ℕ
-partial F f q a i =
-    elim (ltb i (length f)) [
-      | true ↦ replicate (q * i) 0 ++ times F (spread q (drop i f)) a
-      | false ↦ replicate (places f q a) 0
-    ]
-
-pub partial-none :
-    (F : Field) (f : List ℕ) (q : ℕ) (a : List ℕ) → partial F f q a (length f) ≡ replicate (places f q a) 0
-unfolding partial
-partial-none F f q a = rw (le-ltb (length f) (length f) (omega arith), partial)
-
-pub partial-some :
-    (F : Field) (f : List ℕ) (q : ℕ) (a : List ℕ) (i : ℕ) → i < length f
-    → partial F f q a i ≡ replicate (q * i) 0 ++ times F (spread q (drop i f)) a
-unfolding partial
-partial-some F f q a i l = rw (lt-ltb i (length f) l, partial)
-
--- What the row of the coefficient j is added to
-pub record Row (F : Field) (f : List ℕ) (q : ℕ) (a : List ℕ) (j : ℕ) : Type 0 where
-  pub part : List ℕ
-  pub before : partial F f q a (suc j) ≡ replicate (q * j) 0 ++ part
-  pub after : partial F f q a j ≡ replicate (q * j) 0 ++ plus F part (scale F (getD f j 0) a)
-  pub fits : length a ≤ length part
-
-module _ {F : Field} (I : IsField F) (f : List ℕ) (q : ℕ) (a : List ℕ) (pos : 0 < q) (s : 0 < length a) where
-  row : (j : ℕ) → suc j < length f → Row F f q a j
-  row j l =
-      record {
-        part = replicate q 0 ++ times F (spread q (drop (suc j) f)) a;
-        before =
-            partial-some F f q a (suc j) l
-            ∙ ap (λ z. z ++ times F (spread q (drop (suc j) f)) a) zeros
-            ∙ append-assoc (replicate (q * j) 0) (replicate q 0) (times F (spread q (drop (suc j) f)) a);
-        after =
-            partial-some F f q a j (omega arith)
-            ∙ ap (λ g. replicate (q * j) 0 ++ times F (spread q g) a) (drop-cons f j 0 (omega arith))
-            ∙ ap (λ w. replicate (q * j) 0 ++ w)
-            (times-spread-cons I a s q pos (getD f j 0) (drop (suc j) f) some);
-        fits =
-            omega (
-              arith,
-              length-append (replicate q 0) (times F (spread q (drop (suc j) f)) a),
-              length-times I (spread q (drop (suc j) f)) a (spread-nonempty q pos (drop (suc j) f) some) s,
-              spread-nonempty q pos (drop (suc j) f) some,
-            );
-      }
-    where
-      zeros : replicate {A = ℕ} (q * suc j) 0 ≡ replicate (q * j) 0 ++ replicate q 0
-      zeros =
-          ap (λ (k : ℕ). replicate {A = ℕ} k 0) (mul-suc q j) ∙ sym (replicate-append-replicate (q * j) q 0)
-
-      some : 0 < length (drop (suc j) f)
-      some = omega (arith, length-drop (suc j) f)
-
-  last-row : (j : ℕ) → suc j ≡ length f → Row F f q a j
-  unfolding places
-  last-row j e =
-      record {
-        part = replicate (length a) 0;
-        before =
-            ap (partial F f q a) e
-            ∙ partial-none F f q a
-            ∙ ap (λ (k : ℕ). replicate {A = ℕ} k 0) size
-            ∙ sym (replicate-append-replicate (q * j) (length a) 0);
-        after =
-            partial-some F f q a j (omega arith)
-            ∙ ap (λ g. replicate (q * j) 0 ++ times F (spread q g) a)
-            (drop-cons f j 0 (omega arith) ∙ ap (λ g. getD f j 0 ∷ g) none)
-            ∙ ap (λ w. replicate (q * j) 0 ++ w) (times-spread-one I a s q (getD f j 0));
-        fits = le-of-eq (sym (length-replicate (length a) 0));
-      }
-    where
-      none : drop (suc j) f ≡ []
-      none = drop-of-length-le f (le-of-eq (sym e))
-
-      one-less : suc j - 1 ≡ j
-      one-less = omega arith
-
-      size : length a + q * (length f - 1) ≡ q * j + length a
-      size =
-          ap (λ (k : ℕ). length a + q * (k - 1)) (sym e)
-          ∙ ap (λ (k : ℕ). length a + q * k) one-less
-          ∙ add-comm (length a) (q * j)
-
-  pub row-at : (j : ℕ) → j < length f → Row F f q a j
-  row-at j l = elim (decLt (suc j) (length f)) [ yes k ↦ row j k | no k ↦ last-row j (omega arith) ]

@@ -1,1 +1,2 @@
+pub mod Convolution
 pub mod Product

@@ -1,8 +1,9 @@
 -- What the contracts of the products cite. A polynomial of degree n stands in the first n + 1 bytes of
 -- `answer`.
 --
---   places f q a      == the number of coefficients of the product of f(x^q) and a; neither list is empty
---   Rows f q a into   == this number is at most 4,097, and `into` begins with as many zeros
+--   places f q n      == the number of coefficients of the product of f(x^q) and a polynomial of degree n
+--   Padded f q answer n == this number is at most 4,097, and there is room for as many in `answer`, where
+--                          zeros stand after the polynomial
 --   Growing f q count answer n == there is room for the product of the polynomial in `answer` and `count`
 --                          times f(x^q), whose degree is at most 4,096
 --   Raising F f r answer n == there is room for the product of the polynomial in `answer` and f^r, whose
@@ -13,22 +14,21 @@
 use Prim.Native.Nat.{ℕ, _+_, _*_, _-_, _≤_, _<_}
 use mathlib.Core.Path.{_≡_}
 use mathlib.Core.List.{List}
-use lib.ListN.{length, take, replicate}
+use lib.ListN.{length, getD, take}
 use lib.Dec.{T}
 use Rattle.meaning.specs.Field.{Field, areElements}
 use Rattle.meaning.specs.Polynomial.{Polynomial, degree, times}
 use Rattle.meaning.specs.Result.{written}
 
-unfoldable pub places : List ℕ → ℕ → List ℕ → ℕ
-places f q a = length a + q * (length f - 1)
+abbrev pub places : List ℕ → ℕ → ℕ → ℕ
+places f q n = n + 1 + q * (length f - 1)
 
-pub record Rows (f : List ℕ) (q : ℕ) (a into : List ℕ) : Type 0 where
+pub record Padded (f : List ℕ) (q : ℕ) (answer : List ℕ) (n : ℕ) : Type 0 where
   pub someFactor : 0 < length f
-  pub someCoefficient : 0 < length a
   pub stride : 0 < q
-  pub small : places f q a ≤ 4097
-  pub room : places f q a ≤ length into
-  pub zeros : take (places f q a) into ≡ replicate (places f q a) 0
+  pub small : places f q n ≤ 4097
+  pub room : places f q n ≤ length answer
+  pub zeros : (k : ℕ) → n < k → k < places f q n → getD answer k 0 ≡ 0
 
 pub record Growing (f : List ℕ) (q count : ℕ) (answer : List ℕ) (n : ℕ) : Type 0 where
   pub someFactor : 0 < length f

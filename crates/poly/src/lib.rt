@@ -1,4 +1,5 @@
-// Products of polynomials over GF(p).
+// Polynomials over GF(p) in lent bytes.
+mod blocks;
 mod product;
 
 pub use product::times_power;

@@ -1,6 +1,9 @@
 // Products in lent bytes: a polynomial of degree n stands in the first n + 1 of them, is multiplied there,
 // and nothing beyond the new degree is read or written. f(x^q) has the coefficients of f, q places apart.
+use crate::blocks::convolve;
 use arith::GaloisField;
+use lent::smaller;
+use lent::zero;
 ghost use mathlib.Core.Path.{_≡_};
 ghost use Prim.Native.Nat.{_+_};
 ghost use mathlib.Core.List.{_++_};
@@ -10,37 +13,41 @@ ghost use Rattle.meaning.specs.Field.{areElements};
 ghost use Rattle.meaning.specs.Polynomial.{times, power};
 ghost use Rattle.bridge.proofs.Spread.{spread};
 ghost use Rattle.arith.specs.Represented.{fieldOf, WellFormed};
-ghost use Rattle.poly.specs.Product.{places, Rows, Growing, Raising, Multiplied};
+ghost use Rattle.poly.specs.Product.{places, Padded, Growing, Raising, Multiplied};
 
-// The product of f(x^q) and a, over the zeros that `into` begins with; `into` is as it was from there on.
-fn product(field: GaloisField, f: &[u8], q: usize, a: &[u8], into: &mut [u8])
+// Multiplies the polynomial of degree n in `answer` by f(x^q), where zeros stand after it up to the new degree.
+// For the q places from q·b on, coefficients of f after b do not count, those more than n / q before b meet only
+// zeros, and the places more than n after the first stay 0.
+fn multiply(field: GaloisField, f: &[u8], q: usize, answer: &mut [u8], n: usize)
     requires { ⌜ WellFormed field ⌝ }
-    requires { ⌜ Rows (now f) q (now a) (now into) ⌝ }
-    ensures { λ _. ⌜ now (into .exit)
-        ≡ times (fieldOf field) (spread q (now (f .entry))) (now (a .entry))
-        ++ drop (places (now (f .entry)) q (now (a .entry))) (now (into .entry)) ⌝ }
+    requires { ⌜ Padded (now f) q (now answer) n ⌝ }
+    ensures { λ _. ⌜ now (answer .exit)
+        ≡ times (fieldOf field) (spread q (now (f .entry))) (take (n + 1) (now (answer .entry)))
+        ++ drop (places (now (f .entry)) q n) (now (answer .entry)) ⌝ }
 {
-    let mut i = f.len();
-    // into: from q·i on the product with the coefficients of f from i on, and zeros before
-    while 0 < i {
-        i -= 1;
-        let at = q * i;
-        field.add_multiple(&mut into[at..], f[i], a);
+    let mut b = f.len();
+    let mut k = n + 1 + q * (b - 1);
+    // answer: the product from k on, and before k the polynomial and the zeros after it
+    while 0 < b {
+        b -= 1;
+        let to = q * b;
+        let back = smaller(b, n / q);
+        let count = smaller(k - to, n + 1);
+        convolve(field, &f[b - back..b + 1], q, answer, q * back, to, count);
+        k = to;
     }
 }
 
-// Multiplies the polynomial of degree n in `answer` by f(x^q), and hands back the new degree. The product
-// stands in an array of its own until it is whole.
+// Multiplies the polynomial of degree n in `answer` by f(x^q), and hands back the new degree.
 pub fn times_spread(field: GaloisField, f: &[u8], q: usize, answer: &mut [u8], n: usize) -> usize
     requires { ⌜ WellFormed field ⌝ }
     requires { ⌜ Growing (now f) q 1 (now answer) n ⌝ }
     ensures { λ m. ⌜ Multiplied (fieldOf field) (spread q (now (f .entry)))
         (now (answer .entry)) n (now (answer .exit)) m ⌝ }
 {
-    let mut sum = [0u8; 4097];
-    product(field, f, q, &answer[0..n + 1], &mut sum);
     let size = n + 1 + q * (f.len() - 1);
-    bytes::copy(&sum[0..size], answer);
+    zero(&mut answer[n + 1..size]);
+    multiply(field, f, q, answer, n);
     size - 1
 }
 

@@ -11,4 +11,3 @@ pub use acting::act_power;
 pub use product::write_power;
 pub use product::write_product;
 pub use search::least_power;
-pub use search::smaller;

@@ -1,20 +1,12 @@
 // The search for the least annihilating power, digit by digit.
-ghost use mathlib.Core.Path.{_≡_};
-ghost use Prim.Native.Nat.{min};
 ghost use Rattle.arith.specs.Represented.{WellFormed};
 ghost use Rattle.action.specs.Halves.{Halves};
 ghost use Rattle.powers.specs.Searching.{Searchable, Searched};
 use action::act_on_known;
 use action::all_zero;
 use arith::GaloisField;
+use lent::smaller;
 use levels::Level;
-
-// The smaller of two numbers.
-pub fn smaller(a: usize, b: usize) -> usize
-    ensures { λ r. ⌜ r ≡ min a b ⌝ }
-{
-    if a < b { a } else { b }
-}
 
 // The least power of f that annihilates the n terms of half h, where the power of the level does. One less than it is
 // found digit by digit in base p, the top digit first: each is the largest i for which f^(i·q) leaves a nonzero term

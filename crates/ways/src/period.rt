@@ -8,9 +8,9 @@ use action::act_on_period;
 use action::load;
 use arith::GaloisField;
 use lent::clear;
+use lent::smaller;
 use levels::level_dividing;
 use powers::least_power;
-use powers::smaller;
 
 // The power of a factor that is rated, or nothing where no power allowed annihilates.
 pub enum Found {

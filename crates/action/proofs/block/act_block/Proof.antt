@@ -5,7 +5,7 @@ use native.Mathlib.Omega.{arith}
 use denote.Ref.{now}
 use Rattle.arith.specs.Represented.{fieldOf}
 use Rattle.action.specs.Halves.{BlockActed}
-use Rattle.action.proofs.Places.{zeros-length, zeros-lent}
+use Rattle.lent.proofs.Parts.{zeros-length, zeros-lent}
 use borrow.Author.Needs.{needs}
 use Rattle.action.proofs.block.act_block.Statement.{statement}
 use Rattle.action.proofs.block.act_block.Tie as tie

@@ -7,7 +7,8 @@ use lib.ListN.{length, drop, length-take}
 use lib.Seq.{paste}
 use denote.Ref.{now}
 use Rattle.arith.specs.Slices.{part}
-use Rattle.action.proofs.Places.{copied, put-paste, placed}
+use Rattle.lent.proofs.Parts.{put-paste}
+use Rattle.action.proofs.Places.{copied, placed}
 use borrow.Author.Needs.{needs}
 use Rattle.action.proofs.halves.load.Statement.{statement}
 use Rattle.action.proofs.halves.load.Tie as tie

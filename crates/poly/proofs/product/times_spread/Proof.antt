@@ -1,30 +1,10 @@
--- `poly::product::times_spread` meets its contract: the sum of the rows is copied over the answer.
--- Assumes nothing.
-use Rattle.arith.proofs.Represented.{field-isField}
-use Rattle.poly.proofs.Growing.{growing-rows, grown}
+-- `poly::product::times_spread` meets its contract: zeros are written after the polynomial, and then it is
+-- multiplied. Assumes nothing.
 use borrow.Author.Needs.{needs}
+use Rattle.arith.proofs.Represented.{field-isField}
+use Rattle.poly.proofs.Zeros.{growing-padded, grown}
 use Rattle.poly.proofs.product.times_spread.Statement.{statement}
 use Rattle.poly.proofs.product.times_spread.Tie as tie
-
-add-product : tie.Need-add-product
-add-product c = search needs
-
-sub-product : tie.Need-sub-product
-sub-product c = search needs
-
-part-product-start : tie.Need-part-product-start
-part-product-start c = search needs
-
-part-product-end : tie.Need-part-product-end
-part-product-end c = search needs
-
-slice-aggregate-product : tie.Need-slice-aggregate-product
-slice-aggregate-product c = search needs
-
-product-requires : tie.Need-product-requires
-product-requires c κs =
-    let s = c .before .before .before .before .before in
-    (s .pre .0, growing-rows (s .pre .1))
 
 add-size : tie.Need-add-size
 add-size c = search needs
@@ -38,17 +18,26 @@ mul-size c = search needs
 add-size-2 : tie.Need-add-size-2
 add-size-2 c = search needs
 
-sub-copy : tie.Need-sub-copy
-sub-copy c = search needs
+add-zero : tie.Need-add-zero
+add-zero c = search needs
 
-part-copy-start : tie.Need-part-copy-start
-part-copy-start c = search needs
+sub-zero : tie.Need-sub-zero
+sub-zero c = search needs
 
-part-copy-end : tie.Need-part-copy-end
-part-copy-end c = search needs
+part-zero-start : tie.Need-part-zero-start
+part-zero-start c = search needs
 
-copy-requires : tie.Need-copy-requires
-copy-requires c κs = search needs
+part-zero-end : tie.Need-part-zero-end
+part-zero-end c = search needs
+
+zero-requires : tie.Need-zero-requires
+zero-requires c κs = search needs
+
+multiply-requires : tie.Need-multiply-requires
+multiply-requires c κs =
+    let z = c .before .before .before in
+    let s = z .before .before .before .before in
+    (s .pre .0, growing-padded (s .pre .1) (z .zero .ensures))
 
 sub-result : tie.Need-sub-result
 sub-result c = search needs
@@ -58,29 +47,25 @@ same-length c = search needs
 
 returns : tie.Need-returns
 returns c =
-    let d = c .before .before in
-    let e = d .before .before .before .before .before in
-    let s = e .before .before .before .before .before .before in
-    grown (s .pre .1) (field-isField (s .pre .0)) (e .product .ensures) (d .copy .ensures .1)
+    let v = c .before .before in
+    let z = v .before .before .before .before in
+    let s = z .before .before .before .before in
+    grown (s .pre .1) (z .zero .ensures) (field-isField (s .pre .0)) (v .multiply .ensures)
 
 pub times-spread-spec : {M : Type 1} → statement M
 times-spread-spec =
     tie.close
     (tie.spec
-    add-product
-    sub-product
-    part-product-start
-    part-product-end
-    slice-aggregate-product
-    product-requires
     add-size
     sub-size
     mul-size
     add-size-2
-    sub-copy
-    part-copy-start
-    part-copy-end
-    copy-requires
+    add-zero
+    sub-zero
+    part-zero-start
+    part-zero-end
+    zero-requires
+    multiply-requires
     sub-result
     same-length
     returns)

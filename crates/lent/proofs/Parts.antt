@@ -1,0 +1,47 @@
+-- Parts of lent bytes.
+--
+--   put-paste         == a lent part that comes back is pasted in its place
+--   zeros-length, zeros-lent == zeros that are lent from the front
+--   cleared-part      == the work bytes after their first 8,192 were lent on and came back as zeros
+--
+-- Assumes nothing.
+use Prim.Native.Nat.{ℕ, zero, suc, _+_, _-_, _≤_}
+use mathlib.Core.Path.{_≡_, refl, sym, ap, _∙_}
+use mathlib.Core.List.{List, _∷_, _++_, append-assoc}
+use native.Mathlib.Nat.{sub-zero, add-sub-cancel-left, not-suc-le-zero, le-of-suc-le-suc}
+use native.Mathlib.Omega.{arith}
+use lib.ListN.{length, take, drop, replicate, length-take, length-replicate}
+use lib.Seq.{paste, take-all, drop-drop, length-take-le}
+use borrow.Rule.Slice.PartMut.{putMid}
+use Rattle.meaning.specs.Result.{cleared}
+
+pub put-paste :
+    (l : List ℕ) (x n : ℕ) (y : List ℕ) → length y ≡ n → putMid x (x + n - x) l y ≡ paste l x y n
+put-paste l x n y e =
+    ap (λ t. take x l ++ (y ++ t)) (ap (λ k. drop k (drop x l)) (add-sub-cancel-left x n) ∙ drop-drop n x l)
+    ∙ sym (append-assoc (take x l) y (drop (x + n) l))
+    ∙ ap (λ t. take x l ++ t ++ drop (x + n) l) (sym (take-all n y (omega arith)))
+
+-- Zeros
+zeros-front : (m n : ℕ) → m ≤ n → _≡_ {A = List ℕ} (take m (replicate n 0)) (replicate m 0)
+zeros-front zero n h = refl
+zeros-front (suc m) zero h = absurd (not-suc-le-zero h)
+zeros-front (suc m) (suc n) h = ap (_∷_ 0) (zeros-front m n (le-of-suc-le-suc h))
+
+module _ (m n : ℕ) (h : m ≤ n) where
+  pub zeros-length : length {A = ℕ} (take (m - 0) (replicate n 0)) ≡ m
+  zeros-length = omega (arith, length-take {A = ℕ} (m - 0) (replicate n 0), length-replicate {A = ℕ} n 0)
+
+  pub zeros-lent :
+      _≡_ {A = List ℕ} (take (m - 0) (replicate n 0))
+      (replicate (length {A = ℕ} (take (m - 0) (replicate n 0))) 0)
+  zeros-lent =
+      zeros-front (m - 0) n (omega arith) ∙ ap (λ k. replicate k 0) (sub-zero m ∙ sym zeros-length)
+
+pub cleared-part : {ys : List ℕ} (w : List ℕ)
+    → 8192 ≤ length w
+    → ys ≡ replicate (length (take 8192 w)) 0
+    → ys ++ drop 8192 w ≡ cleared w
+unfolding cleared
+cleared-part w l e =
+    ap (λ y. y ++ drop 8192 w) (e ∙ ap (λ (n : ℕ). replicate {A = ℕ} n 0) (length-take-le 8192 w l))
