@@ -2,6 +2,7 @@
 --
 --   Whole a     == the result a has so many
 --   period-size, set-size, free-size == the answers of the ways have
+--   long-records == a file of more than 16,384 bytes is refused by 1
 --   file-size   == the answer for a file has
 -- Assumes nothing.
 use Prim.Native.Nat.{ℕ, zero, suc, _<_, _≤_}
@@ -12,6 +13,7 @@ use mathlib.Core.List.{List, [], _∷_, map}
 use mathlib.Core.Option.{Option, none, some}
 use lib.Dec.{eqb, ltb, eqb→eq}
 use lib.ListN.{length, getD, take, length-append, length-map}
+use borrow.Author.Tests.{lt-ltb, ltb-true}
 use Rattle.meaning.specs.Field.{prime}
 use Rattle.meaning.specs.Polynomial.{Polynomial, power, product}
 use Rattle.meaning.specs.Result.{Result, refused, answered, Rated, mapResult}
@@ -215,9 +217,9 @@ suited-answered (answered qs) {rs} e = go (modeUnsuited qs) refl
         let s : qs ≡ rs = cc in
         subst (λ l. modeUnsuited l ≡ false) s u
 
-long-records : (file : List ℕ) → ltb 16384 (length file) ≡ true → records file ≡ refused 1
+pub long-records : (file : List ℕ) → 16384 < length file → records file ≡ refused 1
 unfolding records
-long-records file u = rw (u, records)
+long-records file l = rw (lt-ltb 16384 (length file) l, records)
 
 short-records :
     (file : List ℕ) → ltb 16384 (length file) ≡ false → records file ≡ suited (walk file 0 atStart)
@@ -229,7 +231,7 @@ records-suited :
 records-suited file {rs} e = go (ltb 16384 (length file)) refl
   where
     go : (t : Bool) → ltb 16384 (length file) ≡ t → modeUnsuited rs ≡ false
-    go true u = never (sym (long-records file u) ∙ e)
+    go true u = never (sym (long-records file (ltb-true 16384 (length file) u)) ∙ e)
     go false u = suited-answered (walk file 0 atStart) (sym (short-records file u) ∙ e)
 
 -- an accepted file in the period mode has a factor

@@ -1,0 +1,38 @@
+// The rating program. It reads one route file on standard input and writes the header, the result line and,
+// where the file is rated, the poly line to standard output. `main` reads and writes; what is written for
+// what was read is the matter of `respond`.
+use framing::part;
+use libc::STDIN_FILENO;
+use libc::STDOUT_FILENO;
+use lines::ANSWER_BYTES;
+use lines::MOST_PRINTED;
+use lines::print_rating;
+use route::rate_file;
+ghost use Rattle.rate.specs.Responses.{Response};
+
+// How much of the input is kept: one byte more than a file may have. Further bytes change nothing.
+const KEPT_BYTES: usize = 16385;
+
+// The lent work bytes.
+const WORK_BYTES: usize = 8192;
+
+// Writes what the program prints to the front of `out`, and returns its number of bytes. The first `count`
+// bytes of the buffer are the input, or its first bytes where the buffer is full.
+fn respond(buffer: &[u8; KEPT_BYTES], count: usize, out: &mut [u8; MOST_PRINTED]) -> usize
+    ensures { λ n. ⌜ Response (now (buffer .entry)) count n (now (out .exit)) ⌝ }
+{
+    let mut answer = [0u8; ANSWER_BYTES];
+    let mut work = [0u8; WORK_BYTES];
+    let rating = rate_file(part(buffer, 0, count), &mut answer, &mut work);
+    print_rating(rating, &answer, out)
+}
+
+// Reads until the buffer is full, the input ends or a read fails, and writes the lines of what was read. A
+// write that takes only a part is continued.
+fn main() {
+    let mut buffer = [0u8; KEPT_BYTES];
+    let count = io::read_full(STDIN_FILENO, &mut buffer);
+    let mut out = [0u8; MOST_PRINTED];
+    let n = respond(&buffer, count, &mut out);
+    io::write_all(STDOUT_FILENO, &out[..n]);
+}
