@@ -3,6 +3,7 @@
 // powers belong to no factor.
 use checks::lists::factor_degree_out_of_range;
 use checks::lists::not_monic;
+use poly::same;
 ghost use mathlib.Core.Path.{_≡_};
 ghost use Prim.Native.Nat.{_*_, min};
 ghost use lib.Dec.{eqb};
@@ -42,24 +43,6 @@ pub fn some_not_monic(p: u64, factors: &[&[u8]]) -> bool
         i += 1;
     }
     false
-}
-
-// Whether two lists are equal.
-fn same(f: &[u8], g: &[u8]) -> bool
-    ensures { λ r. ⌜ r ≡ same (now (f .entry)) (now (g .entry)) ⌝ }
-{
-    if f.len() != g.len() {
-        return false;
-    }
-    let mut i = 0;
-    // equal before i: the rest decides
-    while i < f.len() {
-        if f[i] != g[i] {
-            return false;
-        }
-        i += 1;
-    }
-    true
 }
 
 // Whether a factor from place `from` on equals f.

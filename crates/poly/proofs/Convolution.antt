@@ -88,7 +88,7 @@ module _ {F : Field} (I : IsField F) where
       convolved-skip (length f) f q s k h
       ∙ ap (λ g. convolved F g q s (k - q * length f)) (drop-of-length-le f (le-refl (length f)))
 
-  getD-sum : (v w : List ℕ) (k : ℕ)
+  pub getD-sum : (v w : List ℕ) (k : ℕ)
       → T (areElements F v)
       → T (areElements F w)
       → getD (plus F v w) k 0 ≡ (F .add) (getD v k 0) (getD w k 0)
@@ -99,6 +99,15 @@ module _ {F : Field} (I : IsField F) where
   getD-sum (a ∷ v) (b ∷ w) (suc k) h i =
       getD-sum v w k (elements-uncons F a v h .1) (elements-uncons F b w i .1)
 
+  -- c·a, read past its end too
+  pub getD-multiple : (c : ℕ) (a : List ℕ) (k : ℕ) → getD (scale F c a) k 0 ≡ (F .mul) c (getD a k 0)
+  getD-multiple c a k = elim (decLt k (length a)) [
+    | yes l ↦ getD-scale F c a k l
+    | no l ↦
+        List·getD-eq-default (scale F c a) 0 (omega (arith, length-scale F c a))
+        ∙ sym (ap ((F .mul) c) (List·getD-eq-default a 0 (omega arith)) ∙ number-mul-zero I c)
+  ]
+
   zeros-elements : (n : ℕ) → T (areElements F (replicate n 0))
   zeros-elements zero = elements-nil F
   zeros-elements (suc n) = elements-cons F (replicate n 0) (size-positive I) (zeros-elements n)
@@ -108,15 +117,8 @@ module _ {F : Field} (I : IsField F) where
     abbrev u : Sequence
     u = known a
 
-    -- c·a, read past its end too
     scaled : (c k : ℕ) → getD (scale F c a) k 0 ≡ (F .mul) c (u k)
-    scaled c k = elim (decLt k (length a)) [
-      | yes l ↦ getD-scale F c a k l ∙ ap ((F .mul) c) (sym (known-getD a k))
-      | no l ↦
-          List·getD-eq-default (scale F c a) 0 (omega (arith, length-scale F c a))
-          ∙ sym
-          (ap ((F .mul) c) (known-getD a k ∙ List·getD-eq-default a 0 (omega arith)) ∙ number-mul-zero I c)
-    ]
+    scaled c k = getD-multiple c a k ∙ ap ((F .mul) c) (sym (known-getD a k))
 
     -- a sum with c·a
     summed : (v : List ℕ) (c k : ℕ)

@@ -1,3 +1,4 @@
+pub mod Equality
 pub mod Rows
 pub mod Convolution
 pub mod Between
@@ -8,3 +9,4 @@ pub mod Zeros
 pub mod Multiples
 pub mod Repeating
 pub mod Raising
+pub mod Dividing

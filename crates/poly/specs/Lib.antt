@@ -1,2 +1,3 @@
 pub mod Convolution
+pub mod Division
 pub mod Product

@@ -1,13 +1,13 @@
--- `same` meets its contract. The invariant: the lists have one length, and from i on they decide.
--- Assumes nothing.
+-- `poly::equal::same` meets its contract. The invariant: the lists have one length, and from i on they
+-- decide. Assumes nothing.
 use Prim.Native.Nat.{_-_}
 use native.Mathlib.Omega.{arith}
 use mathlib.Core.Path.{_≡_, refl}
 use lib.ListN.{length, drop}
 use Rattle.meaning.specs.Polynomial.{same}
-use Rattle.factor_checks.proofs.Equality.{same-length, same-differ, same-next, same-over}
-use Rattle.factor_checks.proofs.same.Statement.{statement}
-use Rattle.factor_checks.proofs.same.Tie as tie
+use Rattle.poly.proofs.Equality.{same-length, same-differ, same-next, same-over}
+use Rattle.poly.proofs.equal.same.Statement.{statement}
+use Rattle.poly.proofs.equal.same.Tie as tie
 
 abbrev Inv-loop : tie.InvT-loop
 Inv-loop f g i₀ i = (length f ≡ length g) × (same (drop i f) (drop i g) ≡ same f g)

@@ -11,11 +11,14 @@ use lib.ListN.{length, getD, drop, drop-of-length-le}
 use lib.Seq.{drop-cons}
 use borrow.Author.Tests.{eq-eqb, ne-eqb}
 use Rattle.meaning.specs.Polynomial.{same}
-use Rattle.checks.proofs.Tests.{both}
 
 same-cons : (a b : ℕ) (f g : List ℕ) → same (a ∷ f) (b ∷ g) ≡ eqb a b && same f g
 unfolding same
-same-cons a b f g = both (eqb a b) (same f g)
+same-cons a b f g = by (eqb a b)
+  where
+    by : (x : Bool) → elim x [ true ↦ same f g | false ↦ false ] ≡ x && same f g
+    by true = refl
+    by false = refl
 
 pub same-length : (f g : List ℕ) → (length f ≡ length g → ⊥) → false ≡ same f g
 unfolding same
