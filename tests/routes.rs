@@ -1,0 +1,525 @@
+// The rating program on route files: the shipped examples, files of all modes, files damaged in every way, and input that
+// comes in pieces or not at all. What it prints is compared byte by byte with a rater that goes by the words of the
+// request; under `some` the printed polynomial has to fit.
+mod common;
+
+use common::poly;
+use common::random::Random;
+use common::rater::{self, Input, Rating, Way};
+use common::route::{self, Contents, Factor, Record};
+use common::sequence;
+use common::{expect, largest_degree, primes, Tests, NO_PRIMES};
+use std::collections::BTreeMap;
+use std::io::Write;
+use std::process::{Child, Command, Stdio};
+
+const PROGRAM: &str = "target/bin/rate";
+const RANDOM_FILES: u64 = 1500;
+const LONG_FILES: u64 = 60;
+const CHANGED_FILES: u64 = 1500;
+
+// The program
+
+fn started(input: Stdio) -> Result<Child, String> {
+    Command::new(PROGRAM)
+        .stdin(input)
+        .stdout(Stdio::piped())
+        .stderr(Stdio::piped())
+        .spawn()
+        .map_err(|e| format!("{PROGRAM}: {e}"))
+}
+
+// What the program prints; it has to end as usual, and to write nothing else.
+fn ended(child: Child) -> Result<String, String> {
+    let output = child.wait_with_output().map_err(|e| e.to_string())?;
+    if !output.status.success() || !output.stderr.is_empty() {
+        return Err(format!(
+            "the program ended with {} and wrote {:?} beside its lines",
+            output.status,
+            String::from_utf8_lossy(&output.stderr)
+        ));
+    }
+    String::from_utf8(output.stdout).map_err(|e| e.to_string())
+}
+
+// What it prints for a file that comes in these pieces, some time apart.
+fn printed_for_pieces(pieces: &[&[u8]]) -> Result<String, String> {
+    let mut child = started(Stdio::piped())?;
+    let mut input = child.stdin.take().unwrap();
+    for (i, piece) in pieces.iter().enumerate() {
+        if i > 0 {
+            std::thread::sleep(std::time::Duration::from_millis(3));
+        }
+        // a program that has read enough may close its input
+        let _ = input.write_all(piece);
+    }
+    drop(input);
+    ended(child)
+}
+
+fn printed(file: &[u8]) -> Result<String, String> {
+    printed_for_pieces(&[file])
+}
+
+// The comparison
+
+// What a file asks for.
+fn input_of(c: &Contents) -> Input {
+    let way = match c.mode {
+        1 => Way::Period,
+        2 => Way::Set,
+        _ => Way::Free,
+    };
+    let factor = |f: &Factor| rater::Factor::Record {
+        degree: f.degree,
+        coefficients: f.coefficients,
+    };
+    Input::of(
+        way,
+        c.p as u64,
+        c.factors.iter().map(factor).collect(),
+        c.factors.iter().map(|f| f.upper as u64).collect(),
+        c.terms.clone(),
+    )
+}
+
+// What is printed after the density.
+fn label(rating: &Rating) -> String {
+    match rating.unique {
+        Some(true) => "one".into(),
+        Some(false) => "some".into(),
+        None => {
+            let words: Vec<String> = rating.powers.iter().map(|r| r.to_string()).collect();
+            words.join(",")
+        }
+    }
+}
+
+fn case(file: &[u8]) -> String {
+    let hex: String = file.iter().take(200).map(|b| format!("{b:02x}")).collect();
+    format!("a file of {} bytes, {hex}", file.len())
+}
+
+// Whether the last line is a polynomial that fits: monic, of the degree, annihilating the terms.
+fn fits(line: &str, p: u64, degree: usize, terms: &[u8]) -> bool {
+    let Some(words) = line.strip_prefix("poly ").and_then(|l| l.strip_suffix('\n')) else {
+        return false;
+    };
+    let Ok(g) = words.split(' ').map(str::parse).collect::<Result<Vec<u8>, _>>() else {
+        return false;
+    };
+    g.len() == degree + 1
+        && g[degree] == 1
+        && g.iter().all(|&c| (c as u64) < p)
+        && line == route::poly_line(&g)
+        && sequence::acted(p, &poly::of_bytes(&g), &sequence::of_bytes(terms)).iter().all(|&a| a == 0)
+}
+
+// Compares what is printed for a file with the words of the request. Answers the number of the refusal, or 0.
+fn compare(file: &[u8], lines: &str) -> Result<u64, String> {
+    let rated = route::contents(file).and_then(|c| Ok((rater::rate(&input_of(&c))?, c)));
+    let (rating, c) = match rated {
+        Err(number) => {
+            expect(lines, &route::refused_lines(file, number), || case(file))?;
+            return Ok(number);
+        }
+        Ok(found) => found,
+    };
+    let degree = rating.polynomial.len() - 1;
+    let result = route::result_line(file, degree, c.terms.len(), &label(&rating));
+    let before = format!("{}{result}", route::HEADER);
+    if rating.unique == Some(false) {
+        return match lines.strip_prefix(before.as_str()) {
+            Some(line) if fits(line, c.p as u64, degree, &c.terms) => Ok(0),
+            _ => Err(format!(
+                "{}: {lines:?}, expected {before:?} and a polynomial that fits",
+                case(file)
+            )),
+        };
+    }
+    let poly = route::poly_line(&poly::to_bytes(&rating.polynomial));
+    expect(lines, &(before + &poly), || case(file))?;
+    Ok(0)
+}
+
+fn check(file: &[u8]) -> Result<u64, String> {
+    compare(file, &printed(file)?)
+}
+
+// Making files
+
+// An irreducible polynomial over GF(p) of a degree up to `most`.
+fn irreducible(random: &mut Random, p: u64, most: usize) -> Vec<u8> {
+    loop {
+        let d = random.between(1, most as u64) as usize;
+        let f = random.monic(p, d);
+        if poly::is_irreducible(p, &poly::of_bytes(&f)) {
+            return f;
+        }
+    }
+}
+
+// n terms that the monic polynomial g continues from random ones.
+fn continued(random: &mut Random, p: u64, g: &[u64], n: usize) -> Vec<u8> {
+    let d = g.len() - 1;
+    let mut terms: Vec<u64> = random.elements(p, d).iter().map(|&t| t as u64).collect();
+    while terms.len() < n {
+        let at = terms.len() - d;
+        let sum: u64 = (0..d).map(|i| (p - g[i]) * terms[at + i] % p).sum();
+        terms.push(sum % p);
+    }
+    terms.truncate(n);
+    poly::to_bytes(&terms)
+}
+
+fn power(p: u64, f: &[u8], r: u64) -> Vec<u64> {
+    (0..r).fold(vec![1], |g, _| poly::product(p, &g, &poly::of_bytes(f)))
+}
+
+// A period of a sequence that a power of f annihilates, repeated as often as there is room for, or random terms.
+fn period(random: &mut Random, p: u64, f: &[u8], most: usize) -> Vec<u8> {
+    let g = power(p, f, random.between(0, 3));
+    let d = g.len() - 1;
+    let terms = continued(random, p, &g, most + d);
+    let whole = |n: &usize| terms[..d] == terms[*n..n + d];
+    match (1..=most).find(whole) {
+        Some(n) => terms[..n].repeat(random.between(1, (most / n).min(5) as u64) as usize),
+        None => terms[..random.between(1, most as u64) as usize].to_vec(),
+    }
+}
+
+fn period_contents(random: &mut Random, p: u64, most: usize) -> Contents {
+    let f = irreducible(random, p, largest_degree(p).min(5));
+    Contents {
+        p: p as u8,
+        mode: 1,
+        factors: vec![Factor::of_polynomial(&f, 0)],
+        terms: period(random, p, &f, most),
+    }
+}
+
+// Factors with upper powers, and terms that their product to smaller powers continues; the total degree is at most
+// `most`, and so is the number of terms.
+fn set_contents(random: &mut Random, p: u64, most: usize) -> Contents {
+    let mut factors: Vec<Factor> = vec![];
+    let mut product = vec![1];
+    let mut total = 0;
+    for _ in 0..random.between(1, 8) {
+        let f = irreducible(random, p, largest_degree(p).min(4));
+        let d = f.len() - 1;
+        let upper = random.between(1, 4).min(((most - total) / d) as u64);
+        if upper == 0 || factors.iter().any(|g| g.polynomial() == f) {
+            continue;
+        }
+        let used = power(p, &f, random.between(0, upper));
+        product = poly::product(p, &product, &used);
+        total += upper as usize * d;
+        factors.push(Factor::of_polynomial(&f, upper as u16));
+    }
+    let n = random.between(total as u64, (most.min(total + 40)) as u64) as usize;
+    Contents {
+        p: p as u8,
+        mode: 2,
+        factors,
+        terms: continued(random, p, &product, n),
+    }
+}
+
+fn free_contents(random: &mut Random, p: u64, most: usize) -> Contents {
+    let n = random.between(1, most as u64) as usize;
+    let terms = if random.below(2) == 0 {
+        random.elements(p, n)
+    } else {
+        let d = random.below(n as u64 / 2 + 1) as usize;
+        let g = random.monic(p, d);
+        continued(random, p, &g.iter().map(|&c| c as u64).collect::<Vec<u64>>(), n)
+    };
+    Contents {
+        p: p as u8,
+        mode: 3,
+        factors: vec![],
+        terms,
+    }
+}
+
+fn some_contents(random: &mut Random, most: usize) -> Contents {
+    let p = random.one_of(&primes());
+    match random.below(3) {
+        0 => period_contents(random, p, most),
+        1 => set_contents(random, p, most),
+        _ => free_contents(random, p, most),
+    }
+}
+
+// The terms in records of 64 and of one, as it comes.
+fn term_records(random: &mut Random, terms: &[u8]) -> Vec<Record> {
+    let mut records = vec![];
+    let mut rest = terms;
+    while !rest.is_empty() {
+        let n = if rest.len() >= 64 && random.below(40) > 0 { 64 } else { 1 };
+        records.push(Record::of(if n == 64 { 5 } else { 6 }, &rest[..n]));
+        rest = &rest[n..];
+    }
+    records
+}
+
+fn records_of(random: &mut Random, c: &Contents) -> Vec<Record> {
+    let mut records = vec![
+        Record::of(1, &random.bytes(4)),
+        Record::of(2, &[c.p]),
+        Record::of(3, &[c.mode]),
+    ];
+    records.extend(c.factors.iter().map(|f| Record::of(4, &f.body())));
+    records.extend(term_records(random, &c.terms));
+    records.push(Record::of(8, &[]));
+    for _ in 0..random.below(3) {
+        let at = random.between(1, records.len() as u64 - 1) as usize;
+        records.insert(at, Record::of(7, &random.bytes(8)));
+    }
+    records
+}
+
+fn file_of(random: &mut Random, c: &Contents) -> Vec<u8> {
+    route::file_of(&records_of(random, c))
+}
+
+// Damage
+
+// Changes what a file holds, so that a way refuses it; which change is a matter of chance.
+fn spoiled(random: &mut Random, c: &mut Contents) {
+    let n = c.terms.len();
+    match random.below(13) {
+        0 => c.p = random.one_of(&NO_PRIMES) as u8,
+        1 => c.terms.clear(),
+        2 => c.terms.resize(random.between(4090, 4100) as usize, 0),
+        3 if n > 0 => c.terms[random.below(n as u64) as usize] = c.p.saturating_add(random.below(3) as u8),
+        4 => c.mode = random.one_of(&[0, 1, 2, 3, 4, 255]),
+        5 => c.terms.truncate(random.below(n as u64 + 1) as usize),
+        6 if n > 0 => {
+            let at = n - 1 - random.below(3.min(n as u64)) as usize;
+            c.terms[at] = ((c.terms[at] as u16 + 1) % (c.p as u16).max(1)) as u8;
+        }
+        7 if !c.factors.is_empty() => c.factors.push(c.factors[0].clone()),
+        _ if !c.factors.is_empty() => {
+            let i = random.below(c.factors.len() as u64) as usize;
+            spoil_factor(random, c.p, &mut c.factors[i]);
+        }
+        _ => c.factors.push(Factor::of_polynomial(&[1, 1], random.below(2) as u16)),
+    }
+}
+
+fn spoil_factor(random: &mut Random, p: u8, f: &mut Factor) {
+    let at = random.below(32) as usize;
+    match random.below(5) {
+        0 => f.degree = random.one_of(&[0, 31, 32, 33, 34, 255]),
+        1 => f.upper = random.one_of(&[0, 1, 1024, 4096, 4097, 65535]),
+        2 => f.coefficients[at] = random.one_of(&[1, p.saturating_sub(1), p, 255]),
+        3 => f.degree = f.degree.wrapping_add(1),
+        _ => f.coefficients[0] = 0,
+    }
+}
+
+fn damaged(random: &mut Random, records: &mut Vec<Record>) {
+    let i = random.below(records.len() as u64) as usize;
+    match random.below(4) {
+        0 => drop(records.remove(i)),
+        1 => records.insert(i, records[i].clone()),
+        2 => records.swap(i, random.below(records.len() as u64) as usize),
+        _ => records[i].kind = random.below(10) as u8,
+    }
+}
+
+fn changed(random: &mut Random, file: &mut Vec<u8>) {
+    let i = random.below(file.len() as u64) as usize;
+    match random.below(4) {
+        0 => file[i] = random.next() as u8,
+        1 => file.truncate(i),
+        2 => file.extend(random.bytes(3)),
+        _ => drop(file.remove(i)),
+    }
+}
+
+// Tests
+
+// Every shipped example, by what it prints; row I may print any polynomial that fits.
+fn examples() -> Result<u64, String> {
+    let names = "abcdefghijklm";
+    for name in names.chars() {
+        let read = |suffix: &str| {
+            let path = format!("examples/{name}.{suffix}");
+            std::fs::read(&path).map_err(|e| format!("{path}: {e}"))
+        };
+        let file = read("route")?;
+        let lines = printed(&file)?;
+        expect(lines.as_bytes(), &read("lines")?[..], || format!("row {name}"))?;
+        compare(&file, &lines)?;
+    }
+    Ok(names.len() as u64)
+}
+
+fn valid_files() -> Result<u64, String> {
+    let mut random = Random::of_seed(1);
+    let mut rated = 0;
+    for _ in 0..RANDOM_FILES {
+        let c = some_contents(&mut random, 120);
+        rated += (check(&file_of(&mut random, &c))? == 0) as u64;
+    }
+    if 2 * rated < RANDOM_FILES {
+        return Err(format!("only {rated} of {RANDOM_FILES} files were rated"));
+    }
+    Ok(RANDOM_FILES)
+}
+
+fn long_files() -> Result<u64, String> {
+    let mut random = Random::of_seed(2);
+    for i in 0..LONG_FILES {
+        let mut c = some_contents(&mut random, 4096);
+        if i % 4 == 0 {
+            let p = random.one_of(&primes());
+            c = free_contents(&mut random, p, 4096);
+            c.terms = random.elements(p, 4096);
+        }
+        check(&file_of(&mut random, &c))?;
+    }
+    Ok(LONG_FILES)
+}
+
+// Files with one fault or several: each refusal that a file can meet comes up, and every answer is right.
+fn refused_files() -> Result<u64, String> {
+    let mut random = Random::of_seed(3);
+    let mut seen: BTreeMap<u64, u64> = BTreeMap::new();
+    for i in 0..CHANGED_FILES {
+        let mut c = some_contents(&mut random, 60);
+        for _ in 0..random.between(1, 2) {
+            spoiled(&mut random, &mut c);
+        }
+        let mut records = records_of(&mut random, &c);
+        if i % 4 == 0 {
+            damaged(&mut random, &mut records);
+        }
+        let mut file = route::file_of(&records);
+        if i % 5 == 0 {
+            changed(&mut random, &mut file);
+        }
+        *seen.entry(check(&file)?).or_default() += 1;
+    }
+    for number in [0, 2, 3, 4, 5, 6, 7, 8, 10, 11, 12, 13, 14, 15, 17] {
+        if !seen.contains_key(&number) {
+            return Err(format!("no file met {number}: {seen:?}"));
+        }
+    }
+    Ok(CHANGED_FILES)
+}
+
+// A short file of each mode cut at every byte, and with bytes after its end.
+fn cut_files() -> Result<u64, String> {
+    let mut random = Random::of_seed(4);
+    let mut cases = 0;
+    for name in ["a", "e", "h", "k"] {
+        let file = std::fs::read(format!("examples/{name}.route")).map_err(|e| e.to_string())?;
+        for n in 0..=file.len() {
+            check(&file[..n])?;
+            cases += 1;
+        }
+        for kind in 0..=10 {
+            for n in [0, 1, 4, 8, 34, 35, 64, 70] {
+                let mut longer = file.clone();
+                longer.push(kind);
+                longer.extend(random.bytes(n));
+                check(&longer)?;
+                cases += 1;
+            }
+        }
+    }
+    Ok(cases)
+}
+
+// Files about the limit of 16,384 bytes, and far beyond it.
+fn limit_of_bytes() -> Result<u64, String> {
+    let mut random = Random::of_seed(5);
+    let mut cases = 0;
+    for n in [16383, 16384, 16385, 16386, 40_000, 1_000_000] {
+        // stops of nine bytes fill up a file with terms of one and of 64
+        let c = Contents {
+            p: 2,
+            mode: 3,
+            factors: vec![],
+            terms: random.elements(2, 64),
+        };
+        let mut records = records_of(&mut random, &c);
+        records.retain(|r| r.kind != 7);
+        let mut left = n - route::file_of(&records).len();
+        while left % 9 != 0 {
+            let end = records.len() - 1;
+            records.insert(end, Record::of(6, &[1]));
+            left -= 2;
+        }
+        for _ in 0..left / 9 {
+            records.insert(1, Record::of(7, &random.bytes(8)));
+        }
+        let file = route::file_of(&records);
+        expect(file.len(), n, || "the size of a file".into())?;
+        expect(check(&file)?, (n > 16384) as u64, || format!("{n} bytes"))?;
+        expect(check(&random.bytes(n))? > 0, true, || format!("{n} random bytes"))?;
+        cases += 2;
+    }
+    Ok(cases)
+}
+
+// Random bytes of any length.
+fn random_bytes() -> Result<u64, String> {
+    let mut random = Random::of_seed(6);
+    for _ in 0..400 {
+        let n = random.below(200) as usize;
+        let mut file = random.bytes(n);
+        if random.below(2) == 0 {
+            file = file.iter().map(|b| b % 9).collect();
+        }
+        check(&file)?;
+    }
+    Ok(400)
+}
+
+// Input in pieces: cut at every place of a short file, and a long file in many pieces.
+fn pieces() -> Result<u64, String> {
+    let mut random = Random::of_seed(7);
+    let file = std::fs::read("examples/a.route").map_err(|e| e.to_string())?;
+    for n in 0..=file.len() {
+        compare(&file, &printed_for_pieces(&[&file[..n], &file[n..]])?)?;
+    }
+    let c = free_contents(&mut random, 251, 4096);
+    for file in [file_of(&mut random, &c), random.bytes(20_000)] {
+        let parts: Vec<&[u8]> = file.chunks(1000).collect();
+        compare(&file, &printed_for_pieces(&parts)?)?;
+    }
+    Ok(file.len() as u64 + 3)
+}
+
+// Input that cannot be read is a file without bytes: a folder, and a closed input.
+fn unreadable_input() -> Result<u64, String> {
+    let folder = std::fs::File::open(".").map_err(|e| e.to_string())?;
+    compare(&[], &ended(started(folder.into())?)?)?;
+    compare(&[], &ended(started(Stdio::null())?)?)?;
+    let closed = Command::new("sh")
+        .args(["-c", &format!("exec {PROGRAM} <&-")])
+        .stdout(Stdio::piped())
+        .stderr(Stdio::piped())
+        .spawn()
+        .map_err(|e| e.to_string())?;
+    compare(&[], &ended(closed)?)?;
+    Ok(3)
+}
+
+fn main() {
+    let mut tests = Tests::of("routes");
+    tests.test("the examples", examples);
+    tests.test("valid files of all modes", valid_files);
+    tests.test("long files", long_files);
+    tests.test("refused files", refused_files);
+    tests.test("cut and extended files", cut_files);
+    tests.test("the limit of bytes", limit_of_bytes);
+    tests.test("random bytes", random_bytes);
+    tests.test("input in pieces", pieces);
+    tests.test("input that cannot be read", unreadable_input);
+    tests.end()
+}
