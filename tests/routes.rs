@@ -3,12 +3,13 @@
 // request; under `some` the printed polynomial has to fit.
 mod common;
 
-use common::poly;
+use common::inputs;
+use common::poly::{self, Poly};
 use common::random::Random;
 use common::rater::{self, Input, Rating, Way};
 use common::route::{self, Contents, Factor, Record};
 use common::sequence;
-use common::{expect, largest_degree, primes, Tests, NO_PRIMES};
+use common::{expect, primes, run, Outcome, NO_PRIMES};
 use std::collections::BTreeMap;
 use std::io::Write;
 use std::process::{Child, Command, Stdio};
@@ -112,7 +113,7 @@ fn fits(line: &str, p: u64, degree: usize, terms: &[u8]) -> bool {
         && g[degree] == 1
         && g.iter().all(|&c| (c as u64) < p)
         && line == route::poly_line(&g)
-        && sequence::acted(p, &poly::of_bytes(&g), &sequence::of_bytes(terms)).iter().all(|&a| a == 0)
+        && sequence::annihilates(p, &poly::of_bytes(&g), &sequence::of_bytes(terms))
 }
 
 // Compares what is printed for a file with the words of the request. Answers the number of the refusal, or 0.
@@ -148,91 +149,61 @@ fn check(file: &[u8]) -> Result<u64, String> {
 
 // Making files
 
-// An irreducible polynomial over GF(p) of a degree up to `most`.
-fn irreducible(random: &mut Random, p: u64, most: usize) -> Vec<u8> {
-    loop {
-        let d = random.between(1, most as u64) as usize;
-        let f = random.monic(p, d);
-        if poly::is_irreducible(p, &poly::of_bytes(&f)) {
-            return f;
-        }
-    }
+fn factor_of(f: &[u64], upper: u64) -> Factor {
+    Factor::of_polynomial(&poly::to_bytes(f), upper as u16)
 }
 
-// n terms that the monic polynomial g continues from random ones.
-fn continued(random: &mut Random, p: u64, g: &[u64], n: usize) -> Vec<u8> {
-    let d = g.len() - 1;
-    let mut terms: Vec<u64> = random.elements(p, d).iter().map(|&t| t as u64).collect();
-    while terms.len() < n {
-        let at = terms.len() - d;
-        let sum: u64 = (0..d).map(|i| (p - g[i]) * terms[at + i] % p).sum();
-        terms.push(sum % p);
-    }
-    terms.truncate(n);
-    poly::to_bytes(&terms)
-}
-
-fn power(p: u64, f: &[u8], r: u64) -> Vec<u64> {
-    (0..r).fold(vec![1], |g, _| poly::product(p, &g, &poly::of_bytes(f)))
-}
-
-// A period of a sequence that a power of f annihilates, repeated as often as there is room for, or random terms.
-fn period(random: &mut Random, p: u64, f: &[u8], most: usize) -> Vec<u8> {
-    let g = power(p, f, random.between(0, 3));
-    let d = g.len() - 1;
-    let terms = continued(random, p, &g, most + d);
-    let whole = |n: &usize| terms[..d] == terms[*n..n + d];
-    match (1..=most).find(whole) {
+// A period of a sequence that a power of f annihilates, repeated as often as there is room for, or, where it has none so
+// short, terms of it.
+fn period(random: &mut Random, p: u64, f: &[u64], most: usize) -> Vec<u8> {
+    let r = random.between(0, 3);
+    let d = r as usize * poly::degree(f);
+    let terms = poly::to_bytes(&inputs::register(random, p, f, r, most + d));
+    match (1..=most).find(|&n| terms[..d] == terms[n..n + d]) {
         Some(n) => terms[..n].repeat(random.between(1, (most / n).min(5) as u64) as usize),
         None => terms[..random.between(1, most as u64) as usize].to_vec(),
     }
 }
 
 fn period_contents(random: &mut Random, p: u64, most: usize) -> Contents {
-    let f = irreducible(random, p, largest_degree(p).min(5));
+    let f = inputs::factors(random, p, 1, 5).remove(0);
     Contents {
         p: p as u8,
         mode: 1,
-        factors: vec![Factor::of_polynomial(&f, 0)],
+        factors: vec![factor_of(&f, 0)],
         terms: period(random, p, &f, most),
     }
 }
 
-// Factors with upper powers, and terms that their product to smaller powers continues; the total degree is at most
-// `most`, and so is the number of terms.
+// Factors with upper powers, and terms of a sequence whose minimal polynomial has powers up to these.
 fn set_contents(random: &mut Random, p: u64, most: usize) -> Contents {
-    let mut factors: Vec<Factor> = vec![];
-    let mut product = vec![1];
-    let mut total = 0;
-    for _ in 0..random.between(1, 8) {
-        let f = irreducible(random, p, largest_degree(p).min(4));
-        let d = f.len() - 1;
-        let upper = random.between(1, 4).min(((most - total) / d) as u64);
-        if upper == 0 || factors.iter().any(|g| g.polynomial() == f) {
-            continue;
-        }
-        let used = power(p, &f, random.between(0, upper));
-        product = poly::product(p, &product, &used);
-        total += upper as usize * d;
-        factors.push(Factor::of_polynomial(&f, upper as u16));
-    }
-    let n = random.between(total as u64, (most.min(total + 40)) as u64) as usize;
+    let n = random.between(1, 8) as usize;
+    let factors: Vec<Poly> = inputs::factors(random, p, n, 4);
+    let least: usize = factors.iter().map(|f| poly::degree(f)).sum();
+    let uppers = inputs::uppers(random, &factors, least.max(most - most / 4));
+    let powers: Vec<u64> = uppers.iter().map(|&v| random.between(0, v)).collect();
+    let total = inputs::total_degree(&factors, &uppers);
+    let count = random.between(total as u64, most.max(total) as u64) as usize;
+    let terms = inputs::registers(random, p, &factors, &powers, count);
+    let named = factors.iter().zip(&uppers);
     Contents {
         p: p as u8,
         mode: 2,
-        factors,
-        terms: continued(random, p, &product, n),
+        factors: named.map(|(f, &v)| factor_of(f, v)).collect(),
+        terms: poly::to_bytes(&terms),
     }
 }
 
+// Terms without a rule, or of a register.
 fn free_contents(random: &mut Random, p: u64, most: usize) -> Contents {
     let n = random.between(1, most as u64) as usize;
     let terms = if random.below(2) == 0 {
         random.elements(p, n)
     } else {
         let d = random.below(n as u64 / 2 + 1) as usize;
-        let g = random.monic(p, d);
-        continued(random, p, &g.iter().map(|&c| c as u64).collect::<Vec<u64>>(), n)
+        let g = sequence::of_bytes(&random.monic(p, d));
+        let start = sequence::of_bytes(&random.elements(p, d));
+        poly::to_bytes(&sequence::continued(p, &g, &start, n))
     };
     Contents {
         p: p as u8,
@@ -324,7 +295,10 @@ fn damaged(random: &mut Random, records: &mut Vec<Record>) {
     match random.below(4) {
         0 => drop(records.remove(i)),
         1 => records.insert(i, records[i].clone()),
-        2 => records.swap(i, random.below(records.len() as u64) as usize),
+        2 => {
+            let j = random.below(records.len() as u64) as usize;
+            records.swap(i, j);
+        }
         _ => records[i].kind = random.below(10) as u8,
     }
 }
@@ -342,7 +316,7 @@ fn changed(random: &mut Random, file: &mut Vec<u8>) {
 // Tests
 
 // Every shipped example, by what it prints; row I may print any polynomial that fits.
-fn examples() -> Result<u64, String> {
+fn examples() -> Outcome {
     let names = "abcdefghijklm";
     for name in names.chars() {
         let read = |suffix: &str| {
@@ -351,13 +325,14 @@ fn examples() -> Result<u64, String> {
         };
         let file = read("route")?;
         let lines = printed(&file)?;
-        expect(lines.as_bytes(), &read("lines")?[..], || format!("row {name}"))?;
+        let shipped = String::from_utf8(read("lines")?).map_err(|e| e.to_string())?;
+        expect(&lines, &shipped, || format!("row {name}"))?;
         compare(&file, &lines)?;
     }
     Ok(names.len() as u64)
 }
 
-fn valid_files() -> Result<u64, String> {
+fn valid_files() -> Outcome {
     let mut random = Random::of_seed(1);
     let mut rated = 0;
     for _ in 0..RANDOM_FILES {
@@ -370,7 +345,7 @@ fn valid_files() -> Result<u64, String> {
     Ok(RANDOM_FILES)
 }
 
-fn long_files() -> Result<u64, String> {
+fn long_files() -> Outcome {
     let mut random = Random::of_seed(2);
     for i in 0..LONG_FILES {
         let mut c = some_contents(&mut random, 4096);
@@ -385,7 +360,7 @@ fn long_files() -> Result<u64, String> {
 }
 
 // Files with one fault or several: each refusal that a file can meet comes up, and every answer is right.
-fn refused_files() -> Result<u64, String> {
+fn refused_files() -> Outcome {
     let mut random = Random::of_seed(3);
     let mut seen: BTreeMap<u64, u64> = BTreeMap::new();
     for i in 0..CHANGED_FILES {
@@ -412,7 +387,7 @@ fn refused_files() -> Result<u64, String> {
 }
 
 // A short file of each mode cut at every byte, and with bytes after its end.
-fn cut_files() -> Result<u64, String> {
+fn cut_files() -> Outcome {
     let mut random = Random::of_seed(4);
     let mut cases = 0;
     for name in ["a", "e", "h", "k"] {
@@ -435,7 +410,7 @@ fn cut_files() -> Result<u64, String> {
 }
 
 // Files about the limit of 16,384 bytes, and far beyond it.
-fn limit_of_bytes() -> Result<u64, String> {
+fn limit_of_bytes() -> Outcome {
     let mut random = Random::of_seed(5);
     let mut cases = 0;
     for n in [16383, 16384, 16385, 16386, 40_000, 1_000_000] {
@@ -467,7 +442,7 @@ fn limit_of_bytes() -> Result<u64, String> {
 }
 
 // Random bytes of any length.
-fn random_bytes() -> Result<u64, String> {
+fn random_bytes() -> Outcome {
     let mut random = Random::of_seed(6);
     for _ in 0..400 {
         let n = random.below(200) as usize;
@@ -481,7 +456,7 @@ fn random_bytes() -> Result<u64, String> {
 }
 
 // Input in pieces: cut at every place of a short file, and a long file in many pieces.
-fn pieces() -> Result<u64, String> {
+fn pieces() -> Outcome {
     let mut random = Random::of_seed(7);
     let file = std::fs::read("examples/a.route").map_err(|e| e.to_string())?;
     for n in 0..=file.len() {
@@ -496,7 +471,7 @@ fn pieces() -> Result<u64, String> {
 }
 
 // Input that cannot be read is a file without bytes: a folder, and a closed input.
-fn unreadable_input() -> Result<u64, String> {
+fn unreadable_input() -> Outcome {
     let folder = std::fs::File::open(".").map_err(|e| e.to_string())?;
     compare(&[], &ended(started(folder.into())?)?)?;
     compare(&[], &ended(started(Stdio::null())?)?)?;
@@ -511,15 +486,18 @@ fn unreadable_input() -> Result<u64, String> {
 }
 
 fn main() {
-    let mut tests = Tests::of("routes");
-    tests.test("the examples", examples);
-    tests.test("valid files of all modes", valid_files);
-    tests.test("long files", long_files);
-    tests.test("refused files", refused_files);
-    tests.test("cut and extended files", cut_files);
-    tests.test("the limit of bytes", limit_of_bytes);
-    tests.test("random bytes", random_bytes);
-    tests.test("input in pieces", pieces);
-    tests.test("input that cannot be read", unreadable_input);
-    tests.end()
+    run(
+        "routes",
+        &[
+            ("the examples", examples),
+            ("valid files of all modes", valid_files),
+            ("long files", long_files),
+            ("refused files", refused_files),
+            ("cut and extended files", cut_files),
+            ("the limit of bytes", limit_of_bytes),
+            ("random bytes", random_bytes),
+            ("input in pieces", pieces),
+            ("input that cannot be read", unreadable_input),
+        ],
+    )
 }

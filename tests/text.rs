@@ -3,7 +3,7 @@ mod common;
 
 use common::random::Random;
 use common::route::{self, Record};
-use common::{expect, Tests};
+use common::{expect, Outcome};
 use std::io::Write;
 use std::process::{Command, Stdio};
 
@@ -11,7 +11,7 @@ const TOOL: &str = "tools/route";
 const RANDOM_FILES: u64 = 20;
 
 // What the tool does with an input: whether it ends well, and what it writes to its two outputs.
-fn run(verb: &str, input: &[u8]) -> Result<(bool, Vec<u8>, String), String> {
+fn tool(verb: &str, input: &[u8]) -> Result<(bool, Vec<u8>, String), String> {
     let mut child = Command::new(TOOL)
         .arg(verb)
         .stdin(Stdio::piped())
@@ -26,13 +26,13 @@ fn run(verb: &str, input: &[u8]) -> Result<(bool, Vec<u8>, String), String> {
 }
 
 fn well(verb: &str, input: &[u8]) -> Result<Vec<u8>, String> {
-    match run(verb, input)? {
+    match tool(verb, input)? {
         (true, output, errors) if errors.is_empty() => Ok(output),
         (_, _, errors) => Err(format!("{verb} of {input:?}: {errors}")),
     }
 }
 
-fn examples() -> Result<u64, String> {
+fn examples() -> Outcome {
     for name in "abcdefghijklm".chars() {
         let read = |suffix: &str| {
             let path = format!("examples/{name}.{suffix}");
@@ -60,7 +60,7 @@ fn random_record(random: &mut Random) -> Record {
 }
 
 // Any file comes back from its text: records in any order, long runs of terms, cut files, other bytes.
-fn files_come_back() -> Result<u64, String> {
+fn files_come_back() -> Outcome {
     let mut random = Random::of_seed(1);
     for _ in 0..RANDOM_FILES {
         let mut records = vec![];
@@ -82,7 +82,7 @@ fn files_come_back() -> Result<u64, String> {
 }
 
 // What each statement writes, by the table of kinds, all in one text.
-fn statements() -> Result<u64, String> {
+fn statements() -> Outcome {
     let cases: [(&str, Vec<u8>); 11] = [
         ("", vec![]),
         ("box 258 # a comment", vec![1, 0, 0, 1, 2]),
@@ -103,14 +103,14 @@ fn statements() -> Result<u64, String> {
 }
 
 // Bad text: nothing is written, and the error names the line.
-fn bad_texts() -> Result<u64, String> {
+fn bad_texts() -> Outcome {
     let bad = [
         "box", "box 1 2", "box 4294967296", "box -1", "field 256", "field x", "mode other", "factor 1 1 1",
         "factor 65536: 1 1", "factor 1: 1 2", "factor 1:", "factor 1: 256 1", "terms", "terms 1 256", "stop 00",
         "stop zz", "end 1", "record", "record 256", "record 4 0", "bytes 0g", "boxes 1",
     ];
     for text in bad {
-        let (good, output, errors) = run("write", format!("box 1\n\n{text}\n").as_bytes())?;
+        let (good, output, errors) = tool("write", format!("box 1\n\n{text}\n").as_bytes())?;
         let said = errors.starts_with("standard input:3: ") && errors.lines().count() == 1;
         expect((good, output.len(), said), (false, 0, true), || format!("{text}: {errors}"))?;
     }
@@ -118,10 +118,13 @@ fn bad_texts() -> Result<u64, String> {
 }
 
 fn main() {
-    let mut tests = Tests::of("text");
-    tests.test("the examples", examples);
-    tests.test("files come back from their texts", files_come_back);
-    tests.test("statements", statements);
-    tests.test("bad texts", bad_texts);
-    tests.end()
+    common::run(
+        "text",
+        &[
+            ("the examples", examples),
+            ("files come back from their texts", files_come_back),
+            ("statements", statements),
+            ("bad texts", bad_texts),
+        ],
+    )
 }
