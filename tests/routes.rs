@@ -103,10 +103,17 @@ fn case(file: &[u8]) -> String {
 
 // Whether the last line is a polynomial that fits: monic, of the degree, annihilating the terms.
 fn fits(line: &str, p: u64, degree: usize, terms: &[u8]) -> bool {
-    let Some(words) = line.strip_prefix("poly ").and_then(|l| l.strip_suffix('\n')) else {
+    let Some(words) = line
+        .strip_prefix("poly ")
+        .and_then(|l| l.strip_suffix('\n'))
+    else {
         return false;
     };
-    let Ok(g) = words.split(' ').map(str::parse).collect::<Result<Vec<u8>, _>>() else {
+    let Ok(g) = words
+        .split(' ')
+        .map(str::parse)
+        .collect::<Result<Vec<u8>, _>>()
+    else {
         return false;
     };
     g.len() == degree + 1
@@ -227,7 +234,11 @@ fn term_records(random: &mut Random, terms: &[u8]) -> Vec<Record> {
     let mut records = vec![];
     let mut rest = terms;
     while !rest.is_empty() {
-        let n = if rest.len() >= 64 && random.below(40) > 0 { 64 } else { 1 };
+        let n = if rest.len() >= 64 && random.below(40) > 0 {
+            64
+        } else {
+            1
+        };
         records.push(Record::of(if n == 64 { 5 } else { 6 }, &rest[..n]));
         rest = &rest[n..];
     }
@@ -263,7 +274,9 @@ fn spoiled(random: &mut Random, c: &mut Contents) {
         0 => c.p = random.one_of(&NO_PRIMES) as u8,
         1 => c.terms.clear(),
         2 => c.terms.resize(random.between(4090, 4100) as usize, 0),
-        3 if n > 0 => c.terms[random.below(n as u64) as usize] = c.p.saturating_add(random.below(3) as u8),
+        3 if n > 0 => {
+            c.terms[random.below(n as u64) as usize] = c.p.saturating_add(random.below(3) as u8)
+        }
         4 => c.mode = random.one_of(&[0, 1, 2, 3, 4, 255]),
         5 => c.terms.truncate(random.below(n as u64 + 1) as usize),
         6 if n > 0 => {
@@ -275,7 +288,9 @@ fn spoiled(random: &mut Random, c: &mut Contents) {
             let i = random.below(c.factors.len() as u64) as usize;
             spoil_factor(random, c.p, &mut c.factors[i]);
         }
-        _ => c.factors.push(Factor::of_polynomial(&[1, 1], random.below(2) as u16)),
+        _ => c
+            .factors
+            .push(Factor::of_polynomial(&[1, 1], random.below(2) as u16)),
     }
 }
 
@@ -435,7 +450,9 @@ fn limit_of_bytes() -> Outcome {
         let file = route::file_of(&records);
         expect(file.len(), n, || "the size of a file".into())?;
         expect(check(&file)?, (n > 16384) as u64, || format!("{n} bytes"))?;
-        expect(check(&random.bytes(n))? > 0, true, || format!("{n} random bytes"))?;
+        expect(check(&random.bytes(n))? > 0, true, || {
+            format!("{n} random bytes")
+        })?;
         cases += 2;
     }
     Ok(cases)

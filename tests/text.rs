@@ -39,10 +39,15 @@ fn examples() -> Outcome {
             std::fs::read(&path).map_err(|e| format!("{path}: {e}"))
         };
         let (file, text) = (read("route")?, read("text")?);
-        expect(well("write", &text)?, file.clone(), || format!("the file of {name}"))?;
+        expect(well("write", &text)?, file.clone(), || {
+            format!("the file of {name}")
+        })?;
         let shown = String::from_utf8(well("show", &file)?).map_err(|e| e.to_string())?;
         let text = String::from_utf8(text).map_err(|e| e.to_string())?;
-        let statements: String = text.split_inclusive('\n').filter(|l| !l.starts_with('#')).collect();
+        let statements: String = text
+            .split_inclusive('\n')
+            .filter(|l| !l.starts_with('#'))
+            .collect();
         expect(shown, statements, || format!("the text of {name}"))?;
     }
     Ok(26)
@@ -54,7 +59,9 @@ fn random_record(random: &mut Random) -> Record {
     if kind == 4 && random.below(3) > 0 {
         let degree = random.below(34) as u8;
         body[0] = degree;
-        body.iter_mut().skip(3 + degree as usize).for_each(|c| *c = 0);
+        body.iter_mut()
+            .skip(3 + degree as usize)
+            .for_each(|c| *c = 0);
     }
     Record::of(kind, &body)
 }
@@ -66,7 +73,11 @@ fn files_come_back() -> Outcome {
         let mut records = vec![];
         for _ in 0..random.below(40) {
             let record = random_record(&mut random);
-            let times = if record.kind == 5 || record.kind == 6 { random.one_of(&[1, 2, 63, 64, 130]) } else { 1 };
+            let times = if record.kind == 5 || record.kind == 6 {
+                random.one_of(&[1, 2, 63, 64, 130])
+            } else {
+                1
+            };
             records.extend(vec![record; times]);
         }
         let mut file = route::file_of(&records);
@@ -76,7 +87,9 @@ fn files_come_back() -> Outcome {
             _ => {}
         }
         let text = well("show", &file)?;
-        expect(well("write", &text)?, file, || String::from_utf8_lossy(&text).into_owned())?;
+        expect(well("write", &text)?, file, || {
+            String::from_utf8_lossy(&text).into_owned()
+        })?;
     }
     Ok(RANDOM_FILES)
 }
@@ -87,32 +100,67 @@ fn statements() -> Outcome {
         ("", vec![]),
         ("box 258 # a comment", vec![1, 0, 0, 1, 2]),
         ("field 251", vec![2, 251]),
-        ("mode period\nmode set\nmode free\nmode 9", vec![3, 1, 3, 2, 3, 3, 3, 9]),
-        ("factor 260: 5 0 1", [vec![4, 2, 1, 4, 5], vec![0; 31]].concat()),
+        (
+            "mode period\nmode set\nmode free\nmode 9",
+            vec![3, 1, 3, 2, 3, 3, 3, 9],
+        ),
+        (
+            "factor 260: 5 0 1",
+            [vec![4, 2, 1, 4, 5], vec![0; 31]].concat(),
+        ),
         ("terms 7 8", vec![6, 7, 6, 8]),
-        (&format!("terms{}", " 3".repeat(65)), [vec![5], vec![3; 64], vec![6, 3]].concat()),
-        ("stop 0102030405 06 07 ff", vec![7, 1, 2, 3, 4, 5, 6, 7, 255]),
+        (
+            &format!("terms{}", " 3".repeat(65)),
+            [vec![5], vec![3; 64], vec![6, 3]].concat(),
+        ),
+        (
+            "stop 0102030405 06 07 ff",
+            vec![7, 1, 2, 3, 4, 5, 6, 7, 255],
+        ),
         ("end", vec![8]),
         ("record 200 00 ff", vec![200, 0, 255]),
         ("bytes 0aff", vec![10, 255]),
     ];
     let texts: Vec<&str> = cases.iter().map(|c| c.0).collect();
     let files: Vec<u8> = cases.iter().flat_map(|c| c.1.clone()).collect();
-    expect(well("write", texts.join("\n").as_bytes())?, files, || "all statements".into())?;
+    expect(well("write", texts.join("\n").as_bytes())?, files, || {
+        "all statements".into()
+    })?;
     Ok(cases.len() as u64)
 }
 
 // Bad text: nothing is written, and the error names the line.
 fn bad_texts() -> Outcome {
     let bad = [
-        "box", "box 1 2", "box 4294967296", "box -1", "field 256", "field x", "mode other", "factor 1 1 1",
-        "factor 65536: 1 1", "factor 1: 1 2", "factor 1:", "factor 1: 256 1", "terms", "terms 1 256", "stop 00",
-        "stop zz", "end 1", "record", "record 256", "record 4 0", "bytes 0g", "boxes 1",
+        "box",
+        "box 1 2",
+        "box 4294967296",
+        "box -1",
+        "field 256",
+        "field x",
+        "mode other",
+        "factor 1 1 1",
+        "factor 65536: 1 1",
+        "factor 1: 1 2",
+        "factor 1:",
+        "factor 1: 256 1",
+        "terms",
+        "terms 1 256",
+        "stop 00",
+        "stop zz",
+        "end 1",
+        "record",
+        "record 256",
+        "record 4 0",
+        "bytes 0g",
+        "boxes 1",
     ];
     for text in bad {
         let (good, output, errors) = tool("write", format!("box 1\n\n{text}\n").as_bytes())?;
         let said = errors.starts_with("standard input:3: ") && errors.lines().count() == 1;
-        expect((good, output.len(), said), (false, 0, true), || format!("{text}: {errors}"))?;
+        expect((good, output.len(), said), (false, 0, true), || {
+            format!("{text}: {errors}")
+        })?;
     }
     Ok(bad.len() as u64)
 }
