@@ -162,6 +162,9 @@ def limits(jobs):
     for kind in ('4,096 random terms', '4,096 terms of a register of degree 1,000'):
         j = by_name(jobs, 'free way, %s, GF(2)' % kind)
         row(j.name + ', over C plain', j.ratio('plain'), 1)
+    for j in jobs:
+        if j.way == 'irreducible':
+            row(j.name + ', over C tuned', j.ratio('tuned'), 2)
     return table(['Time of the rater', 'ratio', 'at most', ''], rows)
 
 
@@ -201,6 +204,11 @@ def memory(stacks):
             'is_irreducible': 'none', 'continue_sequence': 'the part that is filled'}
     rows = [['`%s`' % call, lent[call], '{:,}'.format(n)] for call, n in stacks.items()]
     return table(['Call', 'bytes lent', 'bytes of stack'], rows)
+
+
+def indented(path):
+    """The lines of a file, as they stand."""
+    return '\n'.join('    ' + line.rstrip() for line in open(path, encoding='utf-8'))
 
 
 def file_size(path):
@@ -468,6 +476,10 @@ What is asked of the peers here finds the shortest recurrence only where twice i
 
 {limits}
 
+The inner loops alone, by `bench/leaves`; sums of products and updates are to stay within a factor of two of C:
+
+{leaves}
+
 ## Growth
 
 Time at the larger number of terms over time at the smaller. The limit is the square of the growth of the terms for the free
@@ -493,8 +505,7 @@ Lines that are neither blank nor comments.
     bench/run --install     once: Debian's packages of NTL, FLINT and PARI
     bench/run               this page; the times of the proofs are those of the last check of all crates
     bench/run --proofs      the same, after proving every crate anew
-
-`bench/leaves` compares the inner loops alone.
+    bench/leaves            the inner loops alone
 '''
 
 
@@ -523,7 +534,8 @@ def main():
         load=open(BUILT + '/load.txt').read().strip(), passes=passes, rounds=rounds, agreement=said,
         times=main_table(jobs, routes), differences=differences(jobs), limits=limits(jobs), growth=growth(jobs),
         memory=memory(stacks), sizes=' '.join('%s has %s.' % s for s in sizes if s[1]),
-        crates=crates(), proofs=PROVED if seconds else 'The times of the proofs are not known here.')
+        leaves=indented(BUILT + '/leaves.txt'), crates=crates(),
+        proofs=PROVED if seconds else 'The times of the proofs are not known here.')
     print(parts['times'], parts['differences'], parts['limits'], parts['growth'], parts['memory'], parts['crates'],
           'Slower than a peer:\n' + parts['slower'], sep='\n\n')
     if agreed:

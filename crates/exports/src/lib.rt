@@ -1,4 +1,4 @@
-// The public calls for programs in other languages, on numbers and byte slices: each function is the call of crate
+// The public calls for programs in other languages, on numbers and on slices of numbers: each function is the call of crate
 // rater that it names, on every input. A call with refusals answers its status, which is 0 where it is accepted and
 // else the number of the refusal. What it answers beside goes into lent numbers, which a refusal leaves as they were.
 mod free;

@@ -23,7 +23,7 @@ use Rattle.meaning.specs.declared.FileOutcome.{FileOutcome}
 use Rattle.meaning.specs.declared.RecordOutcome.{RecordOutcome}
 use Rattle.meaning.specs.Result.{Result, refused, answered}
 use Rattle.meaning.specs.Power.{PowerFigures}
-use Rattle.meaning.specs.Free.{Choice, isUnique, Fits, ChosenFits}
+use Rattle.meaning.specs.Free.{Choice, FreeFigures, isUnique, Fits, ChosenFits}
 use Rattle.meaning.specs.Field.{prime}
 use Rattle.meaning.specs.Route.{RouteRecord, Mode, periodMode, setMode, freeMode, modeOf, byteOf}
 use Rattle.meaning.specs.File.{termsOf, FileChosenFits}
@@ -263,6 +263,10 @@ pub record WrongRaters : Type 0 where
       → answer′ ≡ 1 ∷ replicate 4098 7
       → PeriodCall 2 x²+1 (0 ∷ []) answer work (PowerRating.Refused Refusal.Reducible) answer′ work′
       → ⊥
+  -- answers row H with x², which fits the two terms, but with a degree that is not the least
+  pub degree-not-least : (answer′ work′ : List ℕ)
+      → FreeCall square 2 (1 ∷ 0 ∷ []) answer work (FreeRating.Several 2) answer′ work′
+      → ⊥
 
 -- a figure of a result, 1000 where it is refused
 figure : (PowerFigures → ℕ) → Result PowerFigures → ℕ
@@ -275,11 +279,15 @@ power-of r = figure (λ a. a .power) r
 bound-of : Result PowerFigures → ℕ
 bound-of r = figure (λ a. a .bound) r
 
+free-degree : Result FreeFigures → ℕ
+free-degree (refused n) = 1000
+free-degree (answered a) = a .degree
+
 differ : (m n : ℕ) → m ≡ n → eqb m n ≡ false → ⊥
 differ m n e h = eqb-false m n h e
 
 pub wrong-raters : WrongRaters
-unfolding computed figure power-of bound-of
+unfolding computed figure power-of bound-of free-degree
 wrong-raters =
     record {
       top-digit-only = λ a w c. differ 3 4 (ap power-of (c .rating)) refl;
@@ -293,4 +301,5 @@ wrong-raters =
       work-not-cleared = λ a c. differ 9 0 (ap (λ (l : List ℕ). getD l 0 0) (c .lent .workBytes)) refl;
       refused-and-written =
           λ a w e c. differ 1 7 (ap (λ (l : List ℕ). getD l 0 0) (sym e ∙ c .lent .answerBytes)) refl;
+      degree-not-least = λ a w c. differ 2 1 (ap free-degree (c .rating)) refl;
     }

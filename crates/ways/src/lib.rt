@@ -1,6 +1,6 @@
 // The period, portion and set ways on accepted input: from terms in lent bytes to the powers of the factors.
-// The first 8,192 work bytes are two halves of 4,096, they are the only room for terms, and each way leaves
-// them 0 and all beyond them as it was. Assumes a well-formed field and what each function says of its input.
+// The first 8,192 work bytes are two halves of 4,096, terms are stored there alone, and each way leaves them 0
+// and all beyond them as it was. Assumes a well-formed field and what each function says of its input.
 mod period;
 mod portion;
 
