@@ -4,11 +4,11 @@
 --   getD-paste-inside, -before, -after == the numbers of `paste l x t n`, which is l with the first n numbers
 --                          of t from place x on
 --   part-paste-inside, -before, -after == its parts: what was pasted, and parts apart from it
---   getD-scale, getD-plus, drop-plus == the numbers of c·a and of a + b; past the end of b a sum is a
+--   drop-plus            == past the end of b the sum a + b is a
 --   length-combined, getD-combined  == the length and the numbers of a + c·b
 --
 -- Assumes nothing.
-use Prim.Native.Nat.{ℕ, zero, suc, _+_, _-_, _≤_, _<_}
+use Prim.Native.Nat.{ℕ, _+_, _-_, _≤_, _<_}
 use mathlib.Core.Path.{_≡_, refl, sym, ap, _∙_}
 use mathlib.Core.List.{List, [], _∷_, _++_}
 use native.Mathlib.Nat.{not-suc-le-zero, le-of-suc-le-suc}
@@ -19,6 +19,7 @@ use lib.Seq.{ext-getD}
 use Rattle.meaning.specs.Field.{Field}
 use Rattle.meaning.specs.Polynomial.{plus, scale}
 use Rattle.bridge.proofs.Polynomials.{length-scale}
+use Rattle.bridge.proofs.Padding.{getD-plus, getD-scale, length-plus-left}
 use Rattle.arith.specs.Slices.{part, combined}
 
 -- Parts
@@ -89,30 +90,8 @@ module _ (l : List ℕ) (x : ℕ) (t : List ℕ) (n : ℕ) (h : x + n ≤ length
       part-equal (paste l x t n) l y y m (omega (arith, paste-length)) d
       (λ i b. getD-paste-after (y + i) (omega arith))
 
--- Multiples, sums, and a + c·b
+-- Sums, and a + c·b
 module _ (F : Field) where
-  pub getD-scale :
-      (c : ℕ) (l : List ℕ) (i : ℕ) → i < length l → getD (scale F c l) i 0 ≡ (F .mul) c (getD l i 0)
-  unfolding scale
-  getD-scale c [] i h = absurd (not-suc-le-zero h)
-  getD-scale c (a ∷ l) zero h = refl
-  getD-scale c (a ∷ l) (suc i) h = getD-scale c l i (le-of-suc-le-suc h)
-
-  pub getD-plus : (a b : List ℕ) (i : ℕ) → i < length a → i < length b
-      → getD (plus F a b) i 0 ≡ (F .add) (getD a i 0) (getD b i 0)
-  unfolding plus
-  getD-plus [] b i h k = absurd (not-suc-le-zero h)
-  getD-plus (x ∷ a) [] i h k = absurd (not-suc-le-zero k)
-  getD-plus (x ∷ a) (y ∷ b) zero h k = refl
-  getD-plus (x ∷ a) (y ∷ b) (suc i) h k = getD-plus a b i (le-of-suc-le-suc h) (le-of-suc-le-suc k)
-
-  length-plus : (a b : List ℕ) → length b ≤ length a → length (plus F a b) ≡ length a
-  unfolding plus
-  length-plus [] [] h = refl
-  length-plus [] (y ∷ b) h = absurd (not-suc-le-zero h)
-  length-plus (x ∷ a) [] h = refl
-  length-plus (x ∷ a) (y ∷ b) h = ap suc (length-plus a b (le-of-suc-le-suc h))
-
   pub drop-plus : (a b : List ℕ) → length b ≤ length a → drop (length b) (plus F a b) ≡ drop (length b) a
   unfolding plus
   drop-plus [] [] h = refl
@@ -122,12 +101,13 @@ module _ (F : Field) where
 
   module _ (a : List ℕ) (c : ℕ) (b : List ℕ) where
     pub length-combined : length b ≤ length a → length (combined F a c b) ≡ length a
-    length-combined h = length-plus a (scale F c b) (rw length-scale h)
+    length-combined h = length-plus-left F a (scale F c b) (rw length-scale h)
 
     pub getD-combined : (i : ℕ) → i < length a → i < length b
         → getD (combined F a c b) i 0 ≡ (F .add) (getD a i 0) ((F .mul) c (getD b i 0))
     getD-combined i h k =
-        getD-plus a (scale F c b) i h (rw length-scale k) ∙ ap ((F .add) (getD a i 0)) (getD-scale c b i k)
+        getD-plus F a (scale F c b) i h (rw length-scale k)
+        ∙ ap ((F .add) (getD a i 0)) (getD-scale F c b i k)
 
     pub drop-combined : length b ≤ length a → drop (length b) (combined F a c b) ≡ drop (length b) a
     drop-combined h = rw (← length-scale F c b) (drop-plus a (scale F c b) (rw length-scale h))

@@ -22,9 +22,10 @@ use lib.Seq.{paste, paste-zero, paste-suc}
 use Rattle.meaning.specs.Field.{Field}
 use Rattle.meaning.specs.Polynomial.{scale}
 use Rattle.bridge.proofs.Polynomials.{length-scale}
+use Rattle.bridge.proofs.Padding.{getD-scale}
 use Rattle.arith.specs.Slices.{part, combined}
 use Rattle.arith.proofs.Slices.{length-part, getD-part, getD-paste-before, getD-paste-after}
-use Rattle.arith.proofs.Slices.{getD-scale, length-combined, getD-combined, drop-combined}
+use Rattle.arith.proofs.Slices.{length-combined, getD-combined, drop-combined}
 
 pub record Writing (l : List ℕ) (x : ℕ) (t w : List ℕ) (i : ℕ) : Type 0 where
   pub within : x + i ≤ length l

@@ -10,7 +10,7 @@
 use Prim.Native.Nat.{ℕ, _≤_, _<_}
 use native.Mathlib.Omega.{arith}
 use mathlib.Core.Path.{_≡_, refl, sym, ap, subst, _∙_}
-use mathlib.Core.Bool.{Bool, true, false, not, _||_, true≢false}
+use mathlib.Core.Bool.{Bool, true, false, not, _||_}
 use mathlib.Core.List.{List, [], _∷_}
 use mathlib.Core.Option.{Option, some}
 use lib.ListN.{length}
@@ -29,6 +29,7 @@ use Rattle.meaning.specs.Period.{periodPower, periodTable, periodAnswer, ratePe
 use Rattle.meaning.specs.Portion.{setPowers, setRating, setTable, setAnswer, rateSet}
 use Rattle.meaning.specs.Portion.{factorTable, acceptedFactors, leastAt, portionTable, ratePortion}
 use Rattle.meaning.proofs.Tables.{NoneHolds, none-holds}
+use Rattle.meaning.proofs.ZeroPeriod.{of-one}
 use Rattle.bridge.proofs.Searches.{T-false, T-not-false, answered-settle, bind-some, mapOption-some}
 use Rattle.bridge.proofs.Searches.{false-T, not-false, or-false, some-bind, some-mapOption}
 use Rattle.bridge.proofs.Products.{factorsOf-named, length-named}
@@ -176,14 +177,6 @@ module _
     set-answer rs e = answered-settle _ _ none-of-set (mapOption-some (setRating (prime p) (named fs vs)) e)
 
 -- ONE FACTOR: what a list of one factor says of it
-of-one : {A : Type 0} (t : A → Bool) (a : A) → holdsForSome t (a ∷ []) ≡ false → t a ≡ false
-unfolding holdsForSome
-of-one t a h = go (t a) refl
-  where
-    go : (b : Bool) → t a ≡ b → t a ≡ false
-    go true e = absurd (true≢false (sym (rw (e, holdsForSome)) ∙ h))
-    go false e = e
-
 pub record Passes (p : ℕ) (f : Polynomial) (vs : List ℕ) : Type 0 where
   pub six : notPrime p ≡ false
   pub ten : factorDegreeOutOfRange (prime p) f ≡ false

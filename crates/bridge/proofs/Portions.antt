@@ -68,6 +68,17 @@ use Rattle.bridge.proofs.KnownActions.{actOnKnown-elements, length-actO
 use Rattle.bridge.proofs.KnownActions.{short-known, endless-part, strideOnKnown}
 use Rattle.bridge.proofs.PowerSearch.{Steps, powerFound, portion-search, prime-search}
 
+-- The first pairs, and one alone
+pub take-nonempties : (j : ℕ) (l : List (Polynomial × ℕ)) → Nonempties l → Nonempties (take j l)
+take-nonempties j l h i k =
+    let b : i < j = omega (arith, length-take j l) in
+    let c : i < length l = omega (arith, length-take j l) in
+    subst (λ f. 0 < length (f .0)) (sym (getD-take j l i ([], 0) b)) (h i c)
+
+pub single-nonempties : (f : Polynomial × ℕ) → 0 < length (f .0) → Nonempties (f ∷ [])
+single-nonempties f h zero k = h
+single-nonempties f h (suc i) k = absurd (omega arith)
+
 -- Products of powers that act
 module _ {F : Field} (I : IsField F) where
   pub actOnKnown-product-nil : (ts : List ℕ) → T (areElements F ts) → actOnKnown F (product F []) ts ≡ ts
@@ -84,16 +95,6 @@ module _ {F : Field} (I : IsField F) where
       ∙ actOnKnown-times I (power F f n) (product F l) ts (power-nonempty I f n k) (product-nonempty I l h)
 
   -- the first powers, and one more
-  take-nonempties : (j : ℕ) (l : List (Polynomial × ℕ)) → Nonempties l → Nonempties (take j l)
-  take-nonempties j l h i k =
-      let b : i < j = omega (arith, length-take j l) in
-      let c : i < length l = omega (arith, length-take j l) in
-      subst (λ f. 0 < length (f .0)) (sym (getD-take j l i ([], 0) b)) (h i c)
-
-  single-nonempties : (f : Polynomial × ℕ) → 0 < length (f .0) → Nonempties (f ∷ [])
-  single-nonempties f h zero k = h
-  single-nonempties f h (suc i) k = absurd (omega arith)
-
   pub actOnKnown-product-take :
       (j : ℕ) (l : List (Polynomial × ℕ)) (ts : List ℕ)
       → j < length l

@@ -31,7 +31,8 @@ use lib.Seq.{ext-getD}
 use lib.Dec.{T, eqb, eqb-refl}
 use Rattle.meaning.specs.Search.{range, holdsForAll, holdsForSome, least, mapOption, bind, isNone, together}
 use Rattle.meaning.specs.Result.{Check, Result, refused, answered, firstOf, settle, valueOf, mapResult}
-use Rattle.meaning.proofs.Tables.{firstOf-skip, NoneHolds, firstOf-none, none-holds, settle-none, least-zero}
+use Rattle.meaning.proofs.Tables.{firstOf-skip, firstOf-stop, firstOf-none, NoneHolds, none-holds}
+use Rattle.meaning.proofs.Tables.{settle-none, least-zero}
 use Rattle.algebra.proofs.Number.{Least}
 
 -- A test and its outcome
@@ -524,10 +525,6 @@ module _ {A : Type 0} where
       )
 
 -- Tables
-firstOf-stop : (c : Check) (table : List Check) → (c .1) tt ≡ true → firstOf (c ∷ table) ≡ some (c .0)
-unfolding firstOf
-firstOf-stop c table e = rw (e, firstOf)
-
 module _ {A : Type 0} (v : Unit {0} → Option A) where
   pub settle-nil : settle [] v ≡ valueOf (v tt)
   settle-nil = settle-none [] v (firstOf-none [] tt)

@@ -16,25 +16,13 @@ use borrow.Author.Tests.{ltb-false, eq-eqb, ne-eqb}
 use Rattle.meaning.specs.Search.{holdsForSome}
 use Rattle.meaning.specs.Polynomial.{Polynomial, degree}
 use Rattle.meaning.specs.Conditions.{named, totalDegree, upperPowersOutOfRange}
-use Rattle.meaning.specs.Portion.{factorsOf}
+use Rattle.bridge.proofs.Products.{length-named}
 use Rattle.factor_checks.specs.Contents.{contents}
 use Rattle.factor_checks.proofs.Scan.{Scan, some-scan, scan-found, scan-next, scan-over}
 use Rattle.factor_checks.proofs.Scan.{or-false-both}
 use Rattle.factor_checks.proofs.Contents.{nowhere, contents-length, contents-at}
 use Rattle.factor_checks.proofs.Capped.{capped-within, capped-beyond, capped-test}
 use Rattle.factor_checks.proofs.Capped.{sum-beyond, sum-within}
-
-pub named-length : (fs : List Polynomial) (us : List ℕ) → length (named fs us) ≡ length fs
-unfolding named
-named-length [] us = refl
-named-length (f ∷ fs) [] = ap suc (named-length fs [])
-named-length (f ∷ fs) (u ∷ us) = ap suc (named-length fs us)
-
-pub named-factors : (fs : List Polynomial) (us : List ℕ) → factorsOf (named fs us) ≡ fs
-unfolding named factorsOf
-named-factors [] us = refl
-named-factors (f ∷ fs) [] = ap (λ (l : List Polynomial). f ∷ l) (named-factors fs [])
-named-factors (f ∷ fs) (u ∷ us) = ap (λ (l : List Polynomial). f ∷ l) (named-factors fs us)
 
 named-at : (fs : List Polynomial) (us : List ℕ) (i : ℕ) → i < length fs
     → getD (named fs us) i ([], 0) ≡ (getD fs i [], getD us i 0)
@@ -47,7 +35,7 @@ named-at (f ∷ fs) (u ∷ us) (suc i) h = named-at fs us i (omega arith)
 
 -- The factors of a slice of slices with their upper powers.
 pub factors-length : (fs : List (RefT (List ℕ))) (us : List ℕ) → length (named (contents fs) us) ≡ length fs
-factors-length fs us = named-length (contents fs) us ∙ contents-length fs
+factors-length fs us = length-named (contents fs) us ∙ contents-length fs
 
 pub factor-at : (fs : List (RefT (List ℕ))) (us : List ℕ) (i : ℕ) → i < length fs
     → getD (named (contents fs) us) i ([], 0) ≡ (now (getD fs i nowhere), getD us i 0)

@@ -1,10 +1,10 @@
 -- The factors of a file place by place, by the bodies of its records: looking through them, a number of each,
 -- and their coefficients stored one factor after another.
 -- Assumes nothing.
-use Prim.Native.Nat.{ℕ, zero, suc, _+_, _≤_, _<_}
+use Prim.Native.Nat.{ℕ, suc, _+_, _≤_, _<_}
 use native.Mathlib.Numerals.{add-one}
 use native.Mathlib.Omega.{arith}
-use mathlib.Core.Path.{_≡_, refl, sym, ap, _∙_}
+use mathlib.Core.Path.{_≡_, sym, ap, _∙_}
 use mathlib.Core.Bool.{Bool, true, false}
 use mathlib.Core.List.{List, [], _∷_, _++_, map, flatten, map-map}
 use lib.ListN.{length, getD, take, drop, set, length-append, length-map, drop-of-length-le}
@@ -14,6 +14,7 @@ use Rattle.meaning.specs.Search.{holdsForSome}
 use Rattle.meaning.specs.Polynomial.{Polynomial}
 use Rattle.meaning.specs.Route.{bodies}
 use Rattle.meaning.specs.File.{WrittenFactor, fileFactor, polynomialOf}
+use Rattle.bridge.proofs.Monics.{getD-mapped}
 use Rattle.framing.specs.Framing.{recordsFrom}
 use Rattle.contents.specs.Contents.{LaidFactor}
 use Rattle.contents.proofs.Stores.{sets-append}
@@ -74,18 +75,12 @@ pub factors-over : (file : List ℕ) (i : ℕ) (t : WrittenFactor → Bool) {x :
     → false ≡ x
 factors-over file i t e h = scan-over (some-scan t) noFactor (factorsIn file) i e h
 
-getD-map-in : {A B : Type 0} (g : A → B) (l : List A) (i : ℕ) (a : A) (b : B) → i < length l
-    → getD (map g l) i b ≡ g (getD l i a)
-getD-map-in g [] i a b h = absurd (omega arith)
-getD-map-in g (x ∷ l) zero a b h = refl
-getD-map-in g (x ∷ l) (suc i) a b h = getD-map-in g l i a b (omega arith)
-
 -- the polynomials from i on: that of factor i, and then the others
 module _ (file : List ℕ) (i : ℕ) (body : List ℕ) (b : body ≡ getD (bodies 4 (recordsFrom file 0)) i [])
     (inside : i < length (factorsIn file)) where
   pub polynomial-at : (d : Polynomial) → getD (polynomialsIn file) i d ≡ polynomialOf (fileFactor body)
   polynomial-at d =
-      getD-map-in polynomialOf (factorsIn file) i noFactor d inside
+      getD-mapped polynomialOf (factorsIn file) i noFactor d inside
       ∙ ap polynomialOf (factor-body file i body b)
 
   polynomials-cons : drop i (polynomialsIn file)

@@ -8,8 +8,8 @@
 --
 -- Assumes nothing.
 use Prim.Native.Nat.{ℕ, _*_, _≤_, _<_}
-use mathlib.Core.Path.{_≡_, refl, sym, ap, subst, _∙_}
-use mathlib.Core.Bool.{Bool, true, false, _||_, true≢false}
+use mathlib.Core.Path.{_≡_, sym, ap, subst, _∙_}
+use mathlib.Core.Bool.{Bool, true, false}
 use mathlib.Core.List.{List}
 use mathlib.Core.Option.{none}
 use native.Mathlib.Decide.{decLt}
@@ -25,7 +25,7 @@ use Rattle.meaning.specs.Free.{isUnique, FreeFigures, ChosenFits, freeTable, ra
 use Rattle.meaning.specs.Answers.{toldFree}
 use Rattle.meaning.specs.Calls.{LentAfter, FreeCall}
 use Rattle.meaning.proofs.Tables.{NoneHolds, none-holds}
-use Rattle.bridge.proofs.Searches.{false-T, not-false, none-isNone}
+use Rattle.bridge.proofs.Searches.{false-T, not-false, or-false, none-isNone}
 use Rattle.bridge.proofs.Interpretation.{inRange-isField}
 use Rattle.bridge.proofs.Fitting.{le-isUnique, gt-isUnique}
 use Rattle.bridge.proofs.MasseySteps.{masseyPolynomial}
@@ -49,10 +49,6 @@ pub record FreeAccepted (p : ℕ) (ts : List ℕ) (answer work : ℕ) : Type 0 w
   pub answerRoom : 4097 ≤ answer
   pub workRoom : 8192 ≤ work
 
-both-false : (b c : Bool) → (b || c) ≡ false → (b ≡ false) × (c ≡ false)
-both-false true c e = absurd (true≢false e)
-both-false false c e = (refl, e)
-
 not-below : (m n : ℕ) → ltb m n ≡ false → n ≤ m
 not-below m n e = elim (decLt m n) [ yes l ↦ absurd (false-T e (lt→ltb m n l)) | no l ↦ omega arith ]
 
@@ -64,10 +60,10 @@ module _ (p : ℕ) (ts : List ℕ) (answer work : ℕ) (e : firstOf (freeTable p
   unfolding freeTable notPrime countOutOfRange lentTooShort
   free-accepted =
       let (a, (b, (_, (d, _)))) = free-passes in
-      let (x, y) = both-false (ltb answer 4097) (ltb work 8192) d in
+      let (x, y) = or-false (ltb answer 4097) (ltb work 8192) d in
       record {
         isPrime = not-false (primeInRange p) a;
-        count = not-below 4096 (length ts) (both-false (eqb (length ts) 0) (ltb 4096 (length ts)) b .1);
+        count = not-below 4096 (length ts) (or-false (eqb (length ts) 0) (ltb 4096 (length ts)) b .1);
         answerRoom = not-below answer 4097 x;
         workRoom = not-below work 8192 y;
       }

@@ -14,7 +14,7 @@ pub firstOf-skip : (c : Check) (table : List Check) → (c .1) tt ≡ false → 
 unfolding firstOf
 firstOf-skip c table e = rw (e, firstOf)
 
-firstOf-stop : (c : Check) (table : List Check) → (c .1) tt ≡ true → firstOf (c ∷ table) ≡ some (c .0)
+pub firstOf-stop : (c : Check) (table : List Check) → (c .1) tt ≡ true → firstOf (c ∷ table) ≡ some (c .0)
 unfolding firstOf
 firstOf-stop c table e = rw (e, firstOf)
 

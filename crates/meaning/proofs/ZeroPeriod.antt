@@ -56,7 +56,7 @@ terms-pass zero n h = absurd (true≢false h)
 terms-pass (suc p) n h = rw (zeros-elements p n)
 
 -- of one factor, a test of the whole list is a test of it
-of-one : {A : Type 0} (t : A → Bool) (a : A) → holdsForSome t (a ∷ []) ≡ false → t a ≡ false
+pub of-one : {A : Type 0} (t : A → Bool) (a : A) → holdsForSome t (a ∷ []) ≡ false → t a ≡ false
 unfolding holdsForSome
 of-one t a h = go (t a) refl
   where

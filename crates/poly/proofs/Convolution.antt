@@ -25,7 +25,7 @@ use Rattle.bridge.proofs.Polynomials.{length-scale, scale-elements, times-eleme
 use Rattle.bridge.proofs.Polynomials.{elements-nil, elements-cons, elements-uncons}
 use Rattle.bridge.proofs.Spread.{spread}
 use Rattle.bridge.proofs.Actions.{known-getD}
-use Rattle.arith.proofs.Slices.{getD-scale}
+use Rattle.bridge.proofs.Padding.{getD-scale}
 use Rattle.poly.specs.Convolution.{convolved}
 use Rattle.poly.proofs.Rows.{times-spread-cons, times-spread-one}
 

@@ -12,8 +12,8 @@ use mathlib.Core.List.{List, [], _∷_, _++_}
 use native.Mathlib.Nat as ℕ
 use native.Mathlib.Numerals.{add-one}
 use native.Mathlib.Omega.{arith}
-use lib.ListN.{length, getD, take, drop, set, length-append, length-drop, length-take, length-set}
-use lib.Seq.{take-suc, getD-take, take-length, drop-append-add, drop-drop, take-append-seam, set-set}
+use lib.ListN.{length, getD, take, drop, set, length-append, length-drop, length-set}
+use lib.Seq.{take-suc, take-length, drop-append-add, drop-drop, take-append-seam, set-set}
 use lib.Dec.{T}
 use Rattle.meaning.specs.Field.{Field, areElements}
 use Rattle.meaning.specs.Polynomial.{Polynomial, degree, isMonicOver, times, power, product}
@@ -24,21 +24,12 @@ use Rattle.bridge.proofs.Polynomials.{monic-nonempty, monic-elements, degree-le
 use Rattle.bridge.proofs.Products.{factorAt, powerAt, Nonempties, length-named, factorAt-named, powerAt-named}
 use Rattle.bridge.proofs.Products.{product-nil, product-nonempty, product-elements, product-append}
 use Rattle.bridge.proofs.Products.{product-single, degree-product, degree-power, power-nonempty, times-comm}
+use Rattle.bridge.proofs.Portions.{take-nonempties, single-nonempties}
 use Rattle.poly.specs.Product.{Raising, Multiplied}
 use Rattle.powers.specs.Writing.{ProductInput, ProductWritten, PowerInput, PowerWritten}
 use Rattle.powers.proofs.Totals.{total-take, total-part}
 
 -- The first pairs
-take-nonempties : (j : ℕ) (l : List (Polynomial × ℕ)) → Nonempties l → Nonempties (take j l)
-take-nonempties j l h i k =
-    let b : i < j = omega (arith, length-take j l) in
-    let c : i < length l = omega (arith, length-take j l) in
-    subst (λ f. 0 < length (f .0)) (sym (getD-take j l i ([], 0) b)) (h i c)
-
-single-nonempties : (f : Polynomial × ℕ) → 0 < length (f .0) → Nonempties (f ∷ [])
-single-nonempties f h zero k = h
-single-nonempties f h (suc i) k = absurd (omega arith)
-
 product-take :
     {F : Field} (I : IsField F) (j : ℕ) (l : List (Polynomial × ℕ))
     → j < length l

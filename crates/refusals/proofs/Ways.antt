@@ -14,7 +14,7 @@ use Rattle.meaning.specs.Conditions.{factorDegreeOutOfRange, notMonic}
 use Rattle.meaning.specs.Result.{Check}
 use Rattle.meaning.specs.Period.{periodTable}
 use Rattle.meaning.specs.Portion.{portionTable, setTable, factorsOf}
-use Rattle.factor_checks.proofs.Uppers.{named-length, named-factors}
+use Rattle.bridge.proofs.Products.{length-named, factorsOf-named}
 use Rattle.refusals.specs.Verdicts.{termsTable, oneFactorTable, factorsTable, powersTable, allButLast}
 use Rattle.refusals.specs.Verdicts.{periodChecks, portionChecks, setChecks}
 
@@ -51,8 +51,8 @@ module _ (p : ℕ) (ts : List ℕ) (answer work : ℕ) where
       ap
       (λ (n : ℕ). termsTable p ts
       ++ (looked n (factorsOf (named fs us)) fs ++ powersTable (named fs us) ts answer work))
-      (named-length fs us)
+      (length-named fs us)
       ∙ ap
       (λ (gs : List Polynomial). termsTable p ts
       ++ (looked (length fs) gs fs ++ powersTable (named fs us) ts answer work))
-      (named-factors fs us)
+      (factorsOf-named fs us)

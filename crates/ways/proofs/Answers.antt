@@ -26,7 +26,7 @@ use Rattle.meaning.specs.Result.{cleared}
 use Rattle.meaning.specs.Conditions.{named, totalDegree}
 use Rattle.meaning.specs.Portion.{withPower, leastAt, setPowers}
 use Rattle.meaning.specs.Answers.{padded}
-use Rattle.bridge.proofs.Searches.{mapOption-some}
+use Rattle.bridge.proofs.Searches.{mapOption-none, mapOption-some}
 use Rattle.bridge.proofs.Interpretation.{IsField}
 use Rattle.bridge.proofs.Products.{Nonempties, monics-nonempty}
 use Rattle.bridge.proofs.Continuations.{take-elements}
@@ -155,10 +155,6 @@ told-none : (r : SetPowers) → r .annihilated ≡ false → toldPowers r ≡ no
 unfolding toldPowers
 told-none r h = rw (h, toldPowers)
 
-mapped-none : {A B : Type 0} (f : A → B) → mapOption f none ≡ none
-unfolding mapOption
-mapped-none f = refl
-
 some-none : {A : Type 0} {a : A} → ¬ (_≡_ {A = Option A} (some a) none)
 some-none {A} {a} e = let z : _≡_ {A = ℕ} 0 1 = cc in omega arith
 
@@ -182,7 +178,7 @@ module _ {F : Field} (I : IsField F) {fs : List Polynomial} {us ts w w′ : List
           (sym (told-some r e)
           ∙ y .powers
           ∙ ap (mapOption padded) (powersFound-none F (named fs us) ts h)
-          ∙ mapped-none padded))
+          ∙ mapOption-none padded))
       go false true e h =
           absurd (some-none
           (sym (mapOption-some padded (setPowers-exists I (named fs us) nonempties ts .1))
