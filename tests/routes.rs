@@ -11,7 +11,8 @@ use common::route::{self, Contents, Factor, Record};
 use common::sequence;
 use common::{expect, primes, run, Outcome, NO_PRIMES};
 use std::collections::BTreeMap;
-use std::io::Write;
+use std::io::{Seek, SeekFrom, Write};
+use std::os::unix::fs::FileExt;
 use std::process::{Child, Command, Stdio};
 
 const PROGRAM: &str = "target/bin/rate";
@@ -347,31 +348,48 @@ fn examples() -> Outcome {
     Ok(names.len() as u64)
 }
 
+// Rates files with such contents, and sees to it that at least a quarter of those of each mode are rated.
+fn check_all(
+    count: u64,
+    random: &mut Random,
+    mut make: impl FnMut(&mut Random, u64) -> Contents,
+) -> Outcome {
+    let mut rated = [(0, 0); 4];
+    for i in 0..count {
+        let c = make(random, i);
+        let (all, good) = &mut rated[c.mode as usize];
+        *all += 1;
+        *good += (check(&file_of(random, &c))? == 0) as u64;
+    }
+    match rated[1..]
+        .iter()
+        .all(|(all, good)| *all > 0 && 4 * good >= *all)
+    {
+        true => Ok(count),
+        false => Err(format!(
+            "files of the modes, and those of them that were rated: {rated:?}"
+        )),
+    }
+}
+
 fn valid_files() -> Outcome {
     let mut random = Random::of_seed(1);
-    let mut rated = 0;
-    for _ in 0..RANDOM_FILES {
-        let c = some_contents(&mut random, 120);
-        rated += (check(&file_of(&mut random, &c))? == 0) as u64;
-    }
-    if 2 * rated < RANDOM_FILES {
-        return Err(format!("only {rated} of {RANDOM_FILES} files were rated"));
-    }
-    Ok(RANDOM_FILES)
+    check_all(RANDOM_FILES, &mut random, |random, _| {
+        some_contents(random, 120)
+    })
 }
 
 fn long_files() -> Outcome {
     let mut random = Random::of_seed(2);
-    for i in 0..LONG_FILES {
-        let mut c = some_contents(&mut random, 4096);
+    check_all(LONG_FILES, &mut random, |random, i| {
+        let mut c = some_contents(random, 4096);
         if i % 4 == 0 {
             let p = random.one_of(&primes());
-            c = free_contents(&mut random, p, 4096);
+            c = free_contents(random, p, 4096);
             c.terms = random.elements(p, 4096);
         }
-        check(&file_of(&mut random, &c))?;
-    }
-    Ok(LONG_FILES)
+        c
+    })
 }
 
 // Files with one fault or several: each refusal that a file can meet comes up, and every answer is right.
@@ -502,6 +520,71 @@ fn unreadable_input() -> Outcome {
     Ok(3)
 }
 
+// Reading that fails midway: the bytes up to the end of this program's stack, as a file of its memory, and then none. What
+// was read until then is rated.
+fn failing_input() -> Outcome {
+    let maps = std::fs::read_to_string("/proc/self/maps").map_err(|e| e.to_string())?;
+    let stack = maps
+        .lines()
+        .find(|l| l.ends_with("[stack]"))
+        .ok_or("no stack")?;
+    let end = stack
+        .split(['-', ' '])
+        .nth(1)
+        .ok_or("no end of the stack")?;
+    let end = u64::from_str_radix(end, 16).map_err(|e| e.to_string())?;
+    for n in [1, 30] {
+        let mut memory = std::fs::File::open("/proc/self/mem").map_err(|e| e.to_string())?;
+        let mut bytes = vec![0; n];
+        memory
+            .read_exact_at(&mut bytes, end - n as u64)
+            .map_err(|e| e.to_string())?;
+        expect(memory.read_at(&mut [0], end).is_err(), true, || {
+            "reading beyond".into()
+        })?;
+        memory
+            .seek(SeekFrom::Start(end - n as u64))
+            .map_err(|e| e.to_string())?;
+        compare(&bytes, &ended(started(memory.into())?)?)?;
+    }
+    Ok(2)
+}
+
+// The command ./rate: a file by its name, standard input, and what it says where there is none to rate.
+fn command() -> Outcome {
+    let ran = |arguments: &[&str], input: Stdio| {
+        let output = Command::new("./rate").args(arguments).stdin(input).output();
+        let output = output.map_err(|e| format!("./rate: {e}"))?;
+        let text = |bytes: Vec<u8>| String::from_utf8_lossy(&bytes).into_owned();
+        Ok::<_, String>((
+            output.status.code(),
+            text(output.stdout),
+            text(output.stderr),
+        ))
+    };
+    let file = std::fs::read("examples/e.route").map_err(|e| e.to_string())?;
+    let opened = || std::fs::File::open("examples/e.route").map_err(|e| e.to_string());
+    for (code, lines, errors) in [
+        ran(&["examples/e.route"], Stdio::null())?,
+        ran(&[], opened()?.into())?,
+    ] {
+        expect((code, errors.as_str()), (Some(0), ""), || "./rate".into())?;
+        compare(&file, &lines)?;
+    }
+    for arguments in [
+        &["examples/none.route"][..],
+        &["examples"],
+        &["examples/e.route", "examples/a.route"],
+    ] {
+        let (code, lines, errors) = ran(arguments, Stdio::null())?;
+        let said = errors.starts_with("rate: ") && errors.lines().count() == 1;
+        expect((code, lines.as_str(), said), (Some(2), "", true), || {
+            format!("{arguments:?}")
+        })?;
+    }
+    Ok(5)
+}
+
 fn main() {
     run(
         "routes",
@@ -515,6 +598,8 @@ fn main() {
             ("random bytes", random_bytes),
             ("input in pieces", pieces),
             ("input that cannot be read", unreadable_input),
+            ("input that fails midway", failing_input),
+            ("the command ./rate", command),
         ],
     )
 }

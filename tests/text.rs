@@ -155,14 +155,19 @@ fn bad_texts() -> Outcome {
         "bytes 0g",
         "boxes 1",
     ];
-    for text in bad {
+    let long = format!("box {}", "9".repeat(5000));
+    for text in bad.into_iter().chain([long.as_str()]) {
         let (good, output, errors) = tool("write", format!("box 1\n\n{text}\n").as_bytes())?;
         let said = errors.starts_with("standard input:3: ") && errors.lines().count() == 1;
         expect((good, output.len(), said), (false, 0, true), || {
             format!("{text}: {errors}")
         })?;
     }
-    Ok(bad.len() as u64)
+    let file = std::fs::read("examples/a.route").map_err(|e| e.to_string())?;
+    let (good, output, errors) = tool("write", &file)?;
+    let said = errors.starts_with("standard input: this is no text");
+    expect((good, output.len(), said), (false, 0, true), || errors)?;
+    Ok(bad.len() as u64 + 2)
 }
 
 fn main() {
