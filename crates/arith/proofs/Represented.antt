@@ -5,19 +5,49 @@
 --   size-prime        == the size is prime
 --   size-least, size-most == and from 2 to 251
 --   remainder-small   == a remainder by the size is below 251
+--   element-remainder == the element that a number stands for is its remainder by the size
+--   element-zero, element-again == 0 and elements stand for themselves
+--   element-add-product == a + c·b in plain numbers stands for a + c·b in the field
+--   element-below, element-small == such an element is below the size, and so below 251
 --
 -- Assumes nothing.
-use Prim.Native.Nat.{ℕ, _%_, _≤_, _<_}
-use mathlib.Core.Path.{_≡_}
-use native.Mathlib.Nat.{mod-lt}
+use Prim.Native.Nat.{ℕ, _+_, _*_, _%_, _≤_, _<_}
+use mathlib.Core.Path.{_≡_, sym, ap, subst, _∙_}
+use native.Mathlib.Nat.{mod-lt, mod-mod, zero-mod}
 use native.Mathlib.Omega.{arith}
 use Rattle.bridge.proofs.Interpretation.{IsField, Prime, prime-size, inRange-isField, inRange-prime}
-use Rattle.arith.specs.Represented.{fieldOf, WellFormed}
+use Rattle.bridge.proofs.Interpretation.{prime-add, prime-add-product, prime-add-remainder}
+use Rattle.arith.specs.Represented.{fieldOf, elementOf, WellFormed}
 use Rattle.arith.specs.declared.field.GaloisField.{GaloisField}
 
 pub field-size : (f : GaloisField) → fieldOf f .size ≡ f .size
 unfolding fieldOf
 field-size f = prime-size (f .size)
+
+module _ (f : GaloisField) where
+  pub element-remainder : (n : ℕ) → elementOf (fieldOf f) n ≡ n % f .size
+  unfolding elementOf fieldOf
+  element-remainder n =
+      let plain : n + 0 ≡ n = omega arith in prime-add (f .size) n 0 ∙ ap (λ m. m % f .size) plain
+
+  pub element-zero : elementOf (fieldOf f) 0 ≡ 0
+  element-zero = element-remainder 0 ∙ zero-mod (f .size)
+
+  pub element-again : (n : ℕ) → elementOf (fieldOf f) (elementOf (fieldOf f) n) ≡ elementOf (fieldOf f) n
+  element-again n =
+      element-remainder (elementOf (fieldOf f) n)
+      ∙ ap (λ m. m % f .size) (element-remainder n)
+      ∙ mod-mod n (f .size)
+      ∙ sym (element-remainder n)
+
+  pub element-add-product :
+      (a c b : ℕ)
+      → elementOf (fieldOf f) (a + c * b) ≡ (fieldOf f .add) (elementOf (fieldOf f) a) ((fieldOf f .mul) c b)
+  unfolding fieldOf
+  element-add-product a c b =
+      element-remainder (a + c * b)
+      ∙ sym (prime-add-remainder (f .size) a _ ∙ prime-add-product (f .size) a c b)
+      ∙ sym (ap (λ m. (fieldOf f .add) m ((fieldOf f .mul) c b)) (element-remainder a))
 
 module _ {f : GaloisField} (w : WellFormed f) where
   pub field-isField : IsField (fieldOf f)
@@ -35,3 +65,10 @@ module _ {f : GaloisField} (w : WellFormed f) where
 
   pub remainder-small : (x : ℕ) → x % f .size < 251
   remainder-small x = omega (arith, size-most, mod-lt x {m = f .size} (omega (arith, size-least)))
+
+  pub element-below : (n : ℕ) → elementOf (fieldOf f) n < fieldOf f .size
+  element-below n =
+      omega (arith, field-size f, element-remainder f n, mod-lt n {m = f .size} (omega (arith, size-least)))
+
+  pub element-small : (n : ℕ) → elementOf (fieldOf f) n < 251
+  element-small n = omega (arith, size-most, field-size f, element-below n)

@@ -1,6 +1,7 @@
 -- What the contracts of crate arith cite: the field that a struct `GaloisField` stands for.
 --
 --   fieldOf f         == the field that f stands for
+--   elementOf F n     == the element of F that the number n stands for: n + 0 in F
 --   WellFormed f      == the size of f is a prime in range, and its multiplier is right: so is whatever the
 --                        constructor makes, and every operation requires it
 --   FieldOfPrime p f  == f is well-formed and stands for GF(p)
@@ -12,6 +13,9 @@ use Rattle.arith.specs.declared.field.GaloisField.{GaloisField}
 
 unfoldable pub fieldOf : GaloisField → Field
 fieldOf f = prime (f .size)
+
+unfoldable pub elementOf : Field → ℕ → ℕ
+elementOf F n = (F .add) n 0
 
 pub record WellFormed (f : GaloisField) : Type 0 where
   pub sizeIsPrime : T (primeInRange (f .size))

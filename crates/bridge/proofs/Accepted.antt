@@ -147,7 +147,7 @@ module _
                   (
                     n .1 .1 .1 .0,
                     (
-                      ap (holdsForSome (isReducible (prime p))) (factorsOf-named fs vs) ∙ n .1 .1 .1 .1 .0,
+                      ap (holdsForSome (isReducible p)) (factorsOf-named fs vs) ∙ n .1 .1 .1 .1 .0,
                       (
                         ap twoEqual (factorsOf-named fs vs) ∙ n .1 .1 .1 .1 .1 .0,
                         (
@@ -181,7 +181,7 @@ pub record Passes (p : ℕ) (f : Polynomial) (vs : List ℕ) : Type 0 where
   pub six : notPrime p ≡ false
   pub ten : factorDegreeOutOfRange (prime p) f ≡ false
   pub eleven : notMonic (prime p) f ≡ false
-  pub twelve : isReducible (prime p) f ≡ false
+  pub twelve : isReducible p f ≡ false
   pub fourteen : upperPowersOutOfRange (named (f ∷ []) vs) ≡ false
 
 pub one-passes : (p : ℕ) (f : Polynomial) (vs : List ℕ) → T (acceptedFactors p (f ∷ []) vs) → Passes p f vs
@@ -192,7 +192,7 @@ one-passes p f vs h =
       six = n .0;
       ten = of-one (factorDegreeOutOfRange (prime p)) f (n .1 .1 .0);
       eleven = of-one (notMonic (prime p)) f (n .1 .1 .1 .0);
-      twelve = of-one (isReducible (prime p)) f (n .1 .1 .1 .1 .0);
+      twelve = of-one (isReducible p) f (n .1 .1 .1 .1 .0);
       fourteen = n .1 .1 .1 .1 .1 .1 .0;
     }
 

@@ -15,7 +15,8 @@
 --   irreducible-constant == an irreducible list other than x has a constant term other than 0, so that
 --                        `irreducible-x` tells x by its constant term
 --   Factors F fs      == monic irreducible lists of positive degree, no two of them equal
---   accepted-factors  == factors that 10, 11, 12 and 13 let pass are so; `accepted-different` says it of the
+--   reducible-asked   == 12 of a factor that 6, 10 and 11 let pass; unasked-by-six, … == of one that they do not
+--   accepted-factors  == factors that 6 and 10 to 13 let pass are so; `accepted-different` says it of the
 --                        factors that `acceptedFactors` accepts
 --   factors-atoms     == and their polynomials are coprime atoms
 --
@@ -37,7 +38,7 @@ use Rattle.meaning.specs.Polynomial.{Polynomial, degree, isMonicOver, plus, sca
 use Rattle.meaning.specs.Polynomial.{hasFactorOf, leading, irreducible, NotAProduct}
 use Rattle.meaning.specs.Power.{isX}
 use Rattle.meaning.specs.Conditions.{factorDegreeOutOfRange, degreeOutOfRange, notPrime, notMonic, named}
-use Rattle.meaning.specs.Conditions.{upperPowersOutOfRange, isReducible, twoEqual}
+use Rattle.meaning.specs.Conditions.{upperPowersOutOfRange, isAsked, isReducible, twoEqual}
 use Rattle.meaning.specs.Portion.{factorsOf, factorTable, acceptedFactors}
 use Rattle.meaning.proofs.Tables.{NoneHolds, none-holds}
 use Rattle.algebra.proofs.Ring.{Ring, zero-add}
@@ -536,25 +537,62 @@ unfolding factorDegreeOutOfRange
 accepted-degree F [] l h = absurd (not-suc-le-zero l)
 accepted-degree F (c ∷ f) l h = degree-passed F (degree (c ∷ f)) h
 
-pub accepted-irreducible : (F : Field) (f : Polynomial) → isReducible F f ≡ false → T (irreducible F f)
-unfolding isReducible
-accepted-irreducible F f h = not-false (irreducible F f) h
+-- 12 of a factor that 6, 10 and 11 let pass, and of one that one of them turns down
+module _ (p : ℕ) (f : Polynomial) where
+    pub reducible-asked :
+        notPrime p ≡ false
+        → factorDegreeOutOfRange (prime p) f ≡ false
+        → notMonic (prime p) f ≡ false
+        → isReducible p f ≡ not (irreducible (prime p) f)
+    unfolding isReducible isAsked
+    reducible-asked six ten eleven = rw (six, ten, eleven, isReducible, isAsked)
+
+    pub unasked-by-six : notPrime p ≡ true → isReducible p f ≡ false
+    unfolding isReducible isAsked
+    unasked-by-six six = rw (six, isReducible, isAsked)
+
+    pub unasked-by-ten :
+        notPrime p ≡ false → factorDegreeOutOfRange (prime p) f ≡ true → isReducible p f ≡ false
+    unfolding isReducible isAsked
+    unasked-by-ten six ten = rw (six, ten, isReducible, isAsked)
+
+    pub unasked-by-eleven :
+        notPrime p ≡ false
+        → factorDegreeOutOfRange (prime p) f ≡ false
+        → notMonic (prime p) f ≡ true
+        → isReducible p f ≡ false
+    unfolding isReducible isAsked
+    unasked-by-eleven six ten eleven = rw (six, ten, eleven, isReducible, isAsked)
+
+    pub accepted-irreducible :
+        notPrime p ≡ false
+        → factorDegreeOutOfRange (prime p) f ≡ false
+        → notMonic (prime p) f ≡ false
+        → isReducible p f ≡ false
+        → T (irreducible (prime p) f)
+    accepted-irreducible six ten eleven twelve =
+        not-false (irreducible (prime p) f) (sym (reducible-asked six ten eleven) ∙ twelve)
 
 pub accepted-factors :
-    (F : Field) (fs : List Polynomial)
-    → holdsForSome (factorDegreeOutOfRange F) fs ≡ false
-    → holdsForSome (notMonic F) fs ≡ false
-    → holdsForSome (isReducible F) fs ≡ false
+    (p : ℕ) (fs : List Polynomial)
+    → notPrime p ≡ false
+    → holdsForSome (factorDegreeOutOfRange (prime p)) fs ≡ false
+    → holdsForSome (notMonic (prime p)) fs ≡ false
+    → holdsForSome (isReducible p) fs ≡ false
     → twoEqual fs ≡ false
-    → Factors F fs
-accepted-factors F fs ten eleven twelve thirteen =
+    → Factors (prime p) fs
+accepted-factors p fs six ten eleven twelve thirteen =
     record {
       monic = monic-at;
       positive =
           λ i l.
-          accepted-degree F (getD fs i []) (monic-nonempty F (getD fs i []) (monic-at i l))
-          (passed (factorDegreeOutOfRange F) ten i l);
-      irreducibles = λ i l. accepted-irreducible F (getD fs i []) (passed (isReducible F) twelve i l);
+          accepted-degree (prime p) (getD fs i []) (monic-nonempty (prime p) (getD fs i []) (monic-at i l))
+          (passed (factorDegreeOutOfRange (prime p)) ten i l);
+      irreducibles =
+          λ i l.
+          accepted-irreducible p (getD fs i []) six (passed (factorDegreeOutOfRange (prime p)) ten i l)
+          (passed (notMonic (prime p)) eleven i l)
+          (passed (isReducible p) twelve i l);
       different = twoEqual-different fs thirteen;
     }
   where
@@ -566,8 +604,8 @@ accepted-factors F fs ten eleven twelve thirteen =
         → t (getD fs i []) ≡ false
     passed t e i l = T-false (none-member t fs (false-T e) (getD fs i []) (getD-member fs i [] l))
 
-    monic-at : (i : ℕ) → i < length fs → T (isMonicOver F (getD fs i []))
-    monic-at i l = accepted-monic F (getD fs i []) (passed (notMonic F) eleven i l)
+    monic-at : (i : ℕ) → i < length fs → T (isMonicOver (prime p) (getD fs i []))
+    monic-at i l = accepted-monic (prime p) (getD fs i []) (passed (notMonic (prime p)) eleven i l)
 
 pub single-factor :
     (F : Field) (f : Polynomial)
@@ -600,7 +638,8 @@ module _ (p : ℕ) (fs : List Polynomial) (us : List ℕ) (accepted : T (accepte
   pub accepted-different : Factors (prime p) fs
   unfolding factorTable
   accepted-different =
-      accepted-factors (prime p) fs
+      accepted-factors p fs
+      (none-of-table .0)
       (none-of-table .1 .1 .0)
       (none-of-table .1 .1 .1 .0)
       (none-of-table .1 .1 .1 .1 .0)

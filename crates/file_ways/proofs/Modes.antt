@@ -64,7 +64,7 @@ module _ (p : ℕ) (fs : List WrittenFactor) (ts : List ℕ) (answer work : ℕ)
   -- the tables by their parts: 6, 7, 8; 9, 10 and 11; the others
   periodRest : List Check
   periodRest =
-      (12, λ _. isReducible (prime p) first)
+      (12, λ _. isReducible p first)
       ∷ (16, λ _. lentTooShort answer work)
       ∷ (17, λ _. isNone (periodPower (prime p) first ts))
       ∷ []
@@ -76,7 +76,7 @@ module _ (p : ℕ) (fs : List WrittenFactor) (ts : List ℕ) (answer work : ℕ)
 
   setRest : List Check
   setRest =
-      (12, λ _. holdsForSome (isReducible (prime p)) (factorsOf pairs))
+      (12, λ _. holdsForSome (isReducible p) (factorsOf pairs))
       ∷ (13, λ _. twoEqual (factorsOf pairs))
       ∷ (14, λ _. upperPowersOutOfRange pairs)
       ∷ (15, λ _. fewerTermsThan (totalDegree pairs) ts)

@@ -14,7 +14,8 @@ use Rattle.meaning.specs.Result.{answerAfter, workAfter}
 use Rattle.meaning.specs.Conditions.{named, totalDegree, notPrime, countOutOfRange, placeOutOfRange}
 use Rattle.meaning.specs.Conditions.{termOutOfField, factorCountOutOfRange, degreeOutOfRange}
 use Rattle.meaning.specs.Conditions.{factorDegreeOutOfRange, continuationDegreeOutOfRange, notMonic}
-use Rattle.meaning.specs.Conditions.{isReducible, twoEqual, upperPowersOutOfRange, fewerTermsThan}
+use Rattle.meaning.specs.Conditions.{isAsked, isReducible, twoEqual, upperPowersOutOfRange}
+use Rattle.meaning.specs.Conditions.{fewerTermsThan}
 use Rattle.meaning.specs.Conditions.{startUnlikeDegree, lentTooShort, acceptedLent}
 use Rattle.meaning.specs.Power.{isX, repeatBound, powerRating}
 use Rattle.meaning.specs.Period.{periodPower, periodTable, periodAnswer, ratePeriod}
@@ -71,7 +72,8 @@ unfolding named totalDegree notPrime countOutOfRange placeOutOfRange termOutOfFi
 openConditions-1 = tt
 
 unfoldable pub openConditions-2 : Unit {0}
-unfolding degreeOutOfRange factorDegreeOutOfRange continuationDegreeOutOfRange notMonic isReducible twoEqual
+unfolding degreeOutOfRange factorDegreeOutOfRange continuationDegreeOutOfRange notMonic isAsked isReducible
+    twoEqual
 openConditions-2 = tt
 
 unfoldable pub openConditions-3 : Unit {0}

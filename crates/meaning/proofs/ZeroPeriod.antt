@@ -68,7 +68,7 @@ pub record Passed (p : ℕ) (f : Polynomial) : Type 0 where
   pub six : notPrime p ≡ false
   pub ten : factorDegreeOutOfRange (prime p) f ≡ false
   pub eleven : notMonic (prime p) f ≡ false
-  pub twelve : isReducible (prime p) f ≡ false
+  pub twelve : isReducible p f ≡ false
 
 accepted-passed : (p : ℕ) (f : Polynomial) → T (acceptedFactors p (f ∷ []) (1 ∷ [])) → Passed p f
 unfolding acceptedFactors factorTable

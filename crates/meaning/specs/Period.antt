@@ -33,7 +33,7 @@ periodTable p ten eleven f ts answer work =
     ∷ (8, λ _. termOutOfField (prime p) ts)
     ∷ (10, λ _. ten)
     ∷ (11, λ _. eleven)
-    ∷ (12, λ _. isReducible (prime p) f)
+    ∷ (12, λ _. isReducible p f)
     ∷ (16, λ _. lentTooShort answer work)
     ∷ (17, λ _. isNone (periodPower (prime p) f ts))
     ∷ []

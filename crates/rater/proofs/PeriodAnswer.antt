@@ -90,7 +90,10 @@ module _ (p : ℕ) (f : Polynomial) (ts : List ℕ) (answer work : ℕ) where
           record {
             monic = factor-monic period-factor;
             positive = factor-positive period-factor;
-            irreducibility = accepted-irreducible (prime p) f (period-passed .1 .1 .1 .1 .1 .0);
+            irreducibility = 
+                accepted-irreducible p f (period-passed .0) (period-passed .1 .1 .1 .0)
+                (period-passed .1 .1 .1 .1 .0)
+                (period-passed .1 .1 .1 .1 .1 .0);
             short = omega (arith, accepted-short period-factor);
             inField = terms-accepted p ts (period-passed .1 .1 .0);
             atLeastOne = some-terms;

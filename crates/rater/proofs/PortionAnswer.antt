@@ -123,7 +123,9 @@ module _ (p : ℕ) (f : Polynomial) (u : ℕ) (ts : List ℕ) (answer work : ℕ
           record {
             factors =
                 single-factor (prime p) f (factor-monic portion-factor) (factor-positive portion-factor)
-                (accepted-irreducible (prime p) f (portion-passed .1 .1 .1 .1 .1 .0));
+                (accepted-irreducible p f (portion-passed .0) (portion-passed .1 .1 .1 .0)
+                (portion-passed .1 .1 .1 .1 .0)
+                (portion-passed .1 .1 .1 .1 .1 .0));
             eight = omega arith;
             uppers = portion-passed .1 .1 .1 .1 .1 .1 .0;
             enough = enough-accepted _ ts (portion-passed .1 .1 .1 .1 .1 .1 .1 .0);

@@ -142,8 +142,8 @@ module _ (p : ℕ) (fs : List Polynomial) (us ts answer work : List ℕ) {v : Ve
         let few = ltb-false 8 n (or-false (eqb n 0) (ltb 8 n) (passed .1 .1 .1 .0) .1) in
         record {
           factors =
-              accepted-factors (prime p) fs (passed .1 .1 .1 .1 .0) (passed .1 .1 .1 .1 .1 .0)
-              (ap (holdsForSome (isReducible (prime p))) (sym (factorsOf-named fs us))
+              accepted-factors p fs (passed .0) (passed .1 .1 .1 .1 .0) (passed .1 .1 .1 .1 .1 .0)
+              (ap (holdsForSome (isReducible p)) (sym (factorsOf-named fs us))
               ∙ passed .1 .1 .1 .1 .1 .1 .0)
               (ap twoEqual (sym (factorsOf-named fs us)) ∙ passed .1 .1 .1 .1 .1 .1 .1 .0);
           eight = omega (arith, length-named fs us, few);

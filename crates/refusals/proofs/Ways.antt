@@ -39,7 +39,7 @@ module _ (p : ℕ) (ts : List ℕ) (answer work : ℕ) where
       (9, λ _. factorCountOutOfRange n)
       ∷ (10, λ _. holdsForSome (factorDegreeOutOfRange (prime p)) fs)
       ∷ (11, λ _. holdsForSome (notMonic (prime p)) fs)
-      ∷ (12, λ _. holdsForSome (isReducible (prime p)) gs)
+      ∷ (12, λ _. holdsForSome (isReducible p) gs)
       ∷ (13, λ _. twoEqual gs)
       ∷ []
 

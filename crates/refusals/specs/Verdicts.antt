@@ -43,7 +43,7 @@ unfoldable pub oneFactorTable : ℕ → Polynomial → List Check
 oneFactorTable p f =
     (10, λ _. factorDegreeOutOfRange (prime p) f)
     ∷ (11, λ _. notMonic (prime p) f)
-    ∷ (12, λ _. isReducible (prime p) f)
+    ∷ (12, λ _. isReducible p f)
     ∷ []
 
 unfoldable pub factorsTable : ℕ → List Polynomial → List Check
@@ -51,7 +51,7 @@ factorsTable p fs =
     (9, λ _. factorCountOutOfRange (length fs))
     ∷ (10, λ _. holdsForSome (factorDegreeOutOfRange (prime p)) fs)
     ∷ (11, λ _. holdsForSome (notMonic (prime p)) fs)
-    ∷ (12, λ _. holdsForSome (isReducible (prime p)) fs)
+    ∷ (12, λ _. holdsForSome (isReducible p) fs)
     ∷ (13, λ _. twoEqual fs)
     ∷ []
 

@@ -22,7 +22,7 @@ ghost use Rattle.refusals.specs.Verdicts.{numberIn, oneFactorTable, fact
 // 12: the factor, which 6, 10 and 11 do not turn down, is reducible.
 pub fn reducible(p: u64, factor: &[u8]) -> bool
     requires { ⌜ Accepted p (now factor) ⌝ }
-    ensures { λ r. ⌜ r ≡ isReducible (prime p) (now (factor .entry)) ⌝ }
+    ensures { λ r. ⌜ r ≡ isReducible p (now (factor .entry)) ⌝ }
 {
     !is_irreducible(p, factor)
 }
@@ -30,7 +30,7 @@ pub fn reducible(p: u64, factor: &[u8]) -> bool
 // 12: a factor is reducible; 6, 10 and 11 turn none down.
 pub fn some_reducible(p: u64, factors: &[&[u8]]) -> bool
     requires { ⌜ AllAccepted p (contents (now factors)) ⌝ }
-    ensures { λ r. ⌜ r ≡ holdsForSome (isReducible (prime p)) (contents (now (factors .entry))) ⌝ }
+    ensures { λ r. ⌜ r ≡ holdsForSome (isReducible p) (contents (now (factors .entry))) ⌝ }
 {
     let mut i = 0;
     // none before i: the factors from i on decide

@@ -82,7 +82,7 @@ one-factor-of :
     → notPrime p ≡ false
     → factorDegreeOutOfRange (GF p) f ≡ false
     → notMonic (GF p) f ≡ false
-    → isReducible (GF p) f ≡ false
+    → isReducible p f ≡ false
     → OneFactor p f
 one-factor-of p f six ten eleven twelve =
     let m = accepted-monic (GF p) f eleven in
@@ -92,7 +92,7 @@ one-factor-of p f six ten eleven twelve =
       ten = ten;
       monic = m;
       positive = accepted-degree (GF p) f (monic-nonempty (GF p) f m) ten;
-      irreducibility = accepted-irreducible (GF p) f twelve;
+      irreducibility = accepted-irreducible p f six ten eleven twelve;
     }
 
 pub one-factor : (p : ℕ) (f : Polynomial) (vs : List ℕ) → T (acceptedFactors p (f ∷ []) vs) → OneFactor p f
@@ -302,7 +302,7 @@ module _ (p : ℕ) (fs : List Polynomial) (vs ts answer work : List ℕ) (r : Se
     unfolding setTable
     set-factors h =
         let same = factorsOf-named fs vs in
-        accepted-factors (GF p) (factorsOf l)
+        accepted-factors p (factorsOf l) (h .0)
         (ap (holdsForSome (factorDegreeOutOfRange (GF p))) same ∙ h .1 .1 .1 .1 .0)
         (ap (holdsForSome (notMonic (GF p))) same ∙ h .1 .1 .1 .1 .1 .0)
         (h .1 .1 .1 .1 .1 .1 .0)

@@ -16,8 +16,8 @@ use Rattle.refusals.proofs.factors.some_reducible.Tie as tie
 
 abbrev Inv-loop : tie.InvT-loop
 Inv-loop p factors i₀ i =
-    holdsForSome (isReducible (prime p)) (drop i (contents factors))
-    ≡ holdsForSome (isReducible (prime p)) (contents factors)
+    holdsForSome (isReducible p) (drop i (contents factors))
+    ≡ holdsForSome (isReducible p) (contents factors)
 
 abbrev μ-loop : tie.MeasureT-loop
 μ-loop p factors i₀ i = length factors - i
