@@ -47,7 +47,7 @@ use Rattle.algebra.proofs.Irreducible.{Reducible, Irreducible, irreducible-degr
 use Rattle.algebra.proofs.Irreducible.{irreducibles-atoms}
 use Rattle.algebra.proofs.PowerProduct.{CoprimeAtoms}
 use Rattle.bridge.proofs.Searches.{T-same, T-decided, T-false, false-T, not-false, some-range}
-use Rattle.bridge.proofs.Searches.{range-some, none-member, getD-member}
+use Rattle.bridge.proofs.Searches.{range-some, none-member, none-at, getD-member}
 use Rattle.bridge.proofs.Interpretation.{IsField, size-positive, mul-below, number-add-zero}
 use Rattle.bridge.proofs.Interpretation.{number-zero-mul}
 use Rattle.bridge.proofs.Polynomials.{polyRing, poly, poly-times, monic-poly, monic-list, monic-equal}
@@ -539,39 +539,39 @@ accepted-degree F (c ∷ f) l h = degree-passed F (degree (c ∷ f)) h
 
 -- 12 of a factor that 6, 10 and 11 let pass, and of one that one of them turns down
 module _ (p : ℕ) (f : Polynomial) where
-    pub reducible-asked :
-        notPrime p ≡ false
-        → factorDegreeOutOfRange (prime p) f ≡ false
-        → notMonic (prime p) f ≡ false
-        → isReducible p f ≡ not (irreducible (prime p) f)
-    unfolding isReducible isAsked
-    reducible-asked six ten eleven = rw (six, ten, eleven, isReducible, isAsked)
+  pub reducible-asked :
+      notPrime p ≡ false
+      → factorDegreeOutOfRange (prime p) f ≡ false
+      → notMonic (prime p) f ≡ false
+      → isReducible p f ≡ not (irreducible (prime p) f)
+  unfolding isReducible isAsked
+  reducible-asked six ten eleven = rw (six, ten, eleven, isReducible, isAsked)
 
-    pub unasked-by-six : notPrime p ≡ true → isReducible p f ≡ false
-    unfolding isReducible isAsked
-    unasked-by-six six = rw (six, isReducible, isAsked)
+  pub unasked-by-six : notPrime p ≡ true → isReducible p f ≡ false
+  unfolding isReducible isAsked
+  unasked-by-six six = rw (six, isReducible, isAsked)
 
-    pub unasked-by-ten :
-        notPrime p ≡ false → factorDegreeOutOfRange (prime p) f ≡ true → isReducible p f ≡ false
-    unfolding isReducible isAsked
-    unasked-by-ten six ten = rw (six, ten, isReducible, isAsked)
+  pub unasked-by-ten :
+      notPrime p ≡ false → factorDegreeOutOfRange (prime p) f ≡ true → isReducible p f ≡ false
+  unfolding isReducible isAsked
+  unasked-by-ten six ten = rw (six, ten, isReducible, isAsked)
 
-    pub unasked-by-eleven :
-        notPrime p ≡ false
-        → factorDegreeOutOfRange (prime p) f ≡ false
-        → notMonic (prime p) f ≡ true
-        → isReducible p f ≡ false
-    unfolding isReducible isAsked
-    unasked-by-eleven six ten eleven = rw (six, ten, eleven, isReducible, isAsked)
+  pub unasked-by-eleven :
+      notPrime p ≡ false
+      → factorDegreeOutOfRange (prime p) f ≡ false
+      → notMonic (prime p) f ≡ true
+      → isReducible p f ≡ false
+  unfolding isReducible isAsked
+  unasked-by-eleven six ten eleven = rw (six, ten, eleven, isReducible, isAsked)
 
-    pub accepted-irreducible :
-        notPrime p ≡ false
-        → factorDegreeOutOfRange (prime p) f ≡ false
-        → notMonic (prime p) f ≡ false
-        → isReducible p f ≡ false
-        → T (irreducible (prime p) f)
-    accepted-irreducible six ten eleven twelve =
-        not-false (irreducible (prime p) f) (sym (reducible-asked six ten eleven) ∙ twelve)
+  pub accepted-irreducible :
+      notPrime p ≡ false
+      → factorDegreeOutOfRange (prime p) f ≡ false
+      → notMonic (prime p) f ≡ false
+      → isReducible p f ≡ false
+      → T (irreducible (prime p) f)
+  accepted-irreducible six ten eleven twelve =
+      not-false (irreducible (prime p) f) (sym (reducible-asked six ten eleven) ∙ twelve)
 
 pub accepted-factors :
     (p : ℕ) (fs : List Polynomial)
@@ -602,7 +602,7 @@ accepted-factors p fs six ten eleven twelve thirteen =
         → (i : ℕ)
         → i < length fs
         → t (getD fs i []) ≡ false
-    passed t e i l = T-false (none-member t fs (false-T e) (getD fs i []) (getD-member fs i [] l))
+    passed t e i l = none-at t [] fs i e l
 
     monic-at : (i : ℕ) → i < length fs → T (isMonicOver (prime p) (getD fs i []))
     monic-at i l = accepted-monic (prime p) (getD fs i []) (passed (notMonic (prime p)) eleven i l)

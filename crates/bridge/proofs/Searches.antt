@@ -4,6 +4,7 @@
 --   T-same         == two tests that pass together are equal
 --   all-member, member-all   == a test passes on the whole of a list exactly where it passes on each member
 --   some-member, member-some == it passes on some element exactly where it passes on a member, given with it
+--   none-at        == a test that passes on no element fails at each place
 --   all-range, range-all, some-range, range-some == the same for a range, by its bounds; `-first` from 0 on
 --   least-some     == what `least` finds is the least number that passes, and at most the bound
 --   least-none     == where it finds none, no number up to the bound passes
@@ -155,6 +156,13 @@ pub getD-member : {A : Type 0} (l : List A) (i : ℕ) (d : A) → i < length l �
 getD-member [] i d k = absurd (not-suc-le-zero k)
 getD-member (a ∷ l) zero d k = List·Memᴰ·head refl
 getD-member (a ∷ l) (suc i) d k = List·Memᴰ·tail (getD-member l i d (le-of-suc-le-suc k))
+
+pub none-at :
+    {A : Type 0} (t : A → Bool) (d : A) (l : List A) (i : ℕ)
+    → holdsForSome t l ≡ false
+    → i < length l
+    → t (getD l i d) ≡ false
+none-at t d l i e k = T-false (none-member t l (false-T e) (getD l i d) (getD-member l i d k))
 
 -- The searches depend on the values of the test at the members alone
 module _ {A : Type 0} (t u : A → Bool) (l : List A) (same : (a : A) → List·Memᴰ a l → t a ≡ u a) where

@@ -1,7 +1,6 @@
 -- The factors in a slice of slices, place by place, and looking through them.
 --
 --   nowhere          == what a place past the end of a slice of slices reads as: the empty list
---   factor-fails     == a test that no factor passes fails at each
 -- Assumes nothing.
 use Prim.Native.Nat.{ℕ, _+_, _≤_, _<_}
 use mathlib.Core.Path.{_≡_}
@@ -12,7 +11,7 @@ use denote.Ref.{RefT, now}
 use Rattle.meaning.specs.Search.{holdsForSome}
 use Rattle.meaning.specs.Polynomial.{Polynomial}
 use Rattle.factor_checks.specs.Contents.{contents}
-use Rattle.factor_checks.proofs.Scan.{Scan, scan-found, scan-next, scan-over, some-fails}
+use Rattle.factor_checks.proofs.Scan.{Scan, scan-found, scan-next, scan-over}
 
 abbrev pub nowhere : RefT (List ℕ)
 nowhere = record { ptr = (0, 0); name = 0; now = [] }
@@ -38,9 +37,3 @@ module _ {R : List Polynomial → Bool} {t : Polynomial → List Polynomial → 
 
   pub factors-over : length fs ≤ i → false ≡ x
   factors-over h = scan-over scan [] (contents fs) i e (rw contents-length h)
-
-pub factor-fails : (t : Polynomial → Bool) (fs : List (RefT (List ℕ))) (i : ℕ)
-    → holdsForSome t (contents fs) ≡ false
-    → i < length fs
-    → t (now (getD fs i nowhere)) ≡ false
-factor-fails t fs i e h = rw contents-at at (some-fails t [] (contents fs) i e (rw contents-length h))

@@ -15,7 +15,7 @@ use lib.Seq.{drop-cons}
 use Rattle.meaning.specs.Search.{holdsForSome}
 use Rattle.meaning.specs.Polynomial.{same}
 use Rattle.meaning.specs.Conditions.{twoEqual}
-use Rattle.checks.proofs.Tests.{either}
+use Rattle.number_checks.proofs.Tests.{either}
 
 pub record Scan {A : Type 0} (R : List A → Bool) (t : A → List A → Bool) : Type 0 where
   pub nil : R [] ≡ false
@@ -43,18 +43,3 @@ module _ {A : Type 0} {R : List A → Bool} {t : A → List A → Bool} (scan : 
 
   pub scan-over : length l ≤ i → false ≡ x
   scan-over h = sym (scan .nil) ∙ ap R (sym (drop-of-length-le l h)) ∙ e
-
--- A test that no element passes fails at each.
-pub or-false-both : (a b : Bool) → a || b ≡ false → (a ≡ false) × (b ≡ false)
-or-false-both true b h = (h, cc)
-or-false-both false b h = (refl, h)
-
-pub some-fails : {A : Type 0} (t : A → Bool) (d : A) (l : List A) (i : ℕ) → holdsForSome t l ≡ false
-    → i < length l
-    → t (getD l i d) ≡ false
-some-fails t d [] i e h = absurd (omega arith)
-some-fails t d (a ∷ l) zero e h = or-false-both (t a) (holdsForSome t l) (sym (some-scan t .cons a l) ∙ e) .0
-some-fails t d (a ∷ l) (suc i) e h =
-    some-fails t d l i
-    (or-false-both (t a) (holdsForSome t l) (sym (some-scan t .cons a l) ∙ e) .1)
-    (omega arith)

@@ -17,9 +17,9 @@ use Rattle.meaning.specs.Search.{holdsForSome}
 use Rattle.meaning.specs.Polynomial.{Polynomial, degree}
 use Rattle.meaning.specs.Conditions.{named, totalDegree, upperPowersOutOfRange}
 use Rattle.bridge.proofs.Products.{length-named}
+use Rattle.bridge.proofs.Accepted.{total-accepted}
 use Rattle.factor_checks.specs.Contents.{contents}
 use Rattle.factor_checks.proofs.Scan.{Scan, some-scan, scan-found, scan-next, scan-over}
-use Rattle.factor_checks.proofs.Scan.{or-false-both}
 use Rattle.factor_checks.proofs.Contents.{nowhere, contents-length, contents-at}
 use Rattle.factor_checks.proofs.Capped.{capped-within, capped-beyond, capped-test}
 use Rattle.factor_checks.proofs.Capped.{sum-beyond, sum-within}
@@ -113,10 +113,6 @@ module _ (l : List (Polynomial × ℕ)) where
   unfolding upperPowersOutOfRange
   large-total h e = rw (h, e) (capped-test (totalDegree l))
 
-  total-limit : upperPowersOutOfRange l ≡ false → totalDegree l ≤ 4096
-  unfolding upperPowersOutOfRange
-  total-limit h = ltb-false 4096 (totalDegree l) (or-false-both (holdsForSome (λ f. eqb (f .1) 0) l) _ h .1)
-
   pub total-known : upperPowersOutOfRange l ≡ false
       → (totalDegree l ≤ 4096) × (min (totalDegree l) 4097 ≡ totalDegree l)
-  total-known h = (total-limit h, sym (capped-within (totalDegree l) (total-limit h)))
+  total-known h = let k = total-accepted l h in (k, sym (capped-within (totalDegree l) k))

@@ -1,8 +1,8 @@
 // The conditions over all factors of a set, each a list of coefficients, with their upper powers: one function each,
 // for any slices of any length; no lent byte is changed. A factor without an upper power has 0, and further upper
 // powers belong to no factor.
-use checks::lists::factor_degree_out_of_range;
-use checks::lists::not_monic;
+use list_checks::factor_degree_out_of_range;
+use list_checks::not_monic;
 use poly::same;
 ghost use mathlib.Core.Path.{_≡_};
 ghost use Prim.Native.Nat.{_*_, min};

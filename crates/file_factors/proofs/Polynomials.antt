@@ -21,8 +21,8 @@ use Rattle.meaning.specs.File.{WrittenFactor, fileFactor, polynomialOf, fileDeg
 use Rattle.bridge.proofs.Searches.{or-false, T-not-false, not-false}
 use Rattle.bridge.proofs.Interpretation.{IsField}
 use Rattle.bridge.proofs.Polynomials.{elements-cons, elements-uncons, one-elements}
-use Rattle.checks.proofs.Tests.{degree-tests}
-use Rattle.checks.proofs.Coefficients.{list-degree, leading-last}
+use Rattle.number_checks.proofs.Tests.{degree-tests}
+use Rattle.list_checks.proofs.Coefficients.{list-degree, leading-last}
 use Rattle.factor_checks.proofs.Scan.{some-scan}
 use Rattle.framing.specs.Framing.{orElse, bodyLength, recordsFrom}
 use Rattle.file_factors.specs.Written.{factorsIn, noFactor}

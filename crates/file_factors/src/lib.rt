@@ -1,7 +1,7 @@
 // The factors of a file: 10 and 11 as a file meets them, and the factors as lists of coefficients in lent
 // bytes. A `count` is the number of the factors of the file.
-use checks::files::file_degree_out_of_range;
-use checks::files::file_not_monic;
+use checks::file_degree_out_of_range;
+use checks::file_not_monic;
 use contents::lay_factor;
 use contents::upper_power;
 use framing::body_of;

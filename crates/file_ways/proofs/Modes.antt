@@ -30,7 +30,7 @@ use Rattle.meaning.specs.File.{ofPeriod, ofSet, ofFree, rateMode}
 use Rattle.meaning.specs.Answers.{numberOf}
 use Rattle.bridge.proofs.Accepted.{prime-accepted}
 use Rattle.bridge.proofs.Interpretation.{IsField, inRange-isField}
-use Rattle.factor_checks.proofs.Scan.{some-fails}
+use Rattle.bridge.proofs.Searches.{none-at}
 use Rattle.refusals.specs.declared.Verdict.{Verdict}
 use Rattle.refusals.specs.Verdicts.{numberIn, termsTable}
 use Rattle.refusals.proofs.Order.{first-skip, refused-before, refused-second}
@@ -162,8 +162,8 @@ module _ (p : ℕ) (fs : List WrittenFactor) (ts : List ℕ) (answer work : ℕ)
               rw (
                 passed .0,
                 passed .1,
-                some-fails (factorDegreeOutOfRange (prime p)) [] (map polynomialOf fs) 0 list-ten n,
-                some-fails (notMonic (prime p)) [] (map polynomialOf fs) 0 list-eleven n,
+                none-at (factorDegreeOutOfRange (prime p)) [] (map polynomialOf fs) 0 list-ten n,
+                none-at (notMonic (prime p)) [] (map polynomialOf fs) 0 list-eleven n,
               )
 
           pub set-way : (pick : Choice)

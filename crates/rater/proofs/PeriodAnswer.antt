@@ -90,7 +90,7 @@ module _ (p : ℕ) (f : Polynomial) (ts : List ℕ) (answer work : ℕ) where
           record {
             monic = factor-monic period-factor;
             positive = factor-positive period-factor;
-            irreducibility = 
+            irreducibility =
                 accepted-irreducible p f (period-passed .0) (period-passed .1 .1 .1 .0)
                 (period-passed .1 .1 .1 .1 .0)
                 (period-passed .1 .1 .1 .1 .1 .0);

@@ -75,18 +75,6 @@ module _ (A B : List Check) {v : Verdict} (e : numberIn v ≡ firstOf A) where
   unfolding numberIn
   accepted-before q = told-before A B v e ∙ ap (λ (x : Verdict). otherwise (numberIn x) (firstOf B)) q
 
--- What is accepted by a table does not meet its first condition.
-not-picked : (b : Bool) (n : ℕ) (y : Option ℕ) → pick b n y ≡ none → b ≡ false
-not-picked true n y h = cc
-not-picked false n y h = refl
-
-pub accepted-first : (c : Check) (A : List Check) {v : Verdict} → numberIn v ≡ firstOf (c ∷ A)
-    → v ≡ Verdict.Accepted
-    → (c .1) tt ≡ false
-unfolding numberIn
-accepted-first c A e q =
-    not-picked ((c .1) tt) (c .0) (firstOf A) (sym (first-cons c A) ∙ sym e ∙ ap numberIn q)
-
 -- Two verdicts, u by the table A and v by the table B, before a table C.
 module _ (A B C : List Check) {u v : Verdict} (eu : numberIn u ≡ firstOf A) (ev : numberIn v ≡ firstOf B)
     (first : u ≡ Verdict.Accepted) where

@@ -1,7 +1,6 @@
 -- What the contracts of the verdicts cite beside crate meaning.
 --
 --   numberIn v         == the number of the refusal that a verdict tells, or none
---   AllAccepted p fs   == 6, 10 and 11 turn down neither p nor a factor
 --   termsTable p ts    == the refusals 6, 7 and 8, with which every way of rating begins
 --   oneFactorTable p f    == the refusals 10, 11 and 12 of one factor
 --   factorsTable p fs  == the refusals 9 to 13 of several factors
@@ -29,11 +28,6 @@ use Rattle.refusals.specs.declared.Verdict.{Verdict}
 unfoldable pub numberIn : Verdict → Option ℕ
 numberIn Verdict.Accepted = none
 numberIn (Verdict.Refused r) = some (numberOf r)
-
-pub record AllAccepted (p : ℕ) (fs : List Polynomial) : Type 0 where
-  pub fieldExists : notPrime p ≡ false
-  pub degreesInRange : holdsForSome (factorDegreeOutOfRange (prime p)) fs ≡ false
-  pub monicOver : holdsForSome (notMonic (prime p)) fs ≡ false
 
 unfoldable pub termsTable : ℕ → List ℕ → List Check
 termsTable p ts =

@@ -3,18 +3,17 @@
 pub mod factors;
 pub mod ratings;
 
-use arith::prime_in_range;
-use checks::lists::continuation_degree_out_of_range;
-use checks::lists::factor_degree_out_of_range;
-use checks::lists::not_monic;
-use checks::lists::start_unlike_degree;
-use checks::lists::term_out_of_field;
-use checks::numbers::count_out_of_range;
-use checks::numbers::lent_too_short;
-use checks::numbers::place_out_of_range;
+use checks::continuation_degree_out_of_range;
+use checks::count_out_of_range;
+use checks::factor_degree_out_of_range;
+use checks::lent_too_short;
+use checks::not_monic;
+use checks::not_prime;
+use checks::place_out_of_range;
+use checks::start_unlike_degree;
+use checks::term_out_of_field;
 use meaning::Refusal;
 ghost use mathlib.Core.Path.{_≡_};
-ghost use Rattle.meaning.specs.Conditions.{notPrime};
 ghost use Rattle.meaning.specs.Result.{firstOf};
 ghost use Rattle.meaning.specs.Free.{freeTable};
 ghost use Rattle.meaning.specs.Continuation.{continueTable};
@@ -25,13 +24,6 @@ ghost use Rattle.refusals.specs.Verdicts.{numberIn, termsTable};
 pub enum Verdict {
     Accepted,
     Refused(Refusal),
-}
-
-// 6: p is not a prime from 2 to 251.
-pub fn not_prime(p: u64) -> bool
-    ensures { λ r. ⌜ r ≡ notPrime p ⌝ }
-{
-    !prime_in_range(p)
 }
 
 // 6, 7, 8: what all ways of rating meet first.

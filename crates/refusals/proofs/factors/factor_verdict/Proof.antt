@@ -56,13 +56,7 @@ returns-2 c =
     ∙ sym (passed-1 (c .before .before))
 
 reducible-requires : tie.Need-reducible-requires
-reducible-requires c κs =
-    let e = c .before .before in
-    record {
-      fieldExists = e .before .before .before .pre;
-      degreeInRange = sym (e .before .factor-degree-out-of-range .ensures) ∙ e .if1 .left;
-      monicOver = sym (c .before .not-monic .ensures) ∙ c .if2 .left;
-    }
+reducible-requires c κs = search needs
 
 returns-3 : tie.Need-returns-3
 unfolding numberIn numberOf oneFactorTable

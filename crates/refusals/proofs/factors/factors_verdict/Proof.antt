@@ -95,13 +95,7 @@ returns-3 c =
     ∙ sym (passed-2 (c .before .before))
 
 some-reducible-requires : tie.Need-some-reducible-requires
-some-reducible-requires c κs =
-    let e = c .before .before in
-    record {
-      fieldExists = e .before .before .before .before .pre;
-      degreesInRange = sym (e .before .some-degree-out-of-range .ensures) ∙ e .if2 .left;
-      monicOver = sym (c .before .some-not-monic .ensures) ∙ c .if3 .left;
-    }
+some-reducible-requires c κs = search needs
 
 returns-4 : tie.Need-returns-4
 unfolding numberIn numberOf factorsTable

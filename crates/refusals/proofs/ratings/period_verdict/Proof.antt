@@ -9,7 +9,7 @@ use Rattle.meaning.specs.Answers.{numberOf}
 use Rattle.refusals.specs.Verdicts.{numberIn, termsTable, oneFactorTable, periodChecks}
 use Rattle.refusals.proofs.Order.{first-here, first-skip, first-nowhere}
 use Rattle.refusals.proofs.Ways.{lentTable, period-parts}
-use Rattle.refusals.proofs.Order.{refused-before, accepted-first, refused-second, accepted-both}
+use Rattle.refusals.proofs.Order.{refused-before, refused-second, accepted-both}
 use Rattle.refusals.proofs.ratings.period_verdict.Statement.{statement}
 use Rattle.refusals.proofs.ratings.period_verdict.Tie as tie
 
@@ -40,9 +40,7 @@ enum-told : tie.Need-enum-told
 enum-told c = search needs
 
 factor-verdict-requires : tie.Need-factor-verdict-requires
-unfolding termsTable
-factor-verdict-requires c κs =
-    accepted-first _ _ (c .before .before .terms-verdict .ensures) (c .enum-told .given .1)
+factor-verdict-requires c κs = search needs
 
 enum-known-r-2 : tie.Need-enum-known-r-2
 enum-known-r-2 c = search needs

@@ -9,7 +9,7 @@ use Rattle.meaning.specs.Conditions.{named}
 use Rattle.factor_checks.specs.Contents.{contents}
 use Rattle.refusals.specs.Verdicts.{termsTable, oneFactorTable, powersTable}
 use Rattle.refusals.proofs.Ways.{portion-parts}
-use Rattle.refusals.proofs.Order.{refused-before, accepted-first, refused-second, accepted-both}
+use Rattle.refusals.proofs.Order.{refused-before, refused-second, accepted-both}
 use Rattle.refusals.proofs.ratings.portion_verdict.Statement.{statement}
 use Rattle.refusals.proofs.ratings.portion_verdict.Tie as tie
 
@@ -37,9 +37,7 @@ enum-told : tie.Need-enum-told
 enum-told c = search needs
 
 factor-verdict-requires : tie.Need-factor-verdict-requires
-unfolding termsTable
-factor-verdict-requires c κs =
-    accepted-first _ _ (c .before .before .terms-verdict .ensures) (c .enum-told .given .1)
+factor-verdict-requires c κs = search needs
 
 enum-known-r-2 : tie.Need-enum-known-r-2
 enum-known-r-2 c = search needs
