@@ -1,4 +1,3 @@
-pub mod PrimeTest
 pub mod Represented
 pub mod Multiplier
 pub mod Numbers

@@ -3,7 +3,6 @@
 // Each operation takes any bytes, and a byte that is no element counts as the one that it stands for. All but the
 // constructor and the prime test assume a well-formed struct.
 mod field;
-mod primes;
 mod vectors;
 
 pub use field::GaloisField;

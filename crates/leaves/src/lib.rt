@@ -1,7 +1,7 @@
 // Leaves of the arithmetic on slices, for benchmarks from another language. Where what a leaf requires does
 // not hold, the answer is 0, and all bytes stay as they were.
 use arith::GaloisField;
-use arith::prime_in_range;
+use primes::prime_in_range;
 ghost use mathlib.Core.Path.{_≡_};
 ghost use lib.ListN.{length};
 ghost use Rattle.meaning.specs.Field.{prime};

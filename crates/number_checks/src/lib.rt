@@ -1,5 +1,5 @@
 // The conditions of the numbered list on numbers: the prime, counts, places, degrees and lengths.
-use arith::prime_in_range;
+use primes::prime_in_range;
 ghost use mathlib.Core.Path.{_≡_};
 ghost use Prim.Native.Nat.{_^_};
 ghost use lib.Dec.{ltb};
