@@ -16,6 +16,7 @@ pub mod Portions
 pub mod Periods
 pub mod RepeatBounds
 pub mod Padding
+pub mod Coefficients
 pub mod MasseySteps
 pub mod MasseyAnswer
 pub mod Cutting

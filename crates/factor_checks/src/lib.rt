@@ -1,9 +1,9 @@
 // The conditions over all factors of a set, each a list of coefficients, with their upper powers: one function each,
 // for any slices of any length; no lent byte is changed. A factor without an upper power has 0, and further upper
 // powers belong to no factor.
+use equality::same;
 use list_checks::factor_degree_out_of_range;
 use list_checks::not_monic;
-use poly::same;
 ghost use mathlib.Core.Path.{_≡_};
 ghost use Prim.Native.Nat.{_*_, min};
 ghost use lib.Dec.{eqb};

@@ -1,15 +1,3 @@
-pub mod Word
-pub mod Remainder
-pub mod Searching
 pub mod Trial
 pub mod Accepted
-pub mod Bits
-pub mod BitDivision
-pub mod BitDivisors
-pub mod Packed
-pub mod Unreduced
-pub mod Turning
-pub mod Vanishing
-pub mod LaneDivision
-pub mod Spreading
-pub mod LaneDivisors
+pub mod Binary

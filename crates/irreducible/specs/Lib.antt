@@ -1,4 +1,1 @@
-pub mod Word
 pub mod Trial
-pub mod Binary
-pub mod Lanes

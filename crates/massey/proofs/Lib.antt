@@ -1,5 +1,3 @@
 pub mod Lent
-pub mod Parts
-pub mod Halves
-pub mod Standing
+pub mod Passing
 pub mod FreeWay

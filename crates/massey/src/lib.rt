@@ -4,7 +4,6 @@
 // Assumes a well-formed field, at most 4,096 terms, and as many lent bytes as each function says.
 mod bytes;
 mod shortest;
-mod steps;
 
+pub use recurrence::Recurrence;
 pub use shortest::shortest_recurrence;
-pub use steps::Recurrence;

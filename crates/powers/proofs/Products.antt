@@ -25,7 +25,7 @@ use Rattle.bridge.proofs.Products.{factorAt, powerAt, Nonempties, length-named,
 use Rattle.bridge.proofs.Products.{product-nil, product-nonempty, product-elements, product-append}
 use Rattle.bridge.proofs.Products.{product-single, degree-product, degree-power, power-nonempty, times-comm}
 use Rattle.bridge.proofs.Portions.{take-nonempties, single-nonempties}
-use Rattle.poly.specs.Product.{Raising, Multiplied}
+use Rattle.products.specs.Product.{Raising, Multiplied}
 use Rattle.powers.specs.Writing.{ProductInput, ProductWritten, PowerInput, PowerWritten}
 use Rattle.powers.proofs.Totals.{total-take, total-part}
 

@@ -1,0 +1,4 @@
+pub mod Convolution
+pub mod Between
+pub mod Summing
+pub mod Made

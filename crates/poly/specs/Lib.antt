@@ -1,3 +1,0 @@
-pub mod Convolution
-pub mod Division
-pub mod Product

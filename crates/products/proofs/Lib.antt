@@ -1,0 +1,7 @@
+pub mod Rows
+pub mod Convolution
+pub mod Growing
+pub mod Zeros
+pub mod Multiples
+pub mod Repeating
+pub mod Raising

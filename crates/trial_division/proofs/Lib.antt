@@ -1,0 +1,4 @@
+pub mod Word
+pub mod Remainder
+pub mod Searching
+pub mod Packed
