@@ -3,5 +3,5 @@
 pub use division::remainder;
 pub use equality::same;
 pub use irreducible::is_irreducible;
-pub use products::times_power;
 pub use products::times_spread;
+pub use raising::times_power;

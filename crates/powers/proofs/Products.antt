@@ -25,7 +25,8 @@ use Rattle.bridge.proofs.Products.{factorAt, powerAt, Nonempties, length-named,
 use Rattle.bridge.proofs.Products.{product-nil, product-nonempty, product-elements, product-append}
 use Rattle.bridge.proofs.Products.{product-single, degree-product, degree-power, power-nonempty, times-comm}
 use Rattle.bridge.proofs.Portions.{take-nonempties, single-nonempties}
-use Rattle.products.specs.Product.{Raising, Multiplied}
+use Rattle.products.specs.Product.{Multiplied}
+use Rattle.raising.specs.Raising.{Raising}
 use Rattle.powers.specs.Writing.{ProductInput, ProductWritten, PowerInput, PowerWritten}
 use Rattle.powers.proofs.Totals.{total-take, total-part}
 

@@ -6,17 +6,13 @@
 --                          zeros stand after the polynomial
 --   Growing f q count answer n == there is room for the product of the polynomial in `answer` and `count`
 --                          times f(x^q), whose degree is at most 4,096
---   Raising F f r answer n == there is room for the product of the polynomial in `answer` and f^r, whose
---                          degree is at most 4,096; f has a positive degree, and both have elements of F for
---                          coefficients
 --   Multiplied F g answer n answer′ n′ == the polynomial of degree n in `answer` is multiplied by g, the
 --                          bytes beyond are as they were, and n′ is the new degree
 use Prim.Native.Nat.{ℕ, _+_, _*_, _-_, _≤_, _<_}
 use mathlib.Core.Path.{_≡_}
 use mathlib.Core.List.{List}
 use lib.ListN.{length, getD, take}
-use lib.Dec.{T}
-use Rattle.meaning.specs.Field.{Field, areElements}
+use Rattle.meaning.specs.Field.{Field}
 use Rattle.meaning.specs.Polynomial.{Polynomial, degree, times}
 use Rattle.meaning.specs.Result.{written}
 
@@ -35,13 +31,6 @@ pub record Growing (f : List ℕ) (q count : ℕ) (answer : List ℕ) (n : ℕ) 
   pub stride : 0 < q
   pub small : n + count * (q * (length f - 1)) ≤ 4096
   pub room : n + count * (q * (length f - 1)) < length answer
-
-pub record Raising (F : Field) (f : Polynomial) (r : ℕ) (answer : List ℕ) (n : ℕ) : Type 0 where
-  pub positive : 1 < length f
-  pub small : n + r * (length f - 1) ≤ 4096
-  pub room : n + r * (length f - 1) < length answer
-  pub factor : T (areElements F f)
-  pub coefficients : T (areElements F (take (n + 1) answer))
 
 pub record Multiplied (F : Field) (g : Polynomial) (answer : List ℕ) (n : ℕ) (answer′ : List ℕ)
     (n′ : ℕ) : Type 0 where

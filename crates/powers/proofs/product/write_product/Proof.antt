@@ -10,7 +10,8 @@ use Rattle.arith.specs.Represented.{fieldOf}
 use Rattle.arith.proofs.Represented.{field-isField}
 use Rattle.factor_checks.specs.Contents.{contents}
 use Rattle.factor_checks.proofs.Contents.{contents-length, contents-at}
-use Rattle.products.specs.Product.{Raising, Multiplied}
+use Rattle.products.specs.Product.{Multiplied}
+use Rattle.raising.specs.Raising.{Raising}
 use Rattle.powers.proofs.Products.{Multiplying, multiplying-start, multiplying-end}
 use Rattle.powers.proofs.Products.{multiplying-raising, multiplying-more}
 use Rattle.powers.proofs.product.write_product.Statement.{statement}

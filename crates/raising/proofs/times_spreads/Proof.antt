@@ -1,16 +1,16 @@
--- `products::times_spreads` meets its contract. The invariant: the product with k of the factors.
+-- `raising::times_spreads` meets its contract. The invariant: the product with k of the factors.
 -- Assumes nothing.
 use Prim.Native.Nat.{_-_, _≤_}
 use Rattle.meaning.specs.Polynomial.{power}
 use Rattle.bridge.proofs.Spread.{spread}
 use Rattle.arith.specs.Represented.{fieldOf}
 use Rattle.arith.proofs.Represented.{field-isField}
 use Rattle.products.specs.Product.{Multiplied}
-use Rattle.products.proofs.Repeating.{repeat-none, repeat-more, repeat-growing, repeat-length}
-use Rattle.products.proofs.Repeating.{repeat-all}
+use Rattle.raising.proofs.Repeating.{repeat-none, repeat-more, repeat-growing, repeat-length}
+use Rattle.raising.proofs.Repeating.{repeat-all}
 use native.Mathlib.Omega.{arith}
-use Rattle.products.proofs.times_spreads.Statement.{statement}
-use Rattle.products.proofs.times_spreads.Tie as tie
+use Rattle.raising.proofs.times_spreads.Statement.{statement}
+use Rattle.raising.proofs.times_spreads.Tie as tie
 
 abbrev Inv-loop : tie.InvT-loop
 Inv-loop field f q count answer₀ n n₀ k₀ answer n' k =

@@ -23,9 +23,10 @@ use Rattle.bridge.proofs.Spread.{spread, spread-nonempty, prime-power-spread}
 use Rattle.arith.specs.declared.field.GaloisField.{GaloisField}
 use Rattle.arith.specs.Represented.{fieldOf, WellFormed}
 use Rattle.arith.proofs.Represented.{field-isField, size-least, size-most}
-use Rattle.products.specs.Product.{Growing, Raising, Multiplied}
-use Rattle.products.proofs.Multiples.{multiplied-none, multiplied-then, multiplied-length}
-use Rattle.products.proofs.Multiples.{multiplied-elements}
+use Rattle.products.specs.Product.{Growing, Multiplied}
+use Rattle.raising.specs.Raising.{Raising}
+use Rattle.raising.proofs.Multiples.{multiplied-none, multiplied-then, multiplied-length}
+use Rattle.raising.proofs.Multiples.{multiplied-elements}
 
 pub field-power-spread :
     {field : GaloisField} (w : WellFormed field) (level : ℕ) (f : Polynomial)

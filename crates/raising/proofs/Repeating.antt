@@ -17,8 +17,8 @@ use Rattle.meaning.specs.Polynomial.{Polynomial, degree, power}
 use Rattle.bridge.proofs.Interpretation.{IsField}
 use Rattle.bridge.proofs.Products.{power-zero-list, power-suc-list, power-nonempty, degree-power}
 use Rattle.bridge.proofs.Spread.{spread, spread-nonempty, degree-spread}
 use Rattle.products.specs.Product.{Growing, Multiplied}
-use Rattle.products.proofs.Multiples.{multiplied-none, multiplied-then, multiplied-length}
+use Rattle.raising.proofs.Multiples.{multiplied-none, multiplied-then, multiplied-length}
 
 module _ {F : Field} (I : IsField F) {f : List ℕ} {q count : ℕ} {answer : List ℕ} {n : ℕ}
     (G : Growing f q count answer n) where

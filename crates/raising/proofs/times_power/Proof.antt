@@ -1,12 +1,12 @@
--- `products::times_power` meets its contract. The invariant is `Raised`.
+-- `raising::times_power` meets its contract. The invariant is `Raised`.
 -- Assumes nothing.
 use native.Mathlib.Nat.{div-lt-self}
 use native.Mathlib.Omega.{arith}
 use Rattle.arith.proofs.Represented.{size-least, size-most}
-use Rattle.products.proofs.Raising.{Raised, raised-start, raised-next, raised-end, raised-growing}
-use Rattle.products.proofs.Raising.{raised-elements, raised-length, place-fits}
-use Rattle.products.proofs.times_power.Statement.{statement}
-use Rattle.products.proofs.times_power.Tie as tie
+use Rattle.raising.proofs.Raising.{Raised, raised-start, raised-next, raised-end, raised-growing}
+use Rattle.raising.proofs.Raising.{raised-elements, raised-length, place-fits}
+use Rattle.raising.proofs.times_power.Statement.{statement}
+use Rattle.raising.proofs.times_power.Tie as tie
 
 abbrev Inv-loop : tie.InvT-loop
 Inv-loop field f r answer₀ n p n₀ q₀ rest₀ answer n' q rest =
