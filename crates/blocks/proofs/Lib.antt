@@ -1,4 +1,2 @@
-pub mod Convolution
 pub mod Between
-pub mod Summing
 pub mod Made

@@ -1,7 +1,5 @@
 -- Blocks of coefficients of a product, made in the place of coefficients that they are made of.
 --
---   below-behind      == what is read for a block stands in the list
---   block-stored      == the block that comes back is pasted in its place
 --   below-part        == a block of a block
 --   blocks-none, blocks-more, blocks-all == no block, one block more below the others, all of them
 --
@@ -11,26 +9,12 @@ use mathlib.Core.Path.{_≡_, refl, sym, ap, subst, _∙_}
 use mathlib.Core.List.{List}
 use native.Mathlib.Decide.{decLt}
 use native.Mathlib.Omega.{arith}
-use lib.ListN.{length}
-use lib.Seq.{paste}
-use borrow.Rule.Slice.PartMut.{putMid}
 use Rattle.meaning.specs.Field.{Field}
-use Rattle.meaning.specs.Sequence.{Sequence, known, cut}
-use Rattle.bridge.proofs.Actions.{length-cut, known-getD}
-use Rattle.lent.proofs.Parts.{put-paste}
-use Rattle.blocks.specs.Convolution.{convolved, convolvedWithin, Behind, Below}
-use Rattle.blocks.proofs.Convolution.{convolved-local}
+use Rattle.meaning.specs.Sequence.{Sequence, known}
+use Rattle.bridge.proofs.Actions.{known-getD}
+use Rattle.convolution.specs.Convolution.{convolved, convolvedWithin, Below}
+use Rattle.convolution.proofs.Convolution.{convolved-local}
 use Rattle.blocks.proofs.Between.{Between, between-paste, between-pasted}
-
-pub below-behind : {f : List ℕ} {q : ℕ} {w : List ℕ} {at to m : ℕ} → Below f q w at to m → Behind f q w at m
-below-behind b = record { reach = b .reach; within = omega (arith, b .order, b .within) }
-
-pub block-stored : (w : List ℕ) (to m : ℕ) (s : Sequence) (at : ℕ) {y v : List ℕ}
-    → y ≡ v
-    → v ≡ cut s at m
-    → putMid to (to + m - to) w y ≡ paste w to (cut s at m) m
-block-stored w to m s at {y} e d =
-    put-paste w to m y (ap length (e ∙ d) ∙ length-cut s at m) ∙ ap (λ u. paste w to u m) (e ∙ d)
 
 module _ (F : Field) (f : List ℕ) (q : ℕ) (w₀ : List ℕ) where
   abbrev s : Sequence

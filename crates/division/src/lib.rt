@@ -1,4 +1,4 @@
-// Division by a monic polynomial.
+// Division by a monic polynomial, in lent bytes. Assumes a well-formed field, and its elements in both.
 use arith::GaloisField;
 ghost use Rattle.arith.specs.Represented.{fieldOf, WellFormed};
 ghost use Rattle.division.specs.Division.{Divisible, Divided};

@@ -22,8 +22,8 @@ use Rattle.bridge.proofs.Polynomials.{scale-elements, times-elements, elements-
 use Rattle.bridge.proofs.Spread.{spread}
 use Rattle.bridge.proofs.Actions.{known-getD}
 use Rattle.bridge.proofs.Coefficients.{getD-zeros, getD-sum, getD-multiple}
-use Rattle.blocks.specs.Convolution.{convolved}
-use Rattle.blocks.proofs.Convolution.{convolved-below}
+use Rattle.convolution.specs.Convolution.{convolved}
+use Rattle.convolution.proofs.Convolution.{convolved-below}
 use Rattle.products.proofs.Rows.{times-spread-cons, times-spread-one}
 
 module _ {F : Field} (I : IsField F) where

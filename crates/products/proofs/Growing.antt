@@ -24,8 +24,8 @@ use Rattle.bridge.proofs.Interpretation.{IsField}
 use Rattle.bridge.proofs.Polynomials.{length-times}
 use Rattle.bridge.proofs.Spread.{spread, spread-nonempty, length-spread}
 use Rattle.bridge.proofs.Actions.{known-getD}
-use Rattle.blocks.specs.Convolution.{convolved, convolvedWithin, Below}
-use Rattle.blocks.proofs.Convolution.{convolved-local}
+use Rattle.convolution.specs.Convolution.{convolved, convolvedWithin, Below}
+use Rattle.convolution.proofs.Convolution.{convolved-local}
 use Rattle.blocks.proofs.Between.{Between, between-paste}
 use Rattle.products.specs.Product.{places, Padded}
 use Rattle.products.proofs.Convolution.{convolved-skip, convolved-zero, times-convolved}

@@ -1,5 +1,6 @@
 // Products in lent bytes: a polynomial of degree n stands in the first n + 1 of them, is multiplied there,
 // and nothing beyond the new degree is read or written. f(x^q) has the coefficients of f, q places apart.
+// Assumes a well-formed field, and as many lent bytes as each function says.
 use arith::GaloisField;
 use blocks::convolve;
 use lent::smaller;

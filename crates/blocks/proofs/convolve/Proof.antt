@@ -6,7 +6,7 @@ use denote.Ref.{now}
 use borrow.Author.Needs.{needs}
 use Rattle.meaning.specs.Sequence.{known}
 use Rattle.arith.specs.Represented.{fieldOf}
-use Rattle.blocks.specs.Convolution.{convolved}
+use Rattle.convolution.specs.Convolution.{convolved}
 use Rattle.blocks.proofs.Between.{Between}
 use Rattle.blocks.proofs.Made.{blocks-none, below-part, blocks-more, blocks-all}
 use Rattle.blocks.proofs.convolve.Statement.{statement}

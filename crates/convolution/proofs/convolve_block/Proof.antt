@@ -1,4 +1,4 @@
--- `blocks::convolve_block` meets its contract: as many sums as places, from the front of 256 zeros.
+-- `convolution::convolve_block` meets its contract: as many sums as places, from the front of 256 zeros.
 -- Assumes nothing.
 use mathlib.Core.Path.{_≡_, subst}
 use native.Mathlib.Omega.{arith}
@@ -6,9 +6,9 @@ use denote.Ref.{now}
 use borrow.Author.Needs.{needs}
 use Rattle.lent.proofs.Parts.{zeros-length, zeros-lent}
 use Rattle.arith.specs.Represented.{fieldOf}
-use Rattle.blocks.specs.Convolution.{convolvedWithin}
-use Rattle.blocks.proofs.convolve_block.Statement.{statement}
-use Rattle.blocks.proofs.convolve_block.Tie as tie
+use Rattle.convolution.specs.Convolution.{convolvedWithin}
+use Rattle.convolution.proofs.convolve_block.Statement.{statement}
+use Rattle.convolution.proofs.convolve_block.Tie as tie
 
 sub-convolve-by-sums : tie.Need-sub-convolve-by-sums
 sub-convolve-by-sums c = search needs

@@ -11,7 +11,7 @@ use native.Mathlib.Omega.{arith}
 use Rattle.meaning.specs.Field.{Field}
 use Rattle.meaning.specs.Sequence.{Sequence}
 use Rattle.bridge.proofs.Interpretation.{IsField, size-positive, add-below}
-use Rattle.blocks.specs.Convolution.{convolved}
+use Rattle.convolution.specs.Convolution.{convolved}
 
 pub convolved-nil : (F : Field) (q : ℕ) (s : Sequence) (k : ℕ) → convolved F [] q s k ≡ 0
 unfolding convolved

@@ -1,4 +1,4 @@
--- `blocks::sum_up` meets its contract. The invariant: the elements of the sums, with the sums of the
+-- `convolution::sum_up` meets its contract. The invariant: the elements of the sums, with the sums of the
 -- coefficients that are left, make the whole sums. The measure is how many coefficients are left.
 -- Assumes nothing.
 use Prim.Native.Nat.{_-_, _*_, _≤_}
@@ -12,10 +12,10 @@ use Rattle.arith.proofs.Represented.{field-isField}
 use Rattle.sums.specs.Sums.{Room, elementsOf}
 use Rattle.sums.proofs.Elements.{elements-zeros, elements-below}
 use Rattle.sums.proofs.Rooms.{room-zeros}
-use Rattle.blocks.proofs.Summing.{Summing, summing-none, summing-more, summing-end}
-use Rattle.blocks.proofs.Summing.{place-behind, lent-length}
-use Rattle.blocks.proofs.sum_up.Statement.{statement}
-use Rattle.blocks.proofs.sum_up.Tie as tie
+use Rattle.convolution.proofs.Summing.{Summing, summing-none, summing-more, summing-end}
+use Rattle.convolution.proofs.Summing.{place-behind, lent-length}
+use Rattle.convolution.proofs.sum_up.Statement.{statement}
+use Rattle.convolution.proofs.sum_up.Tie as tie
 
 abbrev Inv-loop : tie.InvT-loop
 Inv-loop field sums₀ f q a at m room₀ i₀ i-end sums room i =

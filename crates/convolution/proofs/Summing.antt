@@ -20,8 +20,8 @@ use Rattle.bridge.proofs.Actions.{length-cut, getD-cut, known-getD}
 use Rattle.bridge.proofs.Coefficients.{getD-zeros}
 use Rattle.arith.specs.Slices.{part, combined}
 use Rattle.arith.proofs.Slices.{length-part, getD-part, length-combined, getD-combined}
-use Rattle.blocks.specs.Convolution.{convolved, Behind}
-use Rattle.blocks.proofs.Convolution.{convolved-nil, convolved-cons, convolved-below}
+use Rattle.convolution.specs.Convolution.{convolved, Behind}
+use Rattle.convolution.proofs.Convolution.{convolved-nil, convolved-cons, convolved-below}
 
 pub record Summing (F : Field) (f : List ℕ) (q : ℕ) (a : List ℕ) (at m : ℕ) (acc : List ℕ) (i : ℕ)
     : Type 0 where

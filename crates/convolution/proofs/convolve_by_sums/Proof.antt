@@ -1,4 +1,4 @@
--- `blocks::convolve_by_sums` meets its contract: the sums are stored in their place.
+-- `convolution::convolve_by_sums` meets its contract: the sums are stored in their place.
 -- Assumes nothing.
 use native.Mathlib.Omega.{arith}
 use borrow.Author.Needs.{needs}
@@ -6,11 +6,11 @@ use denote.Ref.{now}
 use lib.ListN.{length}
 use Rattle.meaning.specs.Sequence.{known}
 use Rattle.arith.specs.Represented.{fieldOf}
-use Rattle.blocks.specs.Convolution.{convolved}
-use Rattle.blocks.proofs.Summing.{lent-length}
-use Rattle.blocks.proofs.Made.{below-behind, block-stored}
-use Rattle.blocks.proofs.convolve_by_sums.Statement.{statement}
-use Rattle.blocks.proofs.convolve_by_sums.Tie as tie
+use Rattle.convolution.specs.Convolution.{convolved}
+use Rattle.convolution.proofs.Summing.{lent-length}
+use Rattle.convolution.proofs.Stored.{below-behind, block-stored}
+use Rattle.convolution.proofs.convolve_by_sums.Statement.{statement}
+use Rattle.convolution.proofs.convolve_by_sums.Tie as tie
 
 sum-up-requires : tie.Need-sum-up-requires
 sum-up-requires c κs =

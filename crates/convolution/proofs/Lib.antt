@@ -1,0 +1,3 @@
+pub mod Convolution
+pub mod Summing
+pub mod Stored
