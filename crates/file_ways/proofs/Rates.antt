@@ -27,7 +27,7 @@ use Rattle.rater.proofs.Lent.{never-refused}
 use Rattle.file_factors.specs.Written.{factorsIn, polynomialsIn, writtenTable}
 use Rattle.file_factors.proofs.Places.{factors-count}
 use Rattle.file_factors.proofs.Polynomials.{AllWhole, factors-whole, polynomials-fit}
-use Rattle.file_ways.specs.Ratings.{AcceptedRecords, Rateable}
+use Rattle.file_ways.specs.Accepted.{AcceptedRecords, Rateable}
 use Rattle.file_ways.proofs.Suited.{one-factor, some-mode, some-factors, by-period, by-set, by-free}
 use Rattle.file_ways.proofs.Suited.{rated-refused}
 use Rattle.file_ways.proofs.Terms.{cutTerms, cut-terms, cut-accepted}
@@ -38,6 +38,13 @@ first-within : (l : List (List ℕ)) → length (getD l 0 []) ≤ length (flatte
 unfolding flatten
 first-within [] = omega arith
 first-within (a ∷ l) = omega (arith, length-append a (flatten l))
+
+-- the terms are not refused by 17
+pub terms-number : (p : ℕ) (ts : List ℕ) {v : Verdict} {x : Refusal} → numberIn v ≡ firstOf (termsTable p ts)
+    → v ≡ Verdict.Refused x
+    → eqb (numberOf x) 17 ≡ false
+unfolding termsTable holdsForSome
+terms-number p ts e q = never-refused 17 (termsTable p ts) refl e q
 
 -- p and the terms as they were read, the terms cut after 4,097, and u the verdict on them
 module _ (file ts : List ℕ) (p : ℕ) (ok : AcceptedRecords (recordsFrom file 0))

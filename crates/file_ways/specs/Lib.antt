@@ -1,1 +1,1 @@
-pub mod Ratings
+pub mod Accepted

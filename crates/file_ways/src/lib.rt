@@ -1,23 +1,21 @@
 // The rating of what an accepted file holds: the refusals from 6 on, and the way that its mode names.
-mod by_mode;
-mod telling;
-
-use by_mode::rate_free_file;
-use by_mode::rate_period_file;
-use by_mode::rate_set_file;
 use contents::byte_of;
 use file_factors::factors_verdict;
 use framing::count_of;
 use meaning::FileRating;
+use mode_ways::rate_free_file;
+use mode_ways::rate_period_file;
+use mode_ways::rate_set_file;
 use refusals::Verdict;
 use refusals::terms_verdict;
+use telling::of_refusal;
 ghost use mathlib.Core.Path.{_≡_};
 ghost use lib.ListN.{length, take};
 ghost use Rattle.meaning.specs.File.{termsOf, rateRecords};
 ghost use Rattle.framing.specs.Framing.{recordsFrom};
 ghost use Rattle.massey.specs.Shortest.{freeChoice};
-ghost use Rattle.file_ways.specs.Ratings.{RatedFile, AcceptedRecords, Rateable};
-pub use telling::of_refusal;
+ghost use Rattle.telling.specs.Ratings.{RatedFile};
+ghost use Rattle.file_ways.specs.Accepted.{AcceptedRecords, Rateable};
 
 // The rating of an accepted file, once 6, 7 and 8 accept p and the terms: a file's own part of 10 and 11, and
 // then the way of the mode.

@@ -1,3 +1,4 @@
 pub mod Tables
 pub mod Lookup
 pub mod Frames
+pub mod Records

@@ -1,4 +1,3 @@
-pub mod Parts
-pub mod Reports
 pub mod Sizes
+pub mod Reports
 pub mod FileResults

@@ -2,11 +2,10 @@
 --
 --   result-refused, result-powers, result-unique, result-several == the result line in each case
 --   result-alone   == the result line does not depend on the answer bytes
---   poly-none, poly-some == the poly line of no coefficient, and of some
 --   poly-counted   == the poly line of an outcome, where there is an answer byte
 --   print-three    == the header, the result line and the poly line put into a buffer with room for them
 -- Assumes nothing.
-use Prim.Native.Nat.{ℕ, zero, suc, _+_, _≤_, min}
+use Prim.Native.Nat.{ℕ, suc, _+_, _≤_, min}
 use native.Mathlib.Nat.{zero-add}
 use native.Mathlib.Omega.{arith}
 use mathlib.Core.Path.{_≡_, refl, sym, ap, _∙_}
@@ -21,10 +20,12 @@ use Rattle.meaning.specs.Answers.{numberOf}
 use Rattle.meaning.specs.Print.{text, decimal, joined, line, header, labelWord, density, resultLine}
 use Rattle.meaning.specs.Print.{polyLine, report}
 use Rattle.words.specs.Words.{Put, PutWithin}
-use Rattle.lines.specs.Lines.{PrintCall, ratedLine, coefficientCount, polyOf, ratedResult}
-use Rattle.lines.specs.Lines.{linesOf}
+use Rattle.result_line.specs.ResultLines.{ratedLine}
+use Rattle.poly_line.specs.PolyLine.{coefficientCount, polyOf}
+use Rattle.lines.specs.Lines.{ratedResult, linesOf, PrintCall}
 use Rattle.words.proofs.Putting.{put-join, put-as, put-written}
-use Rattle.lines.proofs.Parts.{take-most}
+use Rattle.result_line.proofs.Parts.{take-most}
+use Rattle.poly_line.proofs.PolyLines.{poly-some}
 
 -- THE RESULT LINE
 abbrev resultOf : ℕ → List ℕ → FileOutcome → List ℕ
@@ -70,18 +71,6 @@ result-alone box (FileOutcome.Several d m) rs answer = refl
 result-alone box (FileOutcome.Refused r) rs answer = refl
 
 -- THE POLY LINE
-pub poly-none : {n : ℕ} (answer : List ℕ) → n ≡ 0 → [] ≡ polyOf n answer
-unfolding polyOf
-poly-none answer e = sym (ap (λ n. polyOf n answer) e)
-
-pub poly-some :
-    (n : ℕ) (answer : List ℕ)
-    → (n ≡ 0 → ⊥)
-    → line (text "poly" ∷ map decimal (take n answer)) ≡ polyOf n answer
-unfolding polyOf
-poly-some zero answer h = absurd (h refl)
-poly-some (suc n) answer h = refl
-
 -- one more than the degree, as far as there are answer bytes
 counted :
     (d : ℕ) (answer : List ℕ)
@@ -90,13 +79,6 @@ counted :
 counted d answer l =
     sym (poly-some (min (suc d) (length answer)) answer (λ z. omega (arith, z)))
     ∙ ap (λ cs. line (text "poly" ∷ map decimal cs)) (take-most (suc d) answer)
-
-pub count-most : (o : FileOutcome) (most : ℕ) → coefficientCount o most ≤ most
-unfolding coefficientCount
-count-most (FileOutcome.Powers d m n) most = omega arith
-count-most (FileOutcome.Unique d m) most = omega arith
-count-most (FileOutcome.Several d m) most = omega arith
-count-most (FileOutcome.Refused r) most = omega arith
 
 poly-counted :
     (o : FileOutcome) (rs answer : List ℕ)

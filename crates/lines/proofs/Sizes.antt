@@ -2,7 +2,6 @@
 --
 --   Whole a     == the result a has so many
 --   period-size, set-size, free-size == the answers of the ways have
---   long-records == a file of more than 16,384 bytes is refused by 1
 --   file-size   == the answer for a file has
 -- Assumes nothing.
 use Prim.Native.Nat.{ℕ, zero, suc, _<_, _≤_}
@@ -11,9 +10,8 @@ use mathlib.Core.Path.{_≡_, refl, sym, ap, subst, _∙_}
 use mathlib.Core.Bool.{Bool, true, false, not, true≢false}
 use mathlib.Core.List.{List, [], _∷_, map}
 use mathlib.Core.Option.{Option, none, some}
-use lib.Dec.{eqb, ltb, eqb→eq}
+use lib.Dec.{eqb, eqb→eq}
 use lib.ListN.{length, getD, take, length-append, length-map}
-use borrow.Author.Tests.{lt-ltb, ltb-true}
 use Rattle.meaning.specs.Field.{prime}
 use Rattle.meaning.specs.Polynomial.{Polynomial, power, product}
 use Rattle.meaning.specs.Result.{Result, refused, answered, Rated, mapResult}
@@ -24,7 +22,7 @@ use Rattle.meaning.specs.Portion.{SetFigures, factorsOf, setPowers, setRating, 
 use Rattle.meaning.specs.Free.{Choice, FreeFigures, Fits, isUnique, freeTable, rateFree, leastDegree}
 use Rattle.meaning.specs.Free.{ChosenFits}
 use Rattle.meaning.specs.Route.{RouteRecord, Mode, periodMode, setMode, freeMode, modeOf, byteOf, bodies}
-use Rattle.meaning.specs.Route.{suits, modeUnsuited, suited, walk, atStart, records, factorUpper}
+use Rattle.meaning.specs.Route.{suits, modeUnsuited, records, factorUpper}
 use Rattle.meaning.specs.File.{WrittenFactor, fileFactor, polynomialOf, termsOf, powers, FileFigures}
 use Rattle.meaning.specs.File.{fileAnswer, ofPeriod, ofSet, ofFree, freeLabel, rateMode, rateRecords}
 use Rattle.meaning.specs.File.{rateFile, FileChosenFits}
@@ -37,6 +35,7 @@ use Rattle.bridge.proofs.Products.{power-nonempty, product-nonempty, Nonempties
 use Rattle.bridge.proofs.Products.{factorAt-factorsOf, length-factorsOf, length-named}
 use Rattle.bridge.proofs.Fitting.{free-rated, free-answer, leastDegree-least}
 use Rattle.bridge.proofs.Accepted.{prime-accepted}
+use Rattle.framing.proofs.Records.{records-suited}
 
 abbrev pub Whole : Rated FileFigures → Type 0
 Whole a = length (a .polynomial) ≡ suc (a .figures .degree)
@@ -196,44 +195,6 @@ mode-size pick freeMode p fs ts answer work one chosen e =
     whole-of _ _ (free-map (length ts) _) (λ b q. free-size pick p ts answer work (chosen refl) q) e
 
 -- THE FILE
-unsuited-suited : (rs : List RouteRecord) → modeUnsuited rs ≡ true → suited (answered rs) ≡ refused 5
-unfolding suited
-unsuited-suited rs u = rw (u, suited)
-
-suited-suited : (rs : List RouteRecord) → modeUnsuited rs ≡ false → suited (answered rs) ≡ answered rs
-unfolding suited
-suited-suited rs u = rw (u, suited)
-
-suited-answered :
-    (x : Result (List RouteRecord)) {rs : List RouteRecord} → suited x ≡ answered rs → modeUnsuited rs ≡ false
-unfolding suited
-suited-answered (refused n) e = never e
-suited-answered (answered qs) {rs} e = go (modeUnsuited qs) refl
-  where
-    go : (t : Bool) → modeUnsuited qs ≡ t → modeUnsuited rs ≡ false
-    go true u = never (sym (unsuited-suited qs u) ∙ e)
-    go false u =
-        let q = sym (suited-suited qs u) ∙ e in
-        let s : qs ≡ rs = cc in
-        subst (λ l. modeUnsuited l ≡ false) s u
-
-pub long-records : (file : List ℕ) → 16384 < length file → records file ≡ refused 1
-unfolding records
-long-records file l = rw (lt-ltb 16384 (length file) l, records)
-
-short-records :
-    (file : List ℕ) → ltb 16384 (length file) ≡ false → records file ≡ suited (walk file 0 atStart)
-unfolding records
-short-records file u = rw (u, records)
-
-records-suited :
-    (file : List ℕ) {rs : List RouteRecord} → records file ≡ answered rs → modeUnsuited rs ≡ false
-records-suited file {rs} e = go (ltb 16384 (length file)) refl
-  where
-    go : (t : Bool) → ltb 16384 (length file) ≡ t → modeUnsuited rs ≡ false
-    go true u = never (sym (long-records file (ltb-true 16384 (length file) u)) ∙ e)
-    go false u = suited-answered (walk file 0 atStart) (sym (short-records file u) ∙ e)
-
 -- an accepted file in the period mode has a factor
 period-factor :
     (rs : List RouteRecord)

@@ -1,20 +1,18 @@
 // The lines that the rating program prints, as bytes at the front of a lent buffer that always suffices.
-mod result;
-
 use answers::number_of;
 use meaning::FileOutcome;
 use meaning::FileRating;
-use result::put_poly;
-use result::put_powers_line;
-use result::put_refused;
-use result::put_word_line;
+use poly_line::coefficient_count;
+use poly_line::put_poly;
+use result_line::put_powers_line;
+use result_line::put_refused;
+use result_line::put_word_line;
 use words::put_word;
-ghost use mathlib.Core.Path.{_≡_};
 ghost use mathlib.Core.List.{[]};
-ghost use Prim.Native.Nat.{suc, _+_, _≤_, min};
+ghost use Prim.Native.Nat.{_+_, _≤_};
 ghost use lib.ListN.{length};
 ghost use Rattle.meaning.specs.Print.{resultLine};
-ghost use Rattle.lines.specs.Lines.{ratedResult, coefficientCount, PrintCall};
+ghost use Rattle.lines.specs.Lines.{ratedResult, PrintCall};
 ghost use Rattle.words.specs.Words.{PutWithin};
 
 // The lent answer bytes of the program.
@@ -22,34 +20,6 @@ pub const ANSWER_BYTES: usize = 4097;
 
 // The most bytes that are printed: 26 of the header, 235 of the result line, 16,393 of the poly line.
 pub const MOST_PRINTED: usize = 16654;
-
-// The number after n, or the most.
-fn next_at_most(n: u64, most: usize) -> usize
-    ensures { λ r. ⌜ r ≡ min (suc n) most ⌝ }
-{
-    if n < most as u64 {
-        n as usize + 1
-    } else {
-        most
-    }
-}
-
-// How many coefficients are printed: one more than the degree, at most as many as there are bytes; none of a
-// refusal.
-fn coefficient_count(outcome: FileOutcome, most: usize) -> usize
-    ensures { λ r. ⌜ r ≡ coefficientCount outcome most ⌝ }
-{
-    match outcome {
-        FileOutcome::Powers {
-            degree,
-            terms: _,
-            count: _,
-        } => next_at_most(degree, most),
-        FileOutcome::Unique { degree, terms: _ } => next_at_most(degree, most),
-        FileOutcome::Several { degree, terms: _ } => next_at_most(degree, most),
-        FileOutcome::Refused(_) => 0,
-    }
-}
 
 // The result line: the box, `ok`, the density, and the powers or the word `one` or `some`; or the box,
 // `refused` and the number.

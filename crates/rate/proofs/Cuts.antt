@@ -15,7 +15,7 @@ use Rattle.meaning.specs.Route.{records, boxOf}
 use Rattle.meaning.specs.File.{rateFile, FileChosenFits}
 use Rattle.meaning.specs.Print.{report, printed}
 use Rattle.contents.proofs.Numbers.{box-long}
-use Rattle.lines.proofs.Sizes.{long-records}
+use Rattle.framing.proofs.Records.{records-long}
 
 module _ (k : ℕ) (file : List ℕ) (long : 16384 < k) where
   -- where the file has more than k bytes, both are too long
@@ -26,7 +26,7 @@ module _ (k : ℕ) (file : List ℕ) (long : 16384 < k) where
   records-cut = elim (decLe (length file) k) [
     | yes l ↦ ap records (take-all k file l)
     | no l ↦
-        long-records (take k file) (cut-long (λ z. omega arith)) ∙ sym (long-records file (omega arith))
+        records-long (take k file) (cut-long (λ z. omega arith)) ∙ sym (records-long file (omega arith))
   ]
 
   box-cut : boxOf (take k file) ≡ boxOf file

@@ -38,9 +38,9 @@ use Rattle.refusals.specs.declared.Verdict.{Verdict}
 use Rattle.refusals.specs.Verdicts.{numberIn}
 use Rattle.refusals.proofs.Settled.{settle-last, settle-over}
 use Rattle.powers.specs.Writing.{PowerInput, PowerWritten}
-use Rattle.ways.specs.declared.period.Found.{Found}
-use Rattle.ways.specs.declared.period.Found.the-variants.{Power, Nothing}
-use Rattle.ways.specs.Period.{told}
+use Rattle.period_way.specs.declared.Found.{Found}
+use Rattle.period_way.specs.declared.Found.the-variants.{Power, Nothing}
+use Rattle.period_way.specs.Period.{told}
 use Rattle.rater.specs.OneFactor.{ratingFound, Answerable, FoundRated}
 
 -- The answer

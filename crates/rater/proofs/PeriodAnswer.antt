@@ -33,9 +33,9 @@ use Rattle.irreducible.proofs.Accepted.{accepted-short}
 use Rattle.refusals.specs.declared.Verdict.{Verdict}
 use Rattle.refusals.specs.Verdicts.{numberIn, allButLast, periodChecks}
 use Rattle.refusals.proofs.Settled.{accepted-holds, settle-early, period-last}
-use Rattle.ways.specs.declared.period.Found.{Found}
-use Rattle.ways.specs.Period.{told, PeriodInput, PeriodFound}
-use Rattle.ways.proofs.Sizes.{period-small}
+use Rattle.period_way.specs.declared.Found.{Found}
+use Rattle.period_way.specs.Period.{told, PeriodInput, PeriodFound}
+use Rattle.period_way.proofs.Sizes.{period-small}
 use Rattle.rater.specs.OneFactor.{ratingFound, Answerable, FoundRated}
 use Rattle.rater.proofs.Lent.{never-refused, lent-refused}
 use Rattle.rater.proofs.OneFactor.{call-rating, call-lent, settled-none, settled-some, lent-enough}

@@ -36,11 +36,12 @@ use Rattle.irreducible.specs.Trial.{Accepted}
 use Rattle.refusals.specs.declared.Verdict.{Verdict}
 use Rattle.refusals.specs.Verdicts.{numberIn, allButLast, portionChecks}
 use Rattle.refusals.proofs.Settled.{accepted-holds, settle-early, portion-last}
-use Rattle.ways.specs.declared.period.Found.{Found}
-use Rattle.ways.specs.Period.{told}
-use Rattle.ways.specs.Portion.{SetInput, portionFound, PortionFound}
-use Rattle.ways.proofs.Inputs.{input-monics}
-use Rattle.ways.proofs.Sizes.{portion-small}
+use Rattle.period_way.specs.declared.Found.{Found}
+use Rattle.period_way.specs.Period.{told}
+use Rattle.set_action.specs.SetActions.{SetInput}
+use Rattle.portion_way.specs.Portion.{portionFound, PortionFound}
+use Rattle.set_action.proofs.Inputs.{input-monics}
+use Rattle.portion_way.proofs.Portions.{portion-small}
 use Rattle.rater.specs.OneFactor.{ratingFound, Answerable, FoundRated}
 use Rattle.rater.proofs.Lent.{never-refused, lent-refused}
 use Rattle.rater.proofs.OneFactor.{call-rating, call-lent, settled-none, settled-some, lent-enough}

@@ -40,11 +40,12 @@ use Rattle.refusals.specs.declared.Verdict.{Verdict}
 use Rattle.refusals.specs.Verdicts.{numberIn, allButLast, setChecks}
 use Rattle.refusals.proofs.Settled.{accepted-holds, settle-early, settle-last, settle-over, set-last}
 use Rattle.powers.specs.Writing.{ProductInput, ProductWritten}
-use Rattle.ways.specs.declared.portion.SetPowers.{SetPowers}
-use Rattle.ways.specs.Portion.{SetInput, SetFound}
-use Rattle.ways.proofs.Inputs.{input-monics}
-use Rattle.ways.proofs.Answers.{answer-annihilated, answer-powers}
-use Rattle.ways.proofs.Sizes.{set-count, set-product, named-padded}
+use Rattle.set_way.specs.declared.SetPowers.{SetPowers}
+use Rattle.set_action.specs.SetActions.{SetInput}
+use Rattle.set_way.specs.SetWay.{SetFound}
+use Rattle.set_action.proofs.Inputs.{input-monics}
+use Rattle.set_way.proofs.Answers.{answer-annihilated, answer-powers}
+use Rattle.set_way.proofs.Sizes.{set-count, set-product, named-padded}
 use Rattle.rater.proofs.Lent.{names, never-refused, lent-refused, lent-seventeen, lent-rated}
 
 -- A refusal tells its number and no powers.

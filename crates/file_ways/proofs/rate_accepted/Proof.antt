@@ -5,7 +5,7 @@ use borrow.Author.Needs.{needs}
 use Rattle.massey.specs.Shortest.{freeChoice}
 use Rattle.file_ways.proofs.Rates.{count-factors, not-others, records-free, records-refused}
 use Rattle.file_ways.proofs.Rates.{factors-number, records-period, records-set, one-fits, all-fit}
-use Rattle.file_ways.proofs.Calls.{rated-as, refused-rated}
+use Rattle.mode_ways.proofs.Calls.{rated-as, refused-rated}
 use Rattle.file_ways.proofs.rate_accepted.Statement.{statement}
 use Rattle.file_ways.proofs.rate_accepted.Tie as tie
 

@@ -1,8 +1,8 @@
 -- `rate_records` meets its contract: the terms are refused, or else the rest decides.
 -- Assumes nothing.
 use borrow.Author.Needs.{needs}
-use Rattle.file_ways.proofs.Rates.{rateable, records-terms}
-use Rattle.file_ways.proofs.Calls.{refused-rated, terms-number}
+use Rattle.mode_ways.proofs.Calls.{refused-rated}
+use Rattle.file_ways.proofs.Rates.{terms-number, rateable, records-terms}
 use Rattle.file_ways.proofs.rate_records.Statement.{statement}
 use Rattle.file_ways.proofs.rate_records.Tie as tie
 

@@ -6,8 +6,9 @@ use native.Mathlib.Nat.{le-refl}
 use mathlib.Core.Path.{_≡_, ap, _∙_}
 use lib.ListN.{length}
 use Rattle.meaning.specs.Print.{text, header}
-use Rattle.lines.specs.Lines.{coefficientCount, polyOf}
-use Rattle.lines.proofs.Reports.{count-most, within-as, print-three}
+use Rattle.poly_line.specs.PolyLine.{coefficientCount, polyOf}
+use Rattle.poly_line.proofs.PolyLines.{count-most}
+use Rattle.lines.proofs.Reports.{within-as, print-three}
 use Rattle.lines.proofs.print_rating.Statement.{statement}
 use Rattle.lines.proofs.print_rating.Tie as tie
 

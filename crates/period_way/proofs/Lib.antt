@@ -1,0 +1,2 @@
+pub mod Periodic
+pub mod Sizes

@@ -1,0 +1,57 @@
+// The period way on accepted input: from terms in lent bytes to the power of the factor. The first 8,192 work
+// bytes are two halves of 4,096, terms are stored there alone, and the way leaves them 0 and all beyond them as
+// it was. Assumes a well-formed field and what each function says of its input.
+ghost use Prim.Native.Nat.{_≤_};
+ghost use lib.ListN.{length};
+ghost use Rattle.arith.specs.Represented.{fieldOf, WellFormed};
+ghost use Rattle.action.specs.Halves.{Halves, half};
+ghost use Rattle.period_way.specs.Period.{PeriodInput, PeriodSearched, PeriodFound};
+use action::act_on_period;
+use action::load;
+use arith::GaloisField;
+use lent::clear;
+use lent::smaller;
+use levels::level_dividing;
+use powers::least_power;
+
+// The power of a factor that is rated, or nothing where no power allowed annihilates.
+pub enum Found {
+    Power(u64),
+    Nothing,
+}
+
+// The least power of f that annihilates the period of n terms in half 0. With N = p^w·m and m not divisible
+// by p, the power p^w decides whether there is one: it acts on the whole period first. Then the first
+// p^w·deg f terms are a portion whose power is that of the period. Uses both halves, and leaves all beyond
+// them as it was.
+fn search_period(field: GaloisField, work: &mut [u8], n: usize, f: &[u8]) -> Found
+    requires { ⌜ WellFormed field ⌝ }
+    requires { ⌜ Halves (now work) 0 n ⌝ }
+    requires { ⌜ PeriodInput (fieldOf field) (now f) (half (now work) 0 n) ⌝ }
+    ensures { λ r. ⌜ PeriodSearched (fieldOf field) (now (f .entry)) (half (now (work .entry)) 0 n)
+        (now (work .entry)) (now (work .exit)) r ⌝ }
+{
+    let level = level_dividing(field.size as usize, n);
+    let q = level.power;
+    if act_on_period(field, work, 0, n, f, q) {
+        let count = smaller(n, q * (f.len() - 1));
+        Found::Power(least_power(field, work, 0, count, f, level) as u64)
+    } else {
+        Found::Nothing
+    }
+}
+
+// The least power of f that annihilates the endless repetition of the terms, or nothing. Leaves the first
+// 8,192 work bytes 0, and the others as they were.
+pub fn period_power(field: GaloisField, work: &mut [u8], f: &[u8], terms: &[u8]) -> Found
+    requires { ⌜ WellFormed field ⌝ }
+    requires { ⌜ 8192 ≤ length (now work) ⌝ }
+    requires { ⌜ PeriodInput (fieldOf field) (now f) (now terms) ⌝ }
+    ensures { λ r. ⌜ PeriodFound (fieldOf field) (now (f .entry)) (now (terms .entry)) (now (work .entry))
+        (now (work .exit)) r ⌝ }
+{
+    load(work, 0, terms);
+    let found = search_period(field, work, terms.len(), f);
+    clear(work);
+    found
+}

@@ -1,0 +1,58 @@
+-- The rating of a file, by the verdict on its records.
+-- Assumes nothing.
+use Prim.Native.Nat.{ℕ}
+use mathlib.Core.Path.{_≡_, _∙_}
+use mathlib.Core.Bool.{false}
+use mathlib.Core.List.{List}
+use lib.Dec.{eqb}
+use lib.ListN.{length}
+use Rattle.meaning.specs.declared.FileRating.{FileRating}
+use Rattle.meaning.specs.Result.{refused, answered, mapResult}
+use Rattle.meaning.specs.Route.{records, boxOf}
+use Rattle.meaning.specs.Free.{Choice}
+use Rattle.meaning.specs.File.{rateRecords, rateFile}
+use Rattle.meaning.specs.Calls.{FileCall}
+use Rattle.framing.specs.Framing.{recordsFrom}
+use Rattle.framing.proofs.Records.{records-suited}
+use Rattle.massey.specs.Shortest.{freeChoice}
+use Rattle.massey.proofs.FreeWay.{free-chosen}
+use Rattle.telling.specs.Ratings.{RatedFile}
+use Rattle.file_ways.specs.Accepted.{AcceptedRecords}
+use Rattle.walk.specs.Walking.{verdictOf}
+use Rattle.file_verdict.proofs.Verdicts.{records-whole, records-known}
+use Rattle.rate_file.proofs.Accepted.{records-accepted, bodies-accepted}
+
+module _ (file : List ℕ) where
+  pub file-accepted : answered tt ≡ verdictOf (records file) → AcceptedRecords (recordsFrom file 0)
+  file-accepted v =
+      record { whole = bodies-accepted file v 4; suited = records-suited file (records-accepted file v) }
+
+  -- the result for a file, by the verdict on its records
+  module _ (pick : Choice) (answer work : ℕ) where
+    pub file-rated : answered tt ≡ verdictOf (records file)
+        → rateFile pick file answer work ≡ rateRecords pick (recordsFrom file 0) answer work
+    unfolding rateFile
+    file-rated v = rw (records-accepted file v, rateFile)
+
+    pub file-refused : {n : ℕ} → refused n ≡ verdictOf (records file)
+        → rateFile pick file answer work ≡ refused n
+    unfolding rateFile mapResult
+    file-refused v = rw (records-known file v, rateFile)
+
+  pub file-number : {n : ℕ} → refused n ≡ verdictOf (records file) → eqb n 17 ≡ false
+  unfolding mapResult
+  file-number v = rw (records-known file v) at (records-whole file)
+
+  -- the contract of the call
+  pub file-call : {sender : ℕ} {answer work : List ℕ} {r : FileRating} {answer′ work′ : List ℕ}
+      → sender ≡ boxOf file
+      → RatedFile sender (rateFile freeChoice file (length answer) (length work)) answer work r answer′ work′
+      → FileCall freeChoice file answer work r answer′ work′
+  file-call e h =
+      record {
+        sender = h .tells .box ∙ e;
+        rating = h .tells .rating;
+        powers = h .tells .powers;
+        chosen = λ rs q m. free-chosen _ _;
+        lent = h .lent;
+      }

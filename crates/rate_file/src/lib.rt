@@ -1,0 +1,32 @@
+// The rating of a route file: its verdict, and then the rating of what it holds. It answers for every file of
+// any length.
+use contents::box_of;
+use contents::gather_terms;
+use file_verdict::verdict;
+use file_ways::rate_records;
+use framing::part;
+use meaning::FileRating;
+use refusals::Verdict;
+use telling::of_refusal;
+ghost use Rattle.meaning.specs.Calls.{FileCall};
+ghost use Rattle.massey.specs.Shortest.{freeChoice};
+
+// The rating of a file, with the number of the box that sent it: the answer of the way that its mode
+// names on what it holds, or the refusal by 1 to 5 or by that way. Accepted, it leaves the polynomial at
+// the front of the answer; accepted or refused by 17, zeros in the first 8,192 work bytes. Every other
+// lent byte stays as it was.
+pub fn rate_file(file: &[u8], answer: &mut [u8], work: &mut [u8]) -> FileRating
+    ensures { λ r. ⌜ FileCall freeChoice (now (file .entry)) (now (answer .entry)) (now (work .entry)) r
+        (now (answer .exit)) (now (work .exit)) ⌝ }
+{
+    let sender = box_of(file);
+    match verdict(file) {
+        Verdict::Refused(r) => of_refusal(sender, r),
+        Verdict::Accepted => {
+            // one more than 7 allows: further terms change nothing
+            let mut terms = [0u8; 4097];
+            let count = gather_terms(file, &mut terms);
+            rate_records(sender, file, part(&terms, 0, count), answer, work)
+        }
+    }
+}

@@ -1,0 +1,75 @@
+-- `set_way::search_set` meets its contract. Assumes nothing.
+use mathlib.Core.Path.{_∙_}
+use native.Mathlib.Omega.{arith}
+use lib.ListN.{replicate}
+use borrow.Author.Needs.{needs}
+use Rattle.set_way.proofs.Answers.{front-end, lent-input, lent-length, found-powers, found-nothing}
+use Rattle.set_way.proofs.search_set.Statement.{statement}
+use Rattle.set_way.proofs.search_set.Tie as tie
+
+annihilates-requires : tie.Need-annihilates-requires
+annihilates-requires c κs = search needs
+
+total-degree-requires : tie.Need-total-degree-requires
+total-degree-requires c κs = search needs
+
+sub-least-powers : tie.Need-sub-least-powers
+sub-least-powers c = search needs
+
+part-least-powers-start : tie.Need-part-least-powers-start
+part-least-powers-start c = search needs
+
+part-least-powers-end : tie.Need-part-least-powers-end
+part-least-powers-end c =
+    let d = c .before in
+    front-end (d .before .before .before .before .before .before .before .before .before .pre .1 .1)
+    (d .total-degree .ensures)
+
+least-powers-requires : tie.Need-least-powers-requires
+least-powers-requires c κs =
+    let d = c .before .before in
+    let s = d .before .before .before .before .before .before .before .before .before in (
+      s .pre .0,
+      (
+        omega (arith, s .pre .1 .0, d .before .before .before .before .annihilates .ensures .kept .size),
+        (
+          lent-input (s .pre .1 .1) (d .total-degree .ensures),
+          lent-length (s .pre .1 .1) (d .total-degree .ensures),
+        ),
+      ),
+    )
+
+same-length : tie.Need-same-length
+same-length c =
+    let a = c .before .before .before .before .before .before .before .before .before in
+    c .before .before .least-powers .ensures .kept .size ∙ a .annihilates .ensures .kept .size
+
+returns : tie.Need-returns
+returns c =
+    let d = c .before .before .before .before .before in
+    found-powers (d .before .before .before .before .before .before .before .before .before .pre .1 .1)
+    (d .total-degree .ensures) (d .before .before .before .before .annihilates .ensures)
+    (d .before .if1 .taken) (c .before .before .least-powers .ensures)
+
+same-length-2 : tie.Need-same-length-2
+same-length-2 c = c .before .before .before .annihilates .ensures .kept .size
+
+returns-2 : tie.Need-returns-2
+returns-2 c =
+    found-nothing (c .before .before .before .before .before .before .before .before .pre .1 .1)
+    (replicate 8 0) (c .before .before .before .annihilates .ensures) (c .if1 .left)
+
+pub search-set-spec : {M : Type 1} → statement M
+search-set-spec =
+    tie.close
+    (tie.spec
+    annihilates-requires
+    total-degree-requires
+    sub-least-powers
+    part-least-powers-start
+    part-least-powers-end
+    least-powers-requires
+    same-length
+    returns
+    same-length-2
+    returns-2)
