@@ -23,9 +23,9 @@ use Rattle.arith.specs.Represented.{fieldOf, WellFormed}
 use Rattle.arith.proofs.Represented.{field-isField, size-least}
 use Rattle.levels.specs.declared.Level.{Level}
 use Rattle.levels.specs.Levels.{Dividing}
-use Rattle.action.specs.Halves.{half, Halves, Placed, Acted}
-use Rattle.powers.specs.Searching.{Searchable, Searched}
-use Rattle.powers.proofs.Bytes.{half-length, half-cut, placed-same, placed-kept, kept-trans, cleared-kept}
+use Rattle.halves.specs.Halves.{half, Halves, Placed, Acted}
+use Rattle.digit_search.specs.Searching.{Searchable, Searched}
+use Rattle.halves.proofs.Bytes.{half-length, half-cut, placed-same, placed-kept, kept-trans, cleared-kept}
 use Rattle.period_way.specs.declared.Found.{Found}
 use Rattle.period_way.specs.declared.Found.the-variants.{Power, Nothing}
 use Rattle.period_way.specs.Period.{told, PeriodInput, PeriodSearched, PeriodFound}

@@ -4,15 +4,15 @@
 ghost use Prim.Native.Nat.{_≤_};
 ghost use lib.ListN.{length};
 ghost use Rattle.arith.specs.Represented.{fieldOf, WellFormed};
-ghost use Rattle.action.specs.Halves.{Halves, half};
+ghost use Rattle.halves.specs.Halves.{Halves, half};
 ghost use Rattle.period_way.specs.Period.{PeriodInput, PeriodSearched, PeriodFound};
 use action::act_on_period;
-use action::load;
 use arith::GaloisField;
+use digit_search::least_power;
+use halves::load;
 use lent::clear;
 use lent::smaller;
 use levels::level_dividing;
-use powers::least_power;
 
 // The power of a factor that is rated, or nothing where no power allowed annihilates.
 pub enum Found {

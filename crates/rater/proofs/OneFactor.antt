@@ -37,7 +37,7 @@ use Rattle.irreducible.specs.Trial.{Accepted}
 use Rattle.refusals.specs.declared.Verdict.{Verdict}
 use Rattle.refusals.specs.Verdicts.{numberIn}
 use Rattle.refusals.proofs.Settled.{settle-last, settle-over}
-use Rattle.powers.specs.Writing.{PowerInput, PowerWritten}
+use Rattle.power_product.specs.Writing.{PowerInput, PowerWritten}
 use Rattle.period_way.specs.declared.Found.{Found}
 use Rattle.period_way.specs.declared.Found.the-variants.{Power, Nothing}
 use Rattle.period_way.specs.Period.{told}

@@ -39,7 +39,7 @@ use Rattle.bridge.proofs.Portions.{setPowers-exists}
 use Rattle.refusals.specs.declared.Verdict.{Verdict}
 use Rattle.refusals.specs.Verdicts.{numberIn, allButLast, setChecks}
 use Rattle.refusals.proofs.Settled.{accepted-holds, settle-early, settle-last, settle-over, set-last}
-use Rattle.powers.specs.Writing.{ProductInput, ProductWritten}
+use Rattle.power_product.specs.Writing.{ProductInput, ProductWritten}
 use Rattle.set_way.specs.declared.SetPowers.{SetPowers}
 use Rattle.set_action.specs.SetActions.{SetInput}
 use Rattle.set_way.specs.SetWay.{SetFound}

@@ -25,7 +25,7 @@ use Rattle.bridge.proofs.Searches.{or-false, true-T, false-T, none-member, getD
 use Rattle.bridge.proofs.Products.{factorAt, powerAt, MonicFactors, length-named, factorAt-named}
 use Rattle.bridge.proofs.Products.{powerAt-named}
 use Rattle.bridge.proofs.Portions.{degree-others}
-use Rattle.powers.proofs.Totals.{total-part}
+use Rattle.power_product.proofs.Totals.{total-part}
 use Rattle.set_action.specs.SetActions.{SetInput}
 
 -- Total degrees

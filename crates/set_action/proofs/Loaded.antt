@@ -16,9 +16,9 @@ use Rattle.meaning.specs.Sequence.{actOnKnown}
 use Rattle.meaning.specs.Conditions.{named}
 use Rattle.bridge.proofs.KnownActions.{allZero, annihilatesKnown-all}
 use Rattle.bridge.proofs.Products.{length-named}
-use Rattle.action.specs.Halves.{half, Halves, Placed}
-use Rattle.powers.specs.declared.acting.Place.{Place}
-use Rattle.powers.proofs.Bytes.{placed-kept, kept-trans, lent-half}
+use Rattle.halves.specs.Halves.{half, Halves, Placed}
+use Rattle.power_action.specs.declared.Place.{Place}
+use Rattle.halves.proofs.Bytes.{placed-kept, kept-trans, lent-half}
 use Rattle.set_action.specs.SetActions.{SetInput, OthersActed, SetDecided}
 use Rattle.set_action.proofs.Inputs.{without-none}
 

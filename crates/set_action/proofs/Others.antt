@@ -29,13 +29,13 @@ use Rattle.bridge.proofs.Portions.{othersActed-all, powerAt-own, powerAt-other}
 use Rattle.arith.specs.declared.field.GaloisField.{GaloisField}
 use Rattle.arith.specs.Represented.{fieldOf, WellFormed}
 use Rattle.arith.proofs.Represented.{field-isField}
-use Rattle.action.specs.Halves.{half, Halves}
-use Rattle.powers.specs.declared.acting.Place.{Place}
-use Rattle.powers.specs.Searching.{Kept}
-use Rattle.powers.specs.Acting.{Actable, PowerActed}
-use Rattle.powers.proofs.Bytes.{half-length, kept-same, kept-trans}
+use Rattle.halves.specs.Halves.{half, Halves}
+use Rattle.power_action.specs.declared.Place.{Place}
+use Rattle.halves.specs.Kept.{Kept}
+use Rattle.power_action.specs.Acting.{Actable, PowerActed}
+use Rattle.halves.proofs.Bytes.{half-length, kept-same, kept-trans}
 use Rattle.set_action.specs.SetActions.{SetInput, OthersActed}
-use Rattle.powers.proofs.Totals.{total-take, total-part}
+use Rattle.power_product.proofs.Totals.{total-take, total-part}
 use Rattle.set_action.proofs.Inputs.{total-without, input-monics, input-few, input-short}
 
 pub record Passing (field : GaloisField) (fs : List Polynomial) (us : List ℕ) (skip : ℕ) (s w₀ w : List ℕ)

@@ -18,9 +18,9 @@ use Rattle.meaning.specs.Sequence.{actOnKnown, annihilatesKnown}
 use Rattle.meaning.specs.Conditions.{named, totalDegree, upperPowersOutOfRange}
 use Rattle.meaning.specs.Portion.{withPower}
 use Rattle.bridge.proofs.Irreducibles.{Factors}
-use Rattle.action.specs.Halves.{half}
-use Rattle.powers.specs.declared.acting.Place.{Place}
-use Rattle.powers.specs.Searching.{Kept}
+use Rattle.halves.specs.Halves.{half}
+use Rattle.power_action.specs.declared.Place.{Place}
+use Rattle.halves.specs.Kept.{Kept}
 
 pub record SetInput (F : Field) (fs : List Polynomial) (us ts : List ℕ) : Type 0 where
   pub factors : Factors F fs

@@ -1,15 +1,15 @@
 // The upper powers of the factors of a set act on terms in the first 8,192 work bytes, two halves of 4,096.
 // Assumes a well-formed field and accepted input.
-use action::all_zero;
-use action::load;
 use arith::GaloisField;
-use powers::Place;
-use powers::act_power;
+use halves::all_zero;
+use halves::load;
+use power_action::Place;
+use power_action::act_power;
 ghost use Prim.Native.Nat.{_≤_};
 ghost use lib.ListN.{length};
 ghost use Rattle.arith.specs.Represented.{fieldOf, WellFormed};
 ghost use Rattle.factor_checks.specs.Contents.{contents};
-ghost use Rattle.action.specs.Halves.{Halves, half};
+ghost use Rattle.halves.specs.Halves.{Halves, half};
 ghost use Rattle.set_action.specs.SetActions.{SetInput, OthersActed, SetDecided};
 
 // Acts on the n terms of half 0 with the upper powers of all factors but that at the place `skip`, and

@@ -33,10 +33,11 @@ use Rattle.arith.specs.Represented.{fieldOf, WellFormed}
 use Rattle.arith.proofs.Represented.{field-isField, size-least}
 use Rattle.levels.specs.declared.Level.{Level}
 use Rattle.levels.specs.Levels.{Reaching}
-use Rattle.action.specs.Halves.{Placed}
-use Rattle.powers.specs.declared.acting.Place.{Place}
-use Rattle.powers.specs.Searching.{Kept, Searchable, Searched}
-use Rattle.powers.proofs.Bytes.{placed-kept, kept-same, kept-trans}
+use Rattle.halves.specs.Halves.{Placed}
+use Rattle.power_action.specs.declared.Place.{Place}
+use Rattle.halves.specs.Kept.{Kept}
+use Rattle.digit_search.specs.Searching.{Searchable, Searched}
+use Rattle.halves.proofs.Bytes.{placed-kept, kept-same, kept-trans}
 use Rattle.set_action.specs.SetActions.{SetInput, OthersActed}
 use Rattle.set_action.proofs.Inputs.{input-monics, input-nonzero, input-few, input-short}
 use Rattle.set_search.specs.SetSearch.{PowerFoundAt, PowersSearched}

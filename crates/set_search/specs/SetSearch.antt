@@ -13,7 +13,7 @@ use Rattle.meaning.specs.Polynomial.{Polynomial}
 use Rattle.meaning.specs.Conditions.{named}
 use Rattle.meaning.specs.Portion.{leastAt, setPowers}
 use Rattle.meaning.specs.Answers.{padded}
-use Rattle.powers.specs.Searching.{Kept}
+use Rattle.halves.specs.Kept.{Kept}
 
 pub record PowerFoundAt (F : Field) (fs : List Polynomial) (us ts : List ℕ) (i : ℕ) (w w′ : List ℕ) (r : ℕ)
     : Type 0 where

@@ -1,9 +1,9 @@
 // The least power of each factor of a set, where the others act to their upper powers. Assumes a well-formed
 // field and accepted input.
-use action::load;
 use arith::GaloisField;
+use digit_search::least_power;
+use halves::load;
 use levels::level_reaching;
-use powers::least_power;
 use set_action::act_others;
 ghost use mathlib.Core.Path.{_≡_};
 ghost use Prim.Native.Nat.{_≤_, _<_};

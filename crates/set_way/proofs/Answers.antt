@@ -30,7 +30,7 @@ use Rattle.bridge.proofs.Products.{Nonempties, monics-nonempty}
 use Rattle.bridge.proofs.Continuations.{take-elements}
 use Rattle.bridge.proofs.Portions.{setPowers-exists}
 use Rattle.factor_checks.proofs.Uppers.{total-known}
-use Rattle.powers.proofs.Bytes.{kept-trans, cleared-kept}
+use Rattle.halves.proofs.Bytes.{kept-trans, cleared-kept}
 use Rattle.set_way.specs.declared.SetPowers.{SetPowers}
 use Rattle.set_action.specs.SetActions.{SetInput, SetDecided}
 use Rattle.set_action.proofs.Inputs.{input-monics}

@@ -19,7 +19,7 @@ use Rattle.meaning.specs.Answers.{padded}
 use Rattle.bridge.proofs.Interpretation.{IsField}
 use Rattle.bridge.proofs.Products.{Nonempties, monics-nonempty, length-named, powerAt-named}
 use Rattle.bridge.proofs.Portions.{leastAt-exists, setPowers-places}
-use Rattle.powers.specs.Writing.{ProductInput}
+use Rattle.power_product.specs.Writing.{ProductInput}
 use Rattle.set_action.specs.SetActions.{SetInput}
 use Rattle.set_action.proofs.Inputs.{input-monics, input-total}
 

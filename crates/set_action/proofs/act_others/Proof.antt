@@ -9,9 +9,9 @@ use lib.ListN.{length, getD}
 use borrow.Author.Needs.{needs}
 use Rattle.factor_checks.specs.Contents.{contents}
 use Rattle.factor_checks.proofs.Contents.{contents-length, contents-at}
-use Rattle.action.specs.Halves.{half}
-use Rattle.powers.specs.Acting.{Actable, PowerActed}
-use Rattle.powers.proofs.Bytes.{half-length}
+use Rattle.halves.specs.Halves.{half}
+use Rattle.power_action.specs.Acting.{Actable, PowerActed}
+use Rattle.halves.proofs.Bytes.{half-length}
 use Rattle.set_action.proofs.Inputs.{input-index}
 use Rattle.set_action.proofs.Others.{Passing, passing-start, passing-actable, passing-other, passing-own}
 use Rattle.set_action.proofs.Others.{passing-end}

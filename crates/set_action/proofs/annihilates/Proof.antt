@@ -3,7 +3,7 @@ use mathlib.Core.Path.{_∙_}
 use native.Mathlib.Nat as ℕ
 use native.Mathlib.Omega.{arith}
 use borrow.Author.Needs.{needs}
-use Rattle.action.specs.Halves.{Halves}
+use Rattle.halves.specs.Halves.{Halves}
 use Rattle.factor_checks.proofs.Contents.{contents-length}
 use Rattle.set_action.proofs.Loaded.{set-halves, loaded-halves, loaded-set, left-halves, decided-set}
 use Rattle.set_action.proofs.annihilates.Statement.{statement}

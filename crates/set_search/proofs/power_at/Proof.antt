@@ -5,7 +5,7 @@ use native.Mathlib.Omega.{arith}
 use lib.ListN.{length}
 use borrow.Author.Needs.{needs}
 use Rattle.levels.proofs.Bounds.{size-base}
-use Rattle.powers.specs.Searching.{Searchable, Searched}
+use Rattle.digit_search.specs.Searching.{Searchable, Searched}
 use Rattle.factor_checks.specs.Contents.{contents}
 use Rattle.factor_checks.proofs.Contents.{contents-length, contents-at}
 use Rattle.set_action.proofs.Inputs.{input-index, input-few}
