@@ -23,7 +23,7 @@ use Rattle.framing.specs.Framing.{recordsFrom}
 use Rattle.refusals.specs.declared.Verdict.{Verdict}
 use Rattle.refusals.specs.Verdicts.{numberIn, termsTable}
 use Rattle.refusals.proofs.Settled.{accepted-holds}
-use Rattle.rater.proofs.Lent.{never-refused}
+use Rattle.refusals.proofs.Lent.{never-refused}
 use Rattle.file_factors.specs.Written.{factorsIn, polynomialsIn, writtenTable}
 use Rattle.file_factors.proofs.Places.{factors-count}
 use Rattle.file_factors.proofs.Polynomials.{AllWhole, factors-whole, polynomials-fit}

@@ -21,7 +21,7 @@ use Rattle.meaning.specs.File.{FileFigures, powers, fileAnswer, ofPeriod, ofSet
 use Rattle.meaning.specs.Answers.{toldPower, toldFree, setFiguresTold, setPadded, withPowers}
 use Rattle.meaning.specs.Answers.{labelTold, fileFiguresTold, labelPowers, filePadded}
 use Rattle.meaning.specs.Calls.{LentAfter, PeriodCall, SetCall, FreeCall}
-use Rattle.rater.proofs.Lent.{lent-refused}
+use Rattle.refusals.proofs.Lent.{lent-refused}
 use Rattle.telling.specs.Ratings.{powerFigures, freeFigures, Tells, TellsSet, RatedFile}
 
 -- the lent bytes are left alike where refusals and polynomials are the same

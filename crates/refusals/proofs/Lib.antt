@@ -1,3 +1,4 @@
 pub mod Order
 pub mod Ways
 pub mod Settled
+pub mod Lent

@@ -1,0 +1,49 @@
+-- `is_irreducible` meets its contract: the verdict refuses, or the trial division answers.
+-- Assumes nothing.
+use borrow.Author.Needs.{needs}
+use Rattle.questions.proofs.Question.{question-refused, question-accepted, question-yes, question-no}
+use Rattle.questions.proofs.is_irreducible.Statement.{statement}
+use Rattle.questions.proofs.is_irreducible.Tie as tie
+
+irreducible-verdict-requires : tie.Need-irreducible-verdict-requires
+irreducible-verdict-requires c κs = search needs
+
+enum-known-r : tie.Need-enum-known-r
+enum-known-r c = search needs
+
+enum-told : tie.Need-enum-told
+enum-told c = search needs
+
+is-irreducible-requires : tie.Need-is-irreducible-requires
+is-irreducible-requires c κs =
+    question-accepted _ _ (c .before .before .irreducible-verdict .ensures) (c .enum-told .given .1)
+
+returns : tie.Need-returns
+returns c =
+    question-refused _ _ (c .before .before .before .irreducible-verdict .ensures) (c .before .r .given .1)
+
+returns-2 : tie.Need-returns-2
+returns-2 c =
+    let a = c .before .before in
+    question-yes _ _ (a .before .before .irreducible-verdict .ensures) (a .enum-told .given .1)
+    (c .before .is-irreducible .ensures)
+    (c .if1 .taken)
+
+returns-3 : tie.Need-returns-3
+returns-3 c =
+    let a = c .before .before in
+    question-no _ _ (a .before .before .irreducible-verdict .ensures) (a .enum-told .given .1)
+    (c .before .is-irreducible .ensures)
+    (c .if1 .left)
+
+pub is-irreducible-spec : {M : Type 1} → statement M
+is-irreducible-spec =
+    tie.close
+    (tie.spec
+    irreducible-verdict-requires
+    enum-known-r
+    enum-told
+    is-irreducible-requires
+    returns
+    returns-2
+    returns-3)

@@ -1,0 +1,218 @@
+-- The set way, by its verdict, the powers that are found and the product that is written.
+--
+--   set-refused      == refused by one of the conditions 6 to 16
+--   set-prime, set-lent, set-input == what an accepted call may hand on
+--   set-seventeen    == refused by 17
+--   set-powers-input == the powers that are found can be written as a product
+--   set-rated        == rated
+-- Assumes nothing.
+use Prim.Native.Nat.{ℕ, _≤_}
+use native.Mathlib.Omega.{arith}
+use mathlib.Core.Path.{_≡_, refl, sym, ap, subst, _∙_}
+use mathlib.Core.Bool.{true, false, not}
+use mathlib.Core.List.{List}
+use mathlib.Core.Option.{some}
+use lib.ListN.{length, replicate}
+use lib.Dec.{T, eqb, ltb}
+use borrow.Author.Tests.{ltb-false}
+use Rattle.meaning.specs.declared.Refusal.{Refusal}
+use Rattle.meaning.specs.declared.SetOutcome.{SetOutcome}
+use Rattle.meaning.specs.declared.SetRating.{SetRating}
+use Rattle.meaning.specs.Search.{holdsForSome}
+use Rattle.meaning.specs.Field.{Field, prime, primeInRange}
+use Rattle.meaning.specs.Polynomial.{Polynomial, degree, product}
+use Rattle.meaning.specs.Sequence.{annihilatesKnown}
+use Rattle.meaning.specs.Conditions.{named, factorCountOutOfRange, isReducible, twoEqual, totalDegree}
+use Rattle.meaning.specs.Result.{Result, refused, answered, mapResult, firstOf, valueOf, Rated, figuresOf}
+use Rattle.meaning.specs.Result.{written, cleared}
+use Rattle.meaning.specs.Portion.{SetFigures, setPowers, setRating, setTable, setAnswer, rateSet, factorsOf}
+use Rattle.meaning.specs.Answers.{numberOf, toldSet, setFiguresTold, padded, setPadded}
+use Rattle.meaning.specs.Calls.{LentAfter, SetCall}
+use Rattle.meaning.proofs.Tables.{NoneHolds}
+use Rattle.bridge.proofs.Searches.{or-false, mapOption-some}
+use Rattle.bridge.proofs.Interpretation.{IsField}
+use Rattle.bridge.proofs.Accepted.{prime-accepted, count-accepted, terms-accepted, enough-accepted}
+use Rattle.bridge.proofs.Products.{Nonempties, monics-nonempty, length-named, factorsOf-named}
+use Rattle.bridge.proofs.Irreducibles.{accepted-factors}
+use Rattle.bridge.proofs.Portions.{setPowers-exists}
+use Rattle.refusals.specs.declared.Verdict.{Verdict}
+use Rattle.refusals.specs.Verdicts.{numberIn, allButLast, setChecks}
+use Rattle.refusals.proofs.Settled.{accepted-holds, settle-early, settle-last, settle-over, set-last}
+use Rattle.power_product.specs.Writing.{ProductInput, ProductWritten}
+use Rattle.set_way.specs.declared.SetPowers.{SetPowers}
+use Rattle.set_action.specs.SetActions.{SetInput}
+use Rattle.set_way.specs.SetWay.{SetFound}
+use Rattle.set_action.proofs.Inputs.{input-monics}
+use Rattle.set_way.proofs.Answers.{answer-annihilated, answer-powers}
+use Rattle.set_way.proofs.Sizes.{set-count, set-product, named-padded}
+use Rattle.refusals.proofs.Lent.{lent-enough, names, never-refused, lent-refused, lent-seventeen}
+use Rattle.refusals.proofs.Lent.{lent-rated}
+
+-- A refusal tells its number and no powers.
+refused-call :
+    {p : ℕ} {fs : List Polynomial} {us ts answer work answer′ work′ : List ℕ} {x : Refusal} {s : SetRating}
+    → (s .outcome ≡ SetOutcome.Refused x) × (s .powers ≡ replicate 8 0)
+    → rateSet p fs us ts (length answer) (length work) ≡ refused (numberOf x)
+    → LentAfter (rateSet p fs us ts (length answer) (length work)) answer work answer′ work′
+    → SetCall p fs us ts answer work s answer′ work′
+unfolding toldSet mapResult figuresOf setPadded padded
+refused-call (o, z) e l =
+    record {
+      rating =
+          ap toldSet o
+          ∙ ap (λ (r : Result (Rated SetFigures)). mapResult setFiguresTold (figuresOf r)) (sym e);
+      powers = z ∙ ap (λ (r : Result (Rated SetFigures)). setPadded (figuresOf r)) (sym e);
+      lent = l;
+    }
+
+-- The answer with the powers rs, when the polynomial is written from them as they stand in eight places.
+answer-polynomial :
+    (F : Field) (fs : List Polynomial) (us rs : List ℕ)
+    → length rs ≡ length fs
+    → product F (named fs (padded rs)) ≡ product F (named (factorsOf (named fs us)) rs)
+answer-polynomial F fs us rs size =
+    ap (product F) (named-padded fs rs size)
+    ∙ ap (λ gs. product F (named gs rs)) (sym (factorsOf-named fs us))
+
+rated-call :
+    {p : ℕ} {fs : List Polynomial} {us ts answer work : List ℕ} {F : Field} (rs : List ℕ)
+    {powers answer′ work′ : List ℕ} {n k : ℕ} {s : SetRating}
+    → (s .outcome ≡ SetOutcome.Rated n k) × (s .powers ≡ powers)
+    → length rs ≡ length fs
+    → rateSet p fs us ts (length answer) (length work) ≡ answered (setRating F (named fs us) rs)
+    → powers ≡ padded rs
+    → k ≡ length fs
+    → ProductWritten F fs (padded rs) answer answer′ n
+    → work′ ≡ cleared work
+    → SetCall p fs us ts answer work s answer′ work′
+unfolding toldSet setFiguresTold mapResult figuresOf setPadded setRating
+rated-call {fs = fs} {us = us} {answer = answer} {F = F} rs {n = n} (o, z) size e i k y w =
+    let g = answer-polynomial F fs us rs size in
+    record {
+      rating =
+          ap toldSet o
+          ∙ ap (λ c. answered (record { degree = n; count = c })) (k ∙ sym size)
+          ∙ ap (λ d. answered (record { degree = d; count = length rs })) (y .newDegree ∙ ap degree g)
+          ∙ ap (λ (r : Result (Rated SetFigures)). mapResult setFiguresTold (figuresOf r)) (sym e);
+      powers = z ∙ i ∙ ap (λ (r : Result (Rated SetFigures)). setPadded (figuresOf r)) (sym e);
+      lent = lent-rated e (y .answer ∙ ap (λ h. written h answer) g) w;
+    }
+
+no-seventeen :
+    (p : ℕ) (fs : List Polynomial) (us ts : List ℕ) (answer work : ℕ)
+    → names 17 (setChecks p fs us ts answer work) ≡ false
+unfolding setChecks allButLast setTable holdsForSome
+no-seventeen p fs us ts answer work = refl
+
+module _ (p : ℕ) (fs : List Polynomial) (us ts answer work : List ℕ) {v : Verdict}
+    (e : numberIn v ≡ firstOf (setChecks p fs us ts (length answer) (length work))) where
+  refused-by : {x : Refusal} → v ≡ Verdict.Refused x
+      → rateSet p fs us ts (length answer) (length work) ≡ refused (numberOf x)
+  unfolding rateSet setAnswer
+  refused-by q = rw (set-last p ts (length answer) (length work) fs us) (settle-early _ _ _ e q)
+
+  pub set-refused :
+      {x : Refusal} {s : SetRating}
+      → v ≡ Verdict.Refused x
+      → (s .outcome ≡ SetOutcome.Refused x) × (s .powers ≡ replicate 8 0)
+      → SetCall p fs us ts answer work s answer work
+  set-refused q o =
+      let k = refused-by q in
+      refused-call o k
+      (lent-refused k (never-refused 17 _ (no-seventeen p fs us ts (length answer) (length work)) e q))
+
+  module _ (q : v ≡ Verdict.Accepted) where
+    passed : NoneHolds (setChecks p fs us ts (length answer) (length work))
+    passed = accepted-holds _ e q
+
+    pub set-prime : T (primeInRange p)
+    unfolding setChecks allButLast setTable
+    set-prime = prime-accepted p (passed .0)
+
+    pub set-lent : (4097 ≤ length answer) × (8192 ≤ length work)
+    unfolding setChecks allButLast setTable
+    set-lent = lent-enough (length answer) (length work) (passed .1 .1 .1 .1 .1 .1 .1 .1 .1 .1 .0)
+
+    accepted-input : SetInput (prime p) fs us ts
+    unfolding setChecks allButLast setTable factorCountOutOfRange
+    accepted-input =
+        let n = length (named fs us) in
+        let few = ltb-false 8 n (or-false (eqb n 0) (ltb 8 n) (passed .1 .1 .1 .0) .1) in
+        record {
+          factors =
+              accepted-factors p fs (passed .0) (passed .1 .1 .1 .1 .0) (passed .1 .1 .1 .1 .1 .0)
+              (ap (holdsForSome (isReducible p)) (sym (factorsOf-named fs us))
+              ∙ passed .1 .1 .1 .1 .1 .1 .0)
+              (ap twoEqual (sym (factorsOf-named fs us)) ∙ passed .1 .1 .1 .1 .1 .1 .1 .0);
+          eight = omega (arith, length-named fs us, few);
+          uppers = passed .1 .1 .1 .1 .1 .1 .1 .1 .0;
+          enough = enough-accepted (totalDegree (named fs us)) ts (passed .1 .1 .1 .1 .1 .1 .1 .1 .1 .0);
+          inField = terms-accepted p ts (passed .1 .1 .0);
+          notMany = count-accepted (length ts) (passed .1 .0) .1;
+        }
+
+    not-annihilated :
+        annihilatesKnown (prime p) (product (prime p) (named fs us)) ts ≡ false
+        → rateSet p fs us ts (length answer) (length work) ≡ refused 17
+    unfolding rateSet setAnswer
+    not-annihilated h =
+        rw (set-last p ts (length answer) (length work) fs us) (settle-last _ _ _ e q (ap not h))
+
+    annihilated :
+        {rs : List ℕ}
+        → annihilatesKnown (prime p) (product (prime p) (named fs us)) ts ≡ true
+        → setPowers (prime p) (named fs us) ts ≡ some rs
+        → rateSet p fs us ts (length answer) (length work) ≡ answered (setRating (prime p) (named fs us) rs)
+    unfolding rateSet setAnswer valueOf
+    annihilated h i =
+        rw (set-last p ts (length answer) (length work) fs us)
+        (settle-over _ _ _ e q (ap not h) ∙ ap valueOf (mapOption-some (setRating (prime p) (named fs us)) i))
+
+    -- the field as the code has it
+    module _ {F : Field} (h : F ≡ prime p) where
+      pub set-input : SetInput F fs us ts
+      set-input = subst (λ G. SetInput G fs us ts) (sym h) accepted-input
+
+      module _ (I : IsField F) {r : SetPowers} {work′ : List ℕ} (y : SetFound F fs us ts work work′ r) where
+        nonempties : Nonempties (named fs us)
+        nonempties = monics-nonempty F (named fs us) (input-monics set-input)
+
+        decided : annihilatesKnown (prime p) (product (prime p) (named fs us)) ts ≡ r .annihilated
+        decided =
+            sym (answer-annihilated I set-input y
+            ∙ ap (λ G. annihilatesKnown G (product G (named fs us)) ts) h)
+
+        pub set-seventeen :
+            {s : SetRating}
+            → r .annihilated ≡ false
+            → (s .outcome ≡ SetOutcome.Refused Refusal.NotAnnihilated) × (s .powers ≡ replicate 8 0)
+            → SetCall p fs us ts answer work s answer work′
+        unfolding numberOf
+        set-seventeen n o =
+            let k = not-annihilated (decided ∙ n) in
+            refused-call o k (lent-seventeen k (y .work))
+
+        module _ (n : r .annihilated ≡ true) where
+          pub set-powers-input : ProductInput F fs (r .powers)
+          set-powers-input =
+              let (rs, s) = setPowers-exists I (named fs us) nonempties ts in
+              subst (ProductInput F fs) (sym (answer-powers I set-input y n s)) (set-product I set-input s)
+
+          pub set-rated :
+              {answer′ : List ℕ} {d k : ℕ} {t : SetRating}
+              → k ≡ length fs
+              → ProductWritten F fs (r .powers) answer answer′ d
+              → (t .outcome ≡ SetOutcome.Rated d k) × (t .powers ≡ r .powers)
+              → SetCall p fs us ts answer work t answer′ work′
+          set-rated {answer′} {d} k z o =
+              let (rs, s) = setPowers-exists I (named fs us) nonempties ts in
+              let i = answer-powers I set-input y n s in
+              rated-call rs
+              o
+              (set-count I set-input s)
+              (annihilated (decided ∙ n) (ap (λ G. setPowers G (named fs us) ts) (sym h) ∙ s)
+              ∙ ap (λ G. answered (setRating G (named fs us) rs)) (sym h))
+              i
+              k
+              (subst (λ l. ProductWritten F fs l answer answer′ d) i z)
+              (y .work)
