@@ -32,7 +32,7 @@ use Rattle.meaning.proofs.Tables.{NoneHolds}
 use Rattle.bridge.proofs.Searches.{or-false, mapOption-some}
 use Rattle.bridge.proofs.Interpretation.{IsField}
 use Rattle.bridge.proofs.Accepted.{prime-accepted, count-accepted, terms-accepted, enough-accepted}
-use Rattle.bridge.proofs.Products.{Nonempties, monics-nonempty, length-named, factorsOf-named}
+use Rattle.bridge.proofs.Products.{monics-nonempty, length-named, factorsOf-named}
 use Rattle.bridge.proofs.Irreducibles.{accepted-factors}
 use Rattle.bridge.proofs.Portions.{setPowers-exists}
 use Rattle.refusals.specs.declared.Verdict.{Verdict}
@@ -104,34 +104,23 @@ no-seventeen :
 unfolding setChecks allButLast setTable holdsForSome
 no-seventeen p fs us ts answer work = refl
 
-module _ (p : ℕ) (fs : List Polynomial) (us ts answer work : List ℕ) {v : Verdict}
-    (e : numberIn v ≡ firstOf (setChecks p fs us ts (length answer) (length work))) where
-  refused-by : {x : Refusal} → v ≡ Verdict.Refused x
-      → rateSet p fs us ts (length answer) (length work) ≡ refused (numberOf x)
+module _ (p : ℕ) (fs : List Polynomial) (us ts : List ℕ) (answer work : ℕ) {v : Verdict}
+    (e : numberIn v ≡ firstOf (setChecks p fs us ts answer work)) where
+  set-early : {x : Refusal} → v ≡ Verdict.Refused x → rateSet p fs us ts answer work ≡ refused (numberOf x)
   unfolding rateSet setAnswer
-  refused-by q = rw (set-last p ts (length answer) (length work) fs us) (settle-early _ _ _ e q)
-
-  pub set-refused :
-      {x : Refusal} {s : SetRating}
-      → v ≡ Verdict.Refused x
-      → (s .outcome ≡ SetOutcome.Refused x) × (s .powers ≡ replicate 8 0)
-      → SetCall p fs us ts answer work s answer work
-  set-refused q o =
-      let k = refused-by q in
-      refused-call o k
-      (lent-refused k (never-refused 17 _ (no-seventeen p fs us ts (length answer) (length work)) e q))
+  set-early q = rw (set-last p ts answer work fs us) (settle-early _ _ _ e q)
 
   module _ (q : v ≡ Verdict.Accepted) where
-    passed : NoneHolds (setChecks p fs us ts (length answer) (length work))
+    passed : NoneHolds (setChecks p fs us ts answer work)
     passed = accepted-holds _ e q
 
     pub set-prime : T (primeInRange p)
     unfolding setChecks allButLast setTable
     set-prime = prime-accepted p (passed .0)
 
-    pub set-lent : (4097 ≤ length answer) × (8192 ≤ length work)
+    pub set-lent : (4097 ≤ answer) × (8192 ≤ work)
     unfolding setChecks allButLast setTable
-    set-lent = lent-enough (length answer) (length work) (passed .1 .1 .1 .1 .1 .1 .1 .1 .1 .1 .0)
+    set-lent = lent-enough answer work (passed .1 .1 .1 .1 .1 .1 .1 .1 .1 .1 .0)
 
     accepted-input : SetInput (prime p) fs us ts
     unfolding setChecks allButLast setTable factorCountOutOfRange
@@ -153,19 +142,18 @@ module _ (p : ℕ) (fs : List Polynomial) (us ts answer work : List ℕ) {v : Ve
 
     not-annihilated :
         annihilatesKnown (prime p) (product (prime p) (named fs us)) ts ≡ false
-        → rateSet p fs us ts (length answer) (length work) ≡ refused 17
+        → rateSet p fs us ts answer work ≡ refused 17
     unfolding rateSet setAnswer
-    not-annihilated h =
-        rw (set-last p ts (length answer) (length work) fs us) (settle-last _ _ _ e q (ap not h))
+    not-annihilated h = rw (set-last p ts answer work fs us) (settle-last _ _ _ e q (ap not h))
 
     annihilated :
         {rs : List ℕ}
         → annihilatesKnown (prime p) (product (prime p) (named fs us)) ts ≡ true
         → setPowers (prime p) (named fs us) ts ≡ some rs
-        → rateSet p fs us ts (length answer) (length work) ≡ answered (setRating (prime p) (named fs us) rs)
+        → rateSet p fs us ts answer work ≡ answered (setRating (prime p) (named fs us) rs)
     unfolding rateSet setAnswer valueOf
     annihilated h i =
-        rw (set-last p ts (length answer) (length work) fs us)
+        rw (set-last p ts answer work fs us)
         (settle-over _ _ _ e q (ap not h) ∙ ap valueOf (mapOption-some (setRating (prime p) (named fs us)) i))
 
     -- the field as the code has it
@@ -173,46 +161,68 @@ module _ (p : ℕ) (fs : List Polynomial) (us ts answer work : List ℕ) {v : Ve
       pub set-input : SetInput F fs us ts
       set-input = subst (λ G. SetInput G fs us ts) (sym h) accepted-input
 
-      module _ (I : IsField F) {r : SetPowers} {work′ : List ℕ} (y : SetFound F fs us ts work work′ r) where
-        nonempties : Nonempties (named fs us)
-        nonempties = monics-nonempty F (named fs us) (input-monics set-input)
+      module _ (I : IsField F) {r : SetPowers} {w w′ : List ℕ} (y : SetFound F fs us ts w w′ r) where
+        powers-exist : (rs : List ℕ) × (setPowers F (named fs us) ts ≡ some rs)
+        powers-exist =
+            setPowers-exists I (named fs us) (monics-nonempty F (named fs us) (input-monics set-input)) ts
 
         decided : annihilatesKnown (prime p) (product (prime p) (named fs us)) ts ≡ r .annihilated
         decided =
             sym (answer-annihilated I set-input y
             ∙ ap (λ G. annihilatesKnown G (product G (named fs us)) ts) h)
 
-        pub set-seventeen :
-            {s : SetRating}
-            → r .annihilated ≡ false
-            → (s .outcome ≡ SetOutcome.Refused Refusal.NotAnnihilated) × (s .powers ≡ replicate 8 0)
-            → SetCall p fs us ts answer work s answer work′
-        unfolding numberOf
-        set-seventeen n o =
-            let k = not-annihilated (decided ∙ n) in
-            refused-call o k (lent-seventeen k (y .work))
+        pub set-powers-input : r .annihilated ≡ true → ProductInput F fs (r .powers)
+        set-powers-input n =
+            let (rs, s) = powers-exist in
+            subst (ProductInput F fs) (sym (answer-powers I set-input y n s)) (set-product I set-input s)
 
-        module _ (n : r .annihilated ≡ true) where
-          pub set-powers-input : ProductInput F fs (r .powers)
-          set-powers-input =
-              let (rs, s) = setPowers-exists I (named fs us) nonempties ts in
-              subst (ProductInput F fs) (sym (answer-powers I set-input y n s)) (set-product I set-input s)
+module _ (p : ℕ) (fs : List Polynomial) (us ts answer work : List ℕ) {v : Verdict}
+    (e : numberIn v ≡ firstOf (setChecks p fs us ts (length answer) (length work))) where
+  pub set-refused :
+      {x : Refusal} {s : SetRating}
+      → v ≡ Verdict.Refused x
+      → (s .outcome ≡ SetOutcome.Refused x) × (s .powers ≡ replicate 8 0)
+      → SetCall p fs us ts answer work s answer work
+  set-refused q o =
+      let k = set-early p fs us ts (length answer) (length work) e q in
+      refused-call o k
+      (lent-refused k (never-refused 17 _ (no-seventeen p fs us ts (length answer) (length work)) e q))
 
-          pub set-rated :
-              {answer′ : List ℕ} {d k : ℕ} {t : SetRating}
-              → k ≡ length fs
-              → ProductWritten F fs (r .powers) answer answer′ d
-              → (t .outcome ≡ SetOutcome.Rated d k) × (t .powers ≡ r .powers)
-              → SetCall p fs us ts answer work t answer′ work′
-          set-rated {answer′} {d} k z o =
-              let (rs, s) = setPowers-exists I (named fs us) nonempties ts in
-              let i = answer-powers I set-input y n s in
-              rated-call rs
-              o
-              (set-count I set-input s)
-              (annihilated (decided ∙ n) (ap (λ G. setPowers G (named fs us) ts) (sym h) ∙ s)
-              ∙ ap (λ G. answered (setRating G (named fs us) rs)) (sym h))
-              i
-              k
-              (subst (λ l. ProductWritten F fs l answer answer′ d) i z)
-              (y .work)
+  module _ (q : v ≡ Verdict.Accepted) {F : Field} (h : F ≡ prime p) (I : IsField F) {r : SetPowers}
+      {work′ : List ℕ} (y : SetFound F fs us ts work work′ r) where
+    input : SetInput F fs us ts
+    input = set-input p fs us ts (length answer) (length work) e q h
+
+    tried : annihilatesKnown (prime p) (product (prime p) (named fs us)) ts ≡ r .annihilated
+    tried = decided p fs us ts (length answer) (length work) e q h I y
+
+    pub set-seventeen :
+        {s : SetRating}
+        → r .annihilated ≡ false
+        → (s .outcome ≡ SetOutcome.Refused Refusal.NotAnnihilated) × (s .powers ≡ replicate 8 0)
+        → SetCall p fs us ts answer work s answer work′
+    unfolding numberOf
+    set-seventeen n o =
+        let k = not-annihilated p fs us ts (length answer) (length work) e q (tried ∙ n) in
+        refused-call o k (lent-seventeen k (y .work))
+
+    pub set-rated :
+        {answer′ : List ℕ} {d k : ℕ} {t : SetRating}
+        → r .annihilated ≡ true
+        → k ≡ length fs
+        → ProductWritten F fs (r .powers) answer answer′ d
+        → (t .outcome ≡ SetOutcome.Rated d k) × (t .powers ≡ r .powers)
+        → SetCall p fs us ts answer work t answer′ work′
+    set-rated {answer′} {d} n k z o =
+        let (rs, s) = powers-exist p fs us ts (length answer) (length work) e q h I y in
+        let i = answer-powers I input y n s in
+        rated-call rs
+        o
+        (set-count I input s)
+        (annihilated p fs us ts (length answer) (length work) e q (tried ∙ n)
+        (ap (λ G. setPowers G (named fs us) ts) (sym h) ∙ s)
+        ∙ ap (λ G. answered (setRating G (named fs us) rs)) (sym h))
+        i
+        k
+        (subst (λ l. ProductWritten F fs l answer answer′ d) i z)
+        (y .work)

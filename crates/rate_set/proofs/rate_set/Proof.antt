@@ -1,8 +1,6 @@
 -- `rate_set` meets its contract: the verdict refuses, or the search finds no powers, which is 17, or the powers
 -- that are found are written as a product. Assumes nothing.
-use Prim.Native.Nat.{ℕ}
 use mathlib.Core.Path.{sym}
-use mathlib.Core.List.{List}
 use borrow.Author.Needs.{needs}
 use Rattle.arith.proofs.Represented.{field-isField}
 use Rattle.factor_checks.proofs.Contents.{contents-length}
@@ -10,13 +8,6 @@ use Rattle.rate_set.proofs.SetWay.{set-refused, set-prime, set-lent, se
 use Rattle.rate_set.proofs.SetWay.{set-powers-input, set-rated}
 use Rattle.rate_set.proofs.rate_set.Statement.{statement}
 use Rattle.rate_set.proofs.rate_set.Tie as tie
-
--- the lent bytes of a call that the verdict accepts
-abbrev answer : tie.After-enum-told → List ℕ
-answer a = a .before .before .before .before .before .before .before .args .answer .now
-
-abbrev work : tie.After-enum-told → List ℕ
-work a = a .before .before .before .before .before .before .before .args .work .now
 
 set-verdict-requires : tie.Need-set-verdict-requires
 set-verdict-requires c κs = search needs
@@ -32,7 +23,7 @@ enum-told c = search needs
 
 of-prime-requires : tie.Need-of-prime-requires
 of-prime-requires c κs =
-    set-prime _ _ _ _ (answer c) (work c) (c .before .before .set-verdict .ensures) (c .enum-told .given .1)
+    set-prime _ _ _ _ _ _ (c .before .before .set-verdict .ensures) (c .enum-told .given .1)
 
 set-powers-requires : tie.Need-set-powers-requires
 set-powers-requires c κs =
@@ -41,8 +32,8 @@ set-powers-requires c κs =
     let e = a .before .before .set-verdict .ensures in (
       f .of-prime .ensures .wellFormed,
       (
-        set-lent _ _ _ _ (answer a) (work a) e (a .enum-told .given .1) .1,
-        set-input _ _ _ _ (answer a) (work a) e (a .enum-told .given .1) (f .of-prime .ensures .isField),
+        set-lent _ _ _ _ _ _ e (a .enum-told .given .1) .1,
+        set-input _ _ _ _ _ _ e (a .enum-told .given .1) (f .of-prime .ensures .isField),
       ),
     )
 
@@ -58,8 +49,8 @@ write-product-requires c κs =
     let e = a .before .before .set-verdict .ensures in (
       f .of-prime .ensures .wellFormed,
       (
-        set-lent _ _ _ _ (answer a) (work a) e (a .enum-told .given .1) .0,
-        set-powers-input _ _ _ _ (answer a) (work a) e (a .enum-told .given .1) (f .of-prime .ensures .isField)
+        set-lent _ _ _ _ _ _ e (a .enum-told .given .1) .0,
+        set-powers-input _ _ _ _ _ _ e (a .enum-told .given .1) (f .of-prime .ensures .isField)
             (field-isField (f .of-prime .ensures .wellFormed)) (y .set-powers .ensures) (t .if1 .taken),
       ),
     )
