@@ -8,7 +8,7 @@ use ways::Found;
 ghost use Prim.Native.Nat.{_≤_};
 ghost use lib.ListN.{length};
 ghost use Rattle.arith.specs.Represented.{fieldOf, WellFormed};
-ghost use Rattle.ways.specs.Period.{told};
+ghost use Rattle.period_way.specs.Period.{told};
 ghost use Rattle.one_factor.specs.OneFactor.{Answerable, FoundRated};
 
 // The answer with the power of f that a way has found: leaves f to this power at the front of the answer bytes,
