@@ -1,1 +1,2 @@
+pub mod Remaindering
 pub mod Suiting

@@ -1,1 +1,2 @@
+pub mod Remaindered
 pub mod Suited

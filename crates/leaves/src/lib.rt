@@ -1,13 +1,17 @@
-// Leaves of the arithmetic on slices, for benchmarks from another language. Where what a leaf requires does
-// not hold, the answer is 0, and all bytes stay as they were.
+// Leaves of the arithmetic on slices, for benchmarks and tests from another language. Where what a leaf requires
+// does not hold, the answer is 0, and all bytes stay as they were.
 use arith::GaloisField;
+use list_checks::not_monic;
+use list_checks::term_out_of_field;
+use poly::remainder;
 use primes::prime_in_range;
 ghost use mathlib.Core.Path.{_≡_};
 ghost use lib.ListN.{length};
-ghost use Rattle.meaning.specs.Field.{prime};
+ghost use Rattle.meaning.specs.Field.{prime, primeInRange};
 ghost use Rattle.meaning.specs.Sequence.{actAt, known};
 ghost use Rattle.arith.specs.Slices.{combined};
 ghost use Rattle.leaves.specs.Suited.{suited, whereSuited};
+ghost use Rattle.leaves.specs.Remaindered.{Remaindered};
 
 // Whether `first` is at most `second` and at most 65,536, and p is a prime in range.
 fn suits(p: u64, first: usize, second: usize) -> bool
@@ -45,4 +49,22 @@ pub extern "C" fn leaf_update(p: u64, a: &mut [u8], c: u8, b: &[u8])
     if suits(p, b.len(), a.len()) {
         GaloisField::of_prime(p).add_multiple(a, c, b);
     }
+}
+
+// Divides the polynomial in f by the monic polynomial g modulo p: leaves the remainder in the first bytes, as
+// many as the degree of g, and the quotient in those after them.
+#[no_mangle]
+pub extern "C" fn leaf_remainder(p: u64, f: &mut [u8], g: &[u8])
+    ensures { λ _. ⌜ Remaindered (primeInRange p) (prime p) (now (g .entry)) (now (f .entry)) (now (f .exit)) ⌝ }
+{
+    if !prime_in_range(p) {
+        return;
+    }
+    if not_monic(p, g) {
+        return;
+    }
+    if term_out_of_field(p, f) {
+        return;
+    }
+    remainder(GaloisField::of_prime(p), f, g);
 }
