@@ -45,9 +45,10 @@ static void tell(void *task_, answer *a) {
                                                a->powers, &degree, &a->bound);                                        \
             break;                                                                                                    \
         case SET:                                                                                                     \
-            a->status = VERSION##_rate_set(j->p, j->coefficients, j->bytes, j->lengths, j->factors, j->uppers,        \
-                                           j->factors, j->terms, j->count, a->polynomial, sizeof a->polynomial,       \
-                                           t->work, sizeof t->work, a->powers, &degree);                              \
+            a->status = VERSION##_rate_set(j->p, j->coefficients, j->bytes, (const uint8_t *)j->lengths,              \
+                                           8 * j->factors, (const uint8_t *)j->uppers, 8 * j->factors, j->terms,      \
+                                           j->count, a->polynomial, sizeof a->polynomial, t->work,                    \
+                                           sizeof t->work, (uint8_t *)a->powers, &degree);                            \
             break;                                                                                                    \
         case IRREDUCIBLE:                                                                                             \
             a->status = VERSION##_is_irreducible(j->p, j->coefficients, j->bytes, &yes);                              \

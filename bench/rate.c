@@ -76,8 +76,9 @@ static uint64_t rate(void) {
         return CALL(rate_period)(p, factors, factor_bytes, terms, count, answer, sizeof answer, work, sizeof work,
                                  powers, &degree, &bound);
     case 2:
-        return CALL(rate_set)(p, factors, factor_bytes, lengths, factor_count, uppers, factor_count, terms, count,
-                              answer, sizeof answer, work, sizeof work, powers, &degree);
+        return CALL(rate_set)(p, factors, factor_bytes, (const uint8_t *)lengths, 8 * factor_count,
+                              (const uint8_t *)uppers, 8 * factor_count, terms, count, answer, sizeof answer, work,
+                              sizeof work, (uint8_t *)powers, &degree);
     default:
         return CALL(rate_free)(p, terms, count, answer, sizeof answer, work, sizeof work, &degree, &unique);
     }

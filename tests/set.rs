@@ -2,7 +2,7 @@
 // up to eight factors, and every refusal.
 mod common;
 
-use common::calls::rate_joined_set;
+use common::calls::{bytes_of, rate_joined_set, rate_numbered_set};
 use common::inputs::{self, factors, registers};
 use common::lent::{answers, answers_by, refuses};
 use common::random::Random;
@@ -83,6 +83,50 @@ fn any_lengths() -> Outcome {
     Ok(cases)
 }
 
+// Any number of bytes for the lengths and the upper powers: eight are a number, and a rest of fewer is none.
+fn any_bytes() -> Outcome {
+    let bytes = [1, 1, 1, 1, 1, 1, 1, 0, 1];
+    let terms = [1; 12];
+    let (mut cases, mut accepted) = (0, 0);
+    for ends in [[0; 7], [1; 7], [255; 7]] {
+        let all_lengths = [&bytes_of(&[2, 3, 4])[..], &ends].concat();
+        let all_uppers = [&bytes_of(&[2, 1, 2])[..], &ends].concat();
+        for length_bytes in 0..=all_lengths.len() {
+            for upper_bytes in 0..=all_uppers.len() {
+                let lengths = &[2, 3, 4][..length_bytes / 8];
+                let uppers = [2, 1, 2][..upper_bytes / 8].to_vec();
+                let input = Input::of(Way::Set, 2, split(&bytes, lengths), uppers, terms.to_vec());
+                let call = |input: &Input, answer: &mut [u8], work: &mut [u8]| {
+                    let (lengths, uppers) =
+                        (&all_lengths[..length_bytes], &all_uppers[..upper_bytes]);
+                    rate_numbered_set(&bytes, lengths, uppers, input, answer, work)
+                };
+                let expected = rate(&input);
+                accepted += expected.is_ok() as u64;
+                answers_by(call, &input, &expected)?;
+                cases += 1;
+            }
+        }
+    }
+    if accepted == 0 {
+        return Err("no case is accepted".to_string());
+    }
+    Ok(cases)
+}
+
+// Upper powers whose higher bytes count: those that a byte, two or four of them would take for 1.
+fn large_uppers() -> Outcome {
+    let mut cases = 0;
+    for shift in (8..64).step_by(8) {
+        for upper in [1 << shift, (1 << shift) + 1, u64::MAX] {
+            let number = if upper <= 4096 { 15 } else { 14 };
+            refuses(&inputs::set(2, &[vec![1, 1]], &[upper], &[0; 100]), number)?;
+            cases += 1;
+        }
+    }
+    Ok(cases)
+}
+
 // 9, at both sides of both limits
 fn factor_counts() -> Outcome {
     let mut random = Random::of_seed(50);
@@ -153,6 +197,8 @@ fn main() {
             ("known answers", known_answers),
             ("all short portions", || named::all_short(Way::Set)),
             ("lengths that do not fit", any_lengths),
+            ("any number of bytes", any_bytes),
+            ("upper powers of many bytes", large_uppers),
             ("known powers", || named::made(Way::Set)),
             ("against the second rater", || {
                 named::against_the_second_rater(Way::Set)

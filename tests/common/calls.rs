@@ -56,17 +56,17 @@ mod exported {
             p: u64,
             factors: *const u8,
             coefficients: usize,
-            lengths: *const u64,
-            factor_count: usize,
-            uppers: *const u64,
-            upper_count: usize,
+            lengths: *const u8,
+            length_bytes: usize,
+            uppers: *const u8,
+            upper_bytes: usize,
             terms: *const u8,
             count: usize,
             answer: *mut u8,
             answer_size: usize,
             work: *mut u8,
             work_size: usize,
-            powers: *mut [u64; 8],
+            powers: *mut [u8; 64],
             degree: *mut u64,
         ) -> u64;
         pub fn rater_rate_free(
@@ -222,6 +222,11 @@ fn rate_set(input: &Input, answer: &mut [u8], work: &mut [u8]) -> Told {
     rate_joined_set(&lists.concat(), &lengths, input, answer, work)
 }
 
+// Numbers in bytes: eight bytes each, the least significant first.
+pub fn bytes_of(numbers: &[u64]) -> Vec<u8> {
+    numbers.iter().flat_map(|n| n.to_le_bytes()).collect()
+}
+
 // The set way on factors that stand one after another in `joined`: each takes as many bytes as its length says, or
 // what is left. The input's own factors are not looked at.
 pub fn rate_joined_set(
@@ -231,8 +236,22 @@ pub fn rate_joined_set(
     answer: &mut [u8],
     work: &mut [u8],
 ) -> Told {
+    let (lengths, uppers) = (bytes_of(lengths), bytes_of(&input.uppers));
+    rate_numbered_set(joined, &lengths, &uppers, input, answer, work)
+}
+
+// The same with the lengths and the upper powers as bytes. The input's own are not looked at.
+pub fn rate_numbered_set(
+    joined: &[u8],
+    lengths: &[u8],
+    uppers: &[u8],
+    input: &Input,
+    answer: &mut [u8],
+    work: &mut [u8],
+) -> Told {
     let mut told = Told::marks(0);
-    let (uppers, terms) = (&input.uppers, &input.terms);
+    let mut powers: [u8; 64] = bytes_of(&told.powers).try_into().unwrap();
+    let terms = &input.terms;
     told.status = unsafe {
         exported::rater_rate_set(
             input.p,
@@ -248,10 +267,13 @@ pub fn rate_joined_set(
             answer.len(),
             work.as_mut_ptr(),
             work.len(),
-            &mut told.powers,
+            &mut powers,
             &mut told.degree,
         )
     };
+    for (n, bytes) in told.powers.iter_mut().zip(powers.chunks(8)) {
+        *n = u64::from_le_bytes(bytes.try_into().unwrap());
+    }
     told
 }
 

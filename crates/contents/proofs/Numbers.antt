@@ -8,9 +8,10 @@ use native.Mathlib.Numerals.{add-one}
 use native.Mathlib.Omega.{arith}
 use borrow.Author.Tests.{eq-eqb, ne-eqb, le-leb, lt-leb}
 use lib.ListN.{length, getD, take, drop, length-take, drop-of-length-le}
-use lib.Pow.{pow-add, pow-mono}
+use lib.Pow.{pow-mono}
 use lib.Seq.{drop-cons}
 use Rattle.meaning.specs.Route.{number, appended, boxOf}
+use Rattle.numbers.proofs.Numbers.{number-below}
 
 pub number-start : (bytes : List ℕ) → appended 0 (drop 0 bytes) ≡ number bytes
 unfolding number
@@ -26,12 +27,7 @@ pub number-end : (bytes : List ℕ) (n i : ℕ) → length bytes ≤ i → appen
 unfolding appended
 number-end bytes n i h = rw (drop-of-length-le bytes h)
 
--- i bytes make a number below 256^i
-pub number-below : (n b i : ℕ) → n < 2 ^ (8 * i) → b < 256 → 256 * n + b < 2 ^ (8 * (i + 1))
-number-below n b i h hb =
-    let e : 2 ^ (8 * (i + 1)) ≡ 2 ^ (8 * i) * 2 ^ 8 = ap (λ k. 2 ^ k) (omega arith) ∙ pow-add 2 (8 * i) 8 in
-    omega arith
-
+-- i bytes make a number below 256^i (`number-below`)
 pub number-fits : (n b i : ℕ) → n < 2 ^ (8 * i) → b < 256 → i < 4 → 256 * n + b < 2 ^ 32
 number-fits n b i h hb hi = lt-of-lt-of-le (number-below n b i h hb) (pow-mono {j = 32} (omega arith))
 

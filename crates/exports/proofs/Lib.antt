@@ -1,3 +1,4 @@
+pub mod Nine
 pub mod Told
 pub mod ToldFree
 pub mod ToldPower

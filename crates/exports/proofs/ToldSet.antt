@@ -3,6 +3,7 @@
 use Prim.Native.Nat.{ℕ}
 use mathlib.Core.Path.{_≡_, refl, sym, ap, _∙_}
 use mathlib.Core.List.{List}
+use native.Mathlib.Omega.{arith}
 use lib.ListN.{length}
 use Rattle.meaning.specs.declared.Refusal.{Refusal}
 use Rattle.meaning.specs.declared.SetOutcome.{SetOutcome}
@@ -12,9 +13,13 @@ use Rattle.meaning.specs.Result.{Result, refused, answered, mapResult, figuresO
 use Rattle.meaning.specs.Portion.{SetFigures, rateSet}
 use Rattle.meaning.specs.Answers.{numberOf, SetTold, toldSet, setFiguresTold, setPadded}
 use Rattle.meaning.specs.Calls.{SetCall}
+use Rattle.numbers.specs.Numbers.{numbersOf}
 use Rattle.exports.specs.Exported.{statusOf, numberAfter}
-use Rattle.exports.specs.SetExported.{powersAfter, SetExported}
+use Rattle.exports.specs.SetExported.{PowersAfter, SetExported}
 use Rattle.exports.proofs.Told.{status-map}
+
+refused-answered : {A : Type 0} {n : ℕ} {a : A} → answered a ≡ refused n → ⊥
+refused-answered e = let z : _≡_ {A = ℕ} 0 1 = cc in omega arith
 
 -- The figures of a result by what they tell
 degree-map : (r : Result SetFigures) (n : ℕ)
@@ -23,19 +28,20 @@ unfolding numberAfter mapResult setFiguresTold
 degree-map (refused k) n = refl
 degree-map (answered a) n = refl
 
-powers-told : (r : Result SetFigures) (l : List ℕ) {t : SetTold}
+powers-told : (r : Result SetFigures) (l m : List ℕ) {t : SetTold}
     → answered t ≡ mapResult setFiguresTold r
-    → setPadded r ≡ powersAfter r l
-unfolding mapResult setPadded powersAfter
-powers-told (refused k) l e = cc
-powers-told (answered a) l e = refl
+    → numbersOf m ≡ setPadded r
+    → PowersAfter r l m
+unfolding mapResult setPadded PowersAfter
+powers-told (refused k) l m e q = absurd (refused-answered e)
+powers-told (answered a) l m e q = q
 
 powers-untold : (r : Result SetFigures) (l : List ℕ) {n : ℕ}
     → refused n ≡ mapResult setFiguresTold r
-    → l ≡ powersAfter r l
-unfolding mapResult powersAfter
+    → PowersAfter r l l
+unfolding mapResult PowersAfter
 powers-untold (refused k) l e = refl
-powers-untold (answered a) l e = cc
+powers-untold (answered a) l e = absurd (refused-answered (sym e))
 
 module _ {p : ℕ} {fs : List Polynomial} {us ts answer work : List ℕ} {a : SetRating} {answer′ work′ : List ℕ}
     (call : SetCall p fs us ts answer work a answer′ work′) where
@@ -49,7 +55,7 @@ module _ {p : ℕ} {fs : List Polynomial} {us ts answer work : List ℕ} {a : Se
       → a .outcome ≡ b
       → k ≡ statusOf (toldSet b)
       → d ≡ numberAfter (λ t. t .degree) (toldSet b) degree
-      → powers′ ≡ powersAfter result powers
+      → PowersAfter result powers powers′
       → SetExported (rateSet p fs us ts (length answer) (length work)) answer work powers degree k
       answer′ work′ powers′ d
   unfolding figuresOf
@@ -63,12 +69,14 @@ module _ {p : ℕ} {fs : List Polynomial} {us ts answer work : List ℕ} {a : Se
         lent = call .lent;
       }
 
-  pub set-told : {powers : List ℕ} {degree d n : ℕ}
+  pub set-told : (powers powers′ : List ℕ) {degree d n : ℕ}
       → a .outcome ≡ SetOutcome.Rated d n
+      → numbersOf powers′ ≡ a .powers
       → SetExported (rateSet p fs us ts (length answer) (length work)) answer work powers degree 0
-      answer′ work′ (a .powers) d
+      answer′ work′ powers′ d
   unfolding toldSet statusOf numberAfter
-  set-told {powers} q = exported q refl refl (call .powers ∙ powers-told result powers (told q))
+  set-told powers powers′ q e =
+      exported q refl refl (powers-told result powers powers′ (told q) (e ∙ call .powers))
 
   pub set-untold : {powers : List ℕ} {degree : ℕ} {x : Refusal} {k : ℕ}
       → a .outcome ≡ SetOutcome.Refused x

@@ -2,7 +2,8 @@
 -- 8 or 9.
 --
 --   set-nine         == the answer with the first nine factors is that with all of them
---   call-nine        == and so is the contract
+--   call-same        == the contract goes by the answer alone
+--   call-nine        == so the contract with the first nine factors is that with all of them
 -- Assumes nothing.
 use Prim.Native.Nat.{ℕ, _<_}
 use native.Mathlib.Decide.{decLt}
@@ -91,15 +92,22 @@ module _ (p : ℕ) (us ts : List ℕ) (answer work : ℕ) where
     | no h ↦ ap (λ gs. rateSet p gs us ts answer work) (take-all 9 fs (omega arith))
   ]
 
-pub call-nine :
-    {p : ℕ} (fs : List Polynomial) {us ts answer work answer′ work′ : List ℕ} {r : SetRating}
-    → SetCall p (take 9 fs) us ts answer work r answer′ work′
+-- Two calls with the same answer keep the same contract.
+pub call-same :
+    {p : ℕ} {fs gs : List Polynomial} {us vs ts answer work answer′ work′ : List ℕ} {r : SetRating}
+    → rateSet p fs us ts (length answer) (length work) ≡ rateSet p gs vs ts (length answer) (length work)
     → SetCall p fs us ts answer work r answer′ work′
-call-nine {p} fs {us} {ts} {answer} {work} {answer′} {work′} x =
-    let e = set-nine p us ts (length answer) (length work) fs in
+    → SetCall p gs vs ts answer work r answer′ work′
+call-same {answer = answer} {work} {answer′} {work′} e x =
     record {
       rating =
           x .rating ∙ ap (λ (a : Result (Rated SetFigures)). mapResult setFiguresTold (figuresOf a)) e;
       powers = x .powers ∙ ap (λ (a : Result (Rated SetFigures)). setPadded (figuresOf a)) e;
       lent = subst (λ (a : Result (Rated SetFigures)). LentAfter a answer work answer′ work′) e (x .lent);
     }
+
+pub call-nine :
+    {p : ℕ} (fs : List Polynomial) {us ts answer work answer′ work′ : List ℕ} {r : SetRating}
+    → SetCall p (take 9 fs) us ts answer work r answer′ work′
+    → SetCall p fs us ts answer work r answer′ work′
+call-nine {p} fs {us} {ts} {answer} {work} x = call-same (set-nine p us ts (length answer) (length work) fs) x

@@ -43,7 +43,7 @@ fn part<'a>(joined: &'a [u8], lengths: &[u64], i: usize) -> &'a [u8]
 }
 
 // The number of parts that are rated: nine factors are turned down like any greater number of them.
-fn at_most_nine(n: usize) -> usize
+pub fn at_most_nine(n: usize) -> usize
     ensures { λ r. ⌜ r ≡ min n 9 ⌝ }
 {
     if n < 9 { n } else { 9 }

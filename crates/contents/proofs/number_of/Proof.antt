@@ -6,7 +6,8 @@ use native.Mathlib.Omega.{arith}
 use borrow.Author.Needs.{needs}
 use lib.ListN.{length, getD, drop}
 use Rattle.meaning.specs.Route.{appended, number}
-use Rattle.contents.proofs.Numbers.{number-start, number-more, number-end, number-below, number-fits}
+use Rattle.numbers.proofs.Numbers.{number-below}
+use Rattle.contents.proofs.Numbers.{number-start, number-more, number-end, number-fits}
 use Rattle.contents.proofs.number_of.Statement.{statement}
 use Rattle.contents.proofs.number_of.Tie as tie
 
