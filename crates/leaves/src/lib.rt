@@ -1,5 +1,5 @@
-// Leaves of the arithmetic on slices, for benchmarks and tests from another language. Where what a leaf requires
-// does not hold, the answer is 0, and all bytes stay as they were.
+// Leaves of the arithmetic on slices, for benchmarks and tests from another language. Where what a leaf
+// requires does not hold, the answer is 0, and all bytes stay as they were.
 use arith::GaloisField;
 use list_checks::not_monic;
 use list_checks::term_out_of_field;
@@ -55,7 +55,8 @@ pub extern "C" fn leaf_update(p: u64, a: &mut [u8], c: u8, b: &[u8])
 // many as the degree of g, and the quotient in those after them.
 #[no_mangle]
 pub extern "C" fn leaf_remainder(p: u64, f: &mut [u8], g: &[u8])
-    ensures { λ _. ⌜ Remaindered (primeInRange p) (prime p) (now (g .entry)) (now (f .entry)) (now (f .exit)) ⌝ }
+    ensures { λ _. ⌜ Remaindered (primeInRange p) (prime p) (now (g .entry)) (now (f .entry))
+        (now (f .exit)) ⌝ }
 {
     if !prime_in_range(p) {
         return;

@@ -13,9 +13,11 @@ use native.Mathlib.Nat.{lt-of-lt-of-le}
 use native.Mathlib.Numerals.{add-one}
 use native.Mathlib.Decide.{decLt}
 use native.Mathlib.Omega.{arith}
-use lib.ListN.{length, getD, set, take, drop, drop-of-length-le, length-append, length-set, length-take, List·getD-eq-default}
+use lib.ListN.{length, getD, set, take, drop, drop-of-length-le, length-append, length-set, length-take}
+use lib.ListN.{List·getD-eq-default}
 use lib.Pow.{pow-add, pow-mono}
-use lib.Seq.{drop-cons, drop-drop, take-at, drop-at, take-suc, take-suc-set, take-all, getD-set-same, getD-set-other}
+use lib.Seq.{drop-cons, drop-drop, take-at, drop-at, take-suc, take-suc-set, take-all}
+use lib.Seq.{getD-set-same, getD-set-other}
 use Rattle.numbers.specs.Numbers.{littleEndian, eights, numbersOf, bytesOf}
 
 -- Numbers of several bytes
@@ -28,14 +30,17 @@ pub number-fits : (n b i : ℕ) → n < 2 ^ (8 * i) → b < 256 → i < 8 → 25
 number-fits n b i h hb hi = lt-of-lt-of-le (number-below n b i h hb) (pow-mono {j = 64} (omega arith))
 
 pub number-none : (bytes : List ℕ) → 0 < 2 ^ (8 * (length bytes - length bytes))
-number-none bytes = let e : 0 ≡ 8 * (length bytes - length bytes) = omega arith in subst (λ k. 0 < 2 ^ k) e (omega arith)
+number-none bytes =
+    let e : 0 ≡ 8 * (length bytes - length bytes) = omega arith in subst (λ k. 0 < 2 ^ k) e (omega arith)
 
 pub number-start : (bytes : List ℕ) → 0 ≡ littleEndian (drop (length bytes) bytes)
 unfolding littleEndian
 number-start bytes = rw (drop-of-length-le bytes {i = length bytes} (omega arith))
 
 module _ (bytes : List ℕ) (n i : ℕ) (h : 0 < i) (k : i ≤ length bytes) where
-  pub number-more : n ≡ littleEndian (drop i bytes) → 256 * n + getD bytes (i - 1) 0 ≡ littleEndian (drop (i - 1) bytes)
+  pub number-more :
+      n ≡ littleEndian (drop i bytes)
+      → 256 * n + getD bytes (i - 1) 0 ≡ littleEndian (drop (i - 1) bytes)
   unfolding littleEndian
   number-more e =
       let s : i ≡ suc (i - 1) = omega arith in
@@ -130,16 +135,19 @@ all-append : (ns ms : List ℕ) → allBytes (ns ++ ms) ≡ allBytes ns ++ allBy
 unfolding allBytes
 all-append [] ms = refl
 all-append (n ∷ ns) ms =
-    ap (λ l. bytesOf 8 n ++ l) (all-append ns ms) ∙ sym (append-assoc (bytesOf 8 n) (allBytes ns) (allBytes ms))
+    ap (λ l. bytesOf 8 n ++ l) (all-append ns ms)
+    ∙ sym (append-assoc (bytesOf 8 n) (allBytes ns) (allBytes ms))
 
 -- the eight bytes from the place 8·i on are those of number i now
 module _ (ns bytes : List ℕ) (i : ℕ) {ys : List ℕ} (h : i < length ns) (k : 8 * i ≤ length bytes)
     (e : ys ≡ bytesOf 8 (getD ns i 0)) (b : take (8 * i) bytes ≡ allBytes (take i ns)) where
-  pub all-more : (r : List ℕ) → take (8 * (i + 1)) (take (8 * i) bytes ++ (ys ++ r)) ≡ allBytes (take (i + 1) ns)
+  pub all-more :
+      (r : List ℕ) → take (8 * (i + 1)) (take (8 * i) bytes ++ (ys ++ r)) ≡ allBytes (take (i + 1) ns)
   unfolding allBytes
   all-more r =
+      let z : length ys ≡ 8 = ap length e ∙ length-bytesOf 8 (getD ns i 0) in
       let m : length (take (8 * i) bytes ++ ys) ≡ 8 * (i + 1)
-      = omega (arith, length-append (take (8 * i) bytes) ys, length-take (8 * i) bytes, ap length e, length-bytesOf 8 (getD ns i 0)) in
+      = omega (arith, length-append (take (8 * i) bytes) ys, length-take (8 * i) bytes) in
       ap (take (8 * (i + 1))) (sym (append-assoc (take (8 * i) bytes) ys r))
       ∙ take-at (take (8 * i) bytes ++ ys) r (8 * (i + 1)) m
       ∙ ap (λ l. l ++ ys) b
@@ -148,13 +156,16 @@ module _ (ns bytes : List ℕ) (i : ℕ) {ys : List ℕ} (h : i < length ns) (k 
       ∙ ap allBytes (sym (take-suc ns i 0 h))
       ∙ ap (λ m. allBytes (take m ns)) (sym (add-one i))
 
-numbers-of-all : (ns : List ℕ) → ((i : ℕ) → i < length ns → getD ns i 0 < 2 ^ 64) → eights (length ns) (allBytes ns) ≡ ns
+numbers-of-all : (ns : List ℕ)
+    → ((i : ℕ) → i < length ns → getD ns i 0 < 2 ^ 64)
+    → eights (length ns) (allBytes ns) ≡ ns
 unfolding eights allBytes
 numbers-of-all [] h = refl
 numbers-of-all (n ∷ ns) h =
     ap (λ l. littleEndian l ∷ eights (length ns) (drop 8 (bytesOf 8 n ++ allBytes ns)))
     (take-at (bytesOf 8 n) (allBytes ns) 8 (length-bytesOf 8 n))
-    ∙ ap (λ l. littleEndian (bytesOf 8 n) ∷ eights (length ns) l) (drop-at (bytesOf 8 n) (allBytes ns) 8 (length-bytesOf 8 n))
+    ∙ ap (λ l. littleEndian (bytesOf 8 n) ∷ eights (length ns) l)
+    (drop-at (bytesOf 8 n) (allBytes ns) 8 (length-bytesOf 8 n))
     ∙ ap (λ m. m ∷ eights (length ns) (allBytes ns)) (number-bytes 8 n (h 0 (omega arith)))
     ∙ ap (λ l. n ∷ l) (numbers-of-all ns (λ i l. h (suc i) (omega arith)))
 

@@ -66,7 +66,8 @@ returns-4 c =
     let r = c .before .before in
     let o = r .before .before in
     let a = o .before .before .before .before .before .before .before .before .before .before .args in
-    subst (λ (F : Field). Remaindered (primeInRange (a .p)) F (now (a .g)) (now (a .f)) (r .remainder .last .1 .0))
+    let f′ = r .remainder .last .1 .0 in
+    subst (λ (F : Field). Remaindered (primeInRange (a .p)) F (now (a .g)) (now (a .f)) f′)
     (o .of-prime .ensures .isField)
     (record {
       divided = λ t d. r .remainder .ensures;

@@ -38,7 +38,9 @@ loop-again : tie.Need-loop-again Inv-loop μ-loop
 loop-again c =
     let l = c .before .before .loop in
     let b = c .before .before .before .before .args .bytes .now in
-    let (n, same) = same-more (l .numbers) (numbersOf b) (l .i) (omega (arith, l .inv .0)) (c .number-at .ensures) (l .inv .2) in
+    let (n, same) =
+    same-more (l .numbers) (numbersOf b) (l .i) (omega (arith, l .inv .0)) (c .number-at .ensures) (l .inv .2)
+    in
     (omega (arith, n, l .inv .0), omega arith, same)
 
 returns : tie.Need-returns Inv-loop μ-loop

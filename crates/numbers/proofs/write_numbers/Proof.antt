@@ -59,7 +59,8 @@ loop-again c =
     let ns = s .args .numbers .now in (
       search needs,
       omega arith,
-      all-more ns (l .bytes) (l .i) (omega (arith, s .pre .0)) (omega (arith, l .inv .0)) (w .write-number .ensures)
+      all-more ns (l .bytes) (l .i) (omega (arith, s .pre .0)) (omega (arith, l .inv .0))
+          (w .write-number .ensures)
           (l .inv .2)
           _,
     )
@@ -73,7 +74,8 @@ returns c =
     let s = c .before .before .before .before in
     let ns = s .args .numbers .now in
     let i : l .i ≡ 8 = omega arith in
-    numbers-written ns (l .bytes) (λ k h. omega (arith, c .before .before .before .shared-slice-known .given k))
+    let known = c .before .before .before .shared-slice-known in
+    numbers-written ns (l .bytes) (λ k h. omega (arith, known .given k))
     (sym (take-all (8 * l .i) (l .bytes) (omega (arith, l .inv .0)))
     ∙ l .inv .2
     ∙ ap allBytes (take-all (l .i) ns (omega (arith, s .pre .0))))

@@ -1,0 +1,74 @@
+// The set way for programs in other languages.
+use answers::number_of;
+use joined::at_most_nine;
+use joined::rate_joined_set;
+use meaning::SetOutcome;
+use meaning::SetRating;
+use numbers::first_nine;
+use numbers::number_count;
+use numbers::write_eight;
+ghost use lib.ListN.{length};
+ghost use Rattle.meaning.specs.Portion.{rateSet};
+ghost use Rattle.meaning.specs.Calls.{SetCall};
+ghost use Rattle.joined.specs.Joined.{split};
+ghost use Rattle.numbers.specs.Numbers.{numbersOf};
+ghost use Rattle.export_set.specs.SetExported.{SetExported};
+
+// The set way with the lengths of the joined factors and their upper powers as numbers in bytes. Nine factors
+// are refused whatever they are, so nine numbers of each are all that is looked at.
+fn rate_numbered_set(
+    p: u64,
+    factors: &[u8],
+    lengths: &[u8],
+    uppers: &[u8],
+    terms: &[u8],
+    answer: &mut [u8],
+    work: &mut [u8],
+) -> SetRating
+    ensures { λ r. ⌜ SetCall p (split (now (factors .entry)) (numbersOf (now (lengths .entry))))
+        (numbersOf (now (uppers .entry))) (now (terms .entry)) (now (answer .entry)) (now (work .entry)) r
+        (now (answer .exit)) (now (work .exit)) ⌝ }
+{
+    let parts = first_nine(lengths);
+    let powers = first_nine(uppers);
+    let count = at_most_nine(number_count(lengths));
+    rate_joined_set(p, factors, &parts[0..count], &powers, terms, answer, work)
+}
+
+// Rates a portion with one to eight factors: leaves the powers in the order of the factors, then zeros, and
+// the degree. The factors stand one after another in one slice, with their lengths apart. Lengths, upper
+// powers and powers are numbers of eight bytes each, the least significant first.
+#[no_mangle]
+pub extern "C" fn rater_rate_set(
+    p: u64,
+    factors: &[u8],
+    lengths: &[u8],
+    uppers: &[u8],
+    terms: &[u8],
+    answer: &mut [u8],
+    work: &mut [u8],
+    powers: &mut [u8; 64],
+    degree: &mut u64,
+) -> u64
+    ensures { λ r. ⌜ SetExported
+        (rateSet p (split (now (factors .entry)) (numbersOf (now (lengths .entry))))
+        (numbersOf (now (uppers .entry))) (now (terms .entry)) (length (now (answer .entry)))
+        (length (now (work .entry))))
+        (now (answer .entry)) (now (work .entry)) (now (powers .entry)) (now (degree .entry)) r
+        (now (answer .exit)) (now (work .exit)) (now (powers .exit)) (now (degree .exit)) ⌝ }
+{
+    let rating = rate_numbered_set(p, factors, lengths, uppers, terms, answer, work);
+    let outcome = rating.outcome;
+    let found = rating.powers;
+    match outcome {
+        SetOutcome::Rated {
+            degree: d,
+            count: _,
+        } => {
+            write_eight(&found, powers);
+            *degree = d;
+            0
+        }
+        SetOutcome::Refused(r) => number_of(r),
+    }
+}

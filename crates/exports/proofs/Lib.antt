@@ -1,5 +1,0 @@
-pub mod Nine
-pub mod Told
-pub mod ToldFree
-pub mod ToldPower
-pub mod ToldSet

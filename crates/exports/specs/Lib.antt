@@ -1,4 +1,0 @@
-pub mod Exported
-pub mod FreeExported
-pub mod PowerExported
-pub mod SetExported
