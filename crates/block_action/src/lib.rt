@@ -1,5 +1,5 @@
-// The action on a period, for a block of at most 256 places of it. Assumes a well-formed field, and as many work
-// bytes and terms as each function says.
+// The action on a period, for a block of at most 256 places of it. Assumes a well-formed field, and as many
+// work bytes and terms as each function says.
 ghost use mathlib.Core.Path.{_≡_};
 ghost use Prim.Native.Nat.{_+_, _≤_, _<_};
 ghost use lib.ListN.{length, replicate};

@@ -23,8 +23,8 @@ use Rattle.halves.specs.Halves.{half, Halves}
 use Rattle.halves.specs.Kept.{Kept}
 use Rattle.halves.proofs.Bytes.{half-cut, kept-same, kept-trans}
 use Rattle.digit_search.proofs.Trying.{Tried, tried-low, resumed, resumed-start, resumed-zeros}
-use Rattle.digit_search.proofs.Trying.{resumed-first, resumed-later, resumed-none, resumed-level, level-down}
-use Rattle.digit_search.proofs.Trying.{level-parts}
+use Rattle.digit_search.proofs.Trying.{resumed-first, resumed-later, resumed-none, resumed-level}
+use Rattle.digit_search.proofs.Trying.{level-down, level-parts}
 
 abbrev pub stepOf : GaloisField → Polynomial → ℕ → List ℕ → List ℕ
 stepOf field f = strideOnKnown (fieldOf field) f

@@ -1,6 +1,6 @@
-// The search for the least annihilating power, digit by digit. The first 8,192 work bytes are two halves of 4,096:
-// terms stand in one of them, the values of an action on them go into the other, and no term is kept anywhere else.
-// Assumes a well-formed field, and polynomials and powers so small that no number wraps.
+// The search for the least annihilating power, digit by digit. The first 8,192 work bytes are two halves of
+// 4,096: terms stand in one of them, the values of an action on them go into the other, and no term is kept
+// anywhere else. Assumes a well-formed field, and polynomials and powers so small that no number wraps.
 ghost use Rattle.arith.specs.Represented.{WellFormed};
 ghost use Rattle.halves.specs.Halves.{Halves};
 ghost use Rattle.digit_search.specs.Searching.{Searchable, Searched};

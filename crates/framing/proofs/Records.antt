@@ -1,4 +1,4 @@
--- Laws of the records of a whole file: one that is too long, one that is not, and the mode of an accepted one.
+-- Laws of the records of a whole file, by its length, and of the mode of an accepted one.
 --
 --   records-long, records-short == the records of a file by its length
 --   records-suited    == the factors of an accepted file suit its mode

@@ -1,5 +1,5 @@
-// The two halves of the work bytes: tested and loaded. The first 8,192 work bytes are two halves of 4,096: half h,
-// 0 or 1, stands at 4096·h.
+// The two halves of the work bytes: tested and loaded. The first 8,192 work bytes are two halves of 4,096:
+// half h, 0 or 1, stands at 4096·h.
 ghost use mathlib.Core.Path.{_≡_};
 ghost use Prim.Native.Nat.{_-_};
 ghost use lib.ListN.{length};

@@ -1,6 +1,6 @@
-// The period way on accepted input: from terms in lent bytes to the power of the factor. The first 8,192 work
-// bytes are two halves of 4,096, terms are stored there alone, and the way leaves them 0 and all beyond them as
-// it was. Assumes a well-formed field and what each function says of its input.
+// The period way on accepted input: from terms in lent bytes to the power of the factor. The first 8,192
+// work bytes are two halves of 4,096, terms are stored there alone, and the way leaves them 0 and all beyond
+// them as it was. Assumes a well-formed field and what each function says of its input.
 ghost use Prim.Native.Nat.{_≤_};
 ghost use lib.ListN.{length};
 ghost use Rattle.arith.specs.Represented.{fieldOf, WellFormed};

@@ -1,5 +1,5 @@
-// Products of powers written into the lent answer. Assumes a well-formed field, and factors and powers so small that
-// no number wraps.
+// Products of powers written into the lent answer. Assumes a well-formed field, and factors and powers so
+// small that no number wraps.
 ghost use Prim.Native.Nat.{_≤_};
 ghost use lib.ListN.{length};
 ghost use Rattle.arith.specs.Represented.{fieldOf, WellFormed};

@@ -1,5 +1,5 @@
-// The result line, put into a lent buffer from the place `at` on. Each function leaves all other bytes as they
-// were, and returns the place after what it wrote.
+// The result line, put into a lent buffer from the place `at` on. Each function leaves all other bytes as
+// they were, and returns the place after what it wrote.
 use words::put_number;
 use words::put_powers;
 use words::put_word;

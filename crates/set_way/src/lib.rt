@@ -1,6 +1,6 @@
-// The set way on accepted input: from terms in lent bytes to the powers of the factors. The first 8,192 work
-// bytes are two halves of 4,096, terms are stored there alone, and the way leaves them 0 and all beyond them as
-// it was. Assumes a well-formed field and what each function says of its input.
+// The set way on accepted input: from terms in lent bytes to the powers of the factors. The first 8,192
+// work bytes are two halves of 4,096, terms are stored there alone, and the way leaves them 0 and all beyond
+// them as it was. Assumes a well-formed field and what each function says of its input.
 use arith::GaloisField;
 use factor_checks::total_degree;
 use lent::clear;

@@ -1,5 +1,5 @@
--- `digit_search::least_power` meets its contract. The invariant of the levels: `power` and the digits below the
--- level l of what is left in half `at` make the power of the n terms, and q is p^l; the measure is l. The
+-- `digit_search::least_power` meets its contract. The invariant of the levels: `power` and the digits below
+-- the level l of what is left in half `at` make the power of the n terms, and q is p^l; the measure is l. The
 -- invariant of one digit: i, and the digit of what is left in half `at`, make the digit of what was there
 -- when the level began; the measure is the number of tries that are left. Assumes nothing.
 use Prim.Native.Nat.{ℕ, _*_, _-_, _^_, _/_, _≤_, _<_}
@@ -18,12 +18,12 @@ use Rattle.arith.specs.Represented.{fieldOf}
 use Rattle.halves.specs.Halves.{half, Halves}
 use Rattle.halves.specs.Kept.{Kept}
 use Rattle.halves.proofs.Bytes.{lent-half, acted-values, acted-same, acted-halves, acted-again}
-use Rattle.halves.proofs.Bytes.{acted-zero, acted-nonzero, acted-enough, acted-kept, kept-same}
-use Rattle.halves.proofs.Bytes.{kept-trans}
-use Rattle.digit_search.proofs.Trying.{Trying, Tried, trying-none, trying-more, trying-stop, trying-all}
-use Rattle.digit_search.proofs.Trying.{tried-low}
-use Rattle.digit_search.proofs.Seeking.{stepOf, Seeking, Going, seeking-start, seeking-zero, seeking-first}
-use Rattle.digit_search.proofs.Seeking.{seeking-later, going-end, going-near, going-fits, going-next}
+use Rattle.halves.proofs.Bytes.{acted-zero, acted-nonzero, acted-enough, acted-kept, kept-same, kept-trans}
+use Rattle.digit_search.proofs.Trying.{Trying, Tried, trying-none, trying-more, trying-stop}
+use Rattle.digit_search.proofs.Trying.{trying-all, tried-low}
+use Rattle.digit_search.proofs.Seeking.{stepOf, Seeking, Going, seeking-start, seeking-zero}
+use Rattle.digit_search.proofs.Seeking.{seeking-first, seeking-later, going-end, going-near}
+use Rattle.digit_search.proofs.Seeking.{going-fits, going-next}
 use Rattle.digit_search.proofs.least_power.Statement.{statement}
 use Rattle.digit_search.proofs.least_power.Tie as tie
 

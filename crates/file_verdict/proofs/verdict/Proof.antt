@@ -4,7 +4,8 @@ use mathlib.Core.Path.{sym, ap, _∙_}
 use borrow.Author.Needs.{needs}
 use Rattle.meaning.specs.Answers.{numberOf}
 use Rattle.walk.specs.Walking.{toldVerdict}
-use Rattle.file_verdict.proofs.Verdicts.{verdict-long, verdict-refused, verdict-unsuited, verdict-suited}
+use Rattle.file_verdict.proofs.Verdicts.{verdict-long, verdict-refused, verdict-unsuited}
+use Rattle.file_verdict.proofs.Verdicts.{verdict-suited}
 use Rattle.file_verdict.proofs.verdict.Statement.{statement}
 use Rattle.file_verdict.proofs.verdict.Tie as tie
 

@@ -1,5 +1,5 @@
--- `power_action::act_power` meets its contract. The invariant: f^(rest·q) on the terms of half `at` is f^u on the n
--- terms, and q is a power of p. The measure is the rest. Assumes nothing.
+-- `power_action::act_power` meets its contract. The invariant: f^(rest·q) on the terms of half `at` is f^u on
+-- the n terms, and q is a power of p. The measure is the rest. Assumes nothing.
 use Prim.Native.Nat.{_*_, _-_, _≤_}
 use mathlib.Core.Path.{refl}
 use native.Mathlib.Nat as ℕ

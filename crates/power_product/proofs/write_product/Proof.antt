@@ -1,5 +1,6 @@
--- `power_product::write_product` meets its contract. The invariant: the product of the powers of the factors before
--- i is written, and n is its degree. The measure is the number of factors that are left. Assumes nothing.
+-- `power_product::write_product` meets its contract. The invariant: the product of the powers of the factors
+-- before i is written, and n is its degree. The measure is the number of factors that are left. Assumes
+-- nothing.
 use Prim.Native.Nat.{_-_, _<_}
 use mathlib.Core.Path.{_≡_, refl, sym, subst, _∙_}
 use native.Mathlib.Omega.{arith}

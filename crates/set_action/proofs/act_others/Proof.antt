@@ -1,5 +1,5 @@
--- `set_action::act_others` meets its contract. The invariant: what the factors before j, but for that to skip,
--- leave of the n terms stands in half `at`. The measure is the number of factors that are left. Assumes
+-- `set_action::act_others` meets its contract. The invariant: what the factors before j, but for that to
+-- skip, leave of the n terms stands in half `at`. The measure is the number of factors that are left. Assumes
 -- nothing.
 use Prim.Native.Nat.{_-_, _<_}
 use mathlib.Core.Path.{refl, sym, subst}
@@ -13,8 +13,8 @@ use Rattle.halves.specs.Halves.{half}
 use Rattle.power_action.specs.Acting.{Actable, PowerActed}
 use Rattle.halves.proofs.Bytes.{half-length}
 use Rattle.set_action.proofs.Inputs.{input-index}
-use Rattle.set_action.proofs.Others.{Passing, passing-start, passing-actable, passing-other, passing-own}
-use Rattle.set_action.proofs.Others.{passing-end}
+use Rattle.set_action.proofs.Others.{Passing, passing-start, passing-actable, passing-other}
+use Rattle.set_action.proofs.Others.{passing-own, passing-end}
 use Rattle.set_action.proofs.act_others.Statement.{statement}
 use Rattle.set_action.proofs.act_others.Tie as tie
 

@@ -1,5 +1,5 @@
--- `set_search::least_powers` meets its contract. The invariant: the powers of the factors before i are found, and
--- zeros stand after them. The measure is the number of factors that are left. Assumes nothing.
+-- `set_search::least_powers` meets its contract. The invariant: the powers of the factors before i are found,
+-- and zeros stand after them. The measure is the number of factors that are left. Assumes nothing.
 use Prim.Native.Nat.{_-_, _<_}
 use native.Mathlib.Omega.{arith}
 use lib.ListN.{length}
