@@ -8,9 +8,9 @@ ghost use Rattle.halves.specs.Halves.{Halves, BlockActed};
 use arith::GaloisField;
 use period_sums::sum_up;
 
-// Acts with f and the stride `step` on the n terms of half h as a period, and leaves the values from the place i on, as
-// many as the sums, which are 0, at these places of the other half; all other bytes stay. Answers whether these values
-// are all 0.
+// Acts with f and the stride `step` on the n terms of half h as a period, and leaves the values from the
+// place i on, as many as the sums, which are 0, at these places of the other half; all other bytes stay.
+// Answers whether these values are all 0.
 fn act_by_sums(
     field: GaloisField,
     work: &mut [u8],
@@ -25,7 +25,8 @@ fn act_by_sums(
     requires { ⌜ Halves (now work) h n ⌝ }
     requires { ⌜ now sums ≡ replicate (length (now sums)) 0 ⌝ }
     requires { ⌜ (i < n) × (i + length (now sums) ≤ n) × (length (now sums) ≤ 256) × (step < n) ⌝ }
-    ensures { λ r. ⌜ BlockActed (fieldOf field) (now (work .entry)) h n i (length (now (sums .entry))) (now (f .entry)) step (now (work .exit)) r ⌝ }
+    ensures { λ r. ⌜ BlockActed (fieldOf field) (now (work .entry)) h n i (length (now (sums .entry)))
+        (now (f .entry)) step (now (work .exit)) r ⌝ }
 {
     let from = 4096 * h;
     let to = 4096 * (1 - h) + i;
@@ -48,7 +49,8 @@ pub fn act_block(
     requires { ⌜ WellFormed field ⌝ }
     requires { ⌜ Halves (now work) h n ⌝ }
     requires { ⌜ (i < n) × (i + m ≤ n) × (m ≤ 256) × (step < n) ⌝ }
-    ensures { λ r. ⌜ BlockActed (fieldOf field) (now (work .entry)) h n i m (now (f .entry)) step (now (work .exit)) r ⌝ }
+    ensures { λ r. ⌜ BlockActed (fieldOf field) (now (work .entry)) h n i m (now (f .entry)) step
+        (now (work .exit)) r ⌝ }
 {
     let mut sums = [0u16; 256];
     act_by_sums(field, work, h, n, i, f, step, &mut sums[0..m])

@@ -1,7 +1,7 @@
-// The conditions 6 to 16 of the numbered list of refusals, one function each and a second where a continuation, a
-// set of factors or a file asks in its own way. (1 to 5 are the walk's of a route file, and 17 is the search's for
-// the powers.) Each answers whether its condition holds, as crate meaning defines it, for any numbers and slices of
-// any length, and changes no lent byte. Their order is in crate refusals.
+// The conditions 6 to 16 of the numbered list of refusals, one function each, and a further one where a
+// continuation, a set of factors or a file asks in its own way. (1 to 5 are about a file's records, and 17 is
+// what the search for the powers answers.) Each answers whether its condition holds, as crate meaning defines
+// it, for any numbers and slices of any length, and changes no lent byte. Their order is in crate refusals.
 
 // 6
 pub use number_checks::not_prime;
@@ -35,7 +35,6 @@ pub use reducibility::some_reducible;
 pub use factor_checks::two_equal;
 
 // 14
-pub use factor_checks::total_degree;
 pub use factor_checks::upper_powers_out_of_range;
 
 // 15

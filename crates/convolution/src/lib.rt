@@ -1,6 +1,5 @@
-// Coefficients of a product with f(x^q), at most 256 at a time. The one at place k is
-// c0·a(k) + c1·a(k − q) + c2·a(k − 2q) + …, and needs none above k. Assumes a well-formed field, and that what is read
-// stands there.
+// Coefficients of a product with f(x^q), at most 256 at a time. The one at place k is c0·a(k) + c1·a(k − q) +
+// c2·a(k − 2q) + …, and needs none above k. Assumes a well-formed field, and that what is read stands there.
 use arith::GaloisField;
 ghost use mathlib.Core.Path.{_≡_};
 ghost use Prim.Native.Nat.{_≤_};

@@ -10,9 +10,10 @@ use halves::all_zero;
 use lent::smaller;
 use levels::Level;
 
-// The least power of f that annihilates the n terms of half h, where the power of the level does. One less than it is
-// found digit by digit in base p, the top digit first: each is the largest i for which f^(i·q) leaves a nonzero term
-// of what the digits before it left. Uses both halves, and leaves all beyond them as it was.
+// The least power of f that annihilates the n terms of half h, where the power of the level does. One less
+// than it is found digit by digit in base p, the top digit first: each is the largest i for which f^(i·q)
+// leaves a nonzero term of what the digits before it left. Uses both halves, and leaves all beyond them as it
+// was.
 pub fn least_power(
     field: GaloisField,
     work: &mut [u8],
@@ -33,7 +34,8 @@ pub fn least_power(
     let mut l = level.exponent;
     let mut q = level.power;
     let mut power = 0;
-    // power and the digits below the level l of the `count` terms of half `at` are the power of the n terms; q = p^l
+    // power and the digits below the level l of the `count` terms of half `at` are the power of the n terms;
+    // q = p^l
     'levels: loop {
         let from = 4096 * at;
         if all_zero(&work[from..from + count]) {

@@ -1,6 +1,6 @@
-// The conditions over all factors of a set, each a list of coefficients, with their upper powers: one function each,
-// for any slices of any length; no lent byte is changed. A factor without an upper power has 0, and further upper
-// powers belong to no factor.
+// The conditions over all factors of a set, each a list of coefficients, with their upper powers: one
+// function each, for any slices of any length; no lent byte is changed. A factor without an upper power has
+// 0, and further upper powers belong to no factor.
 use equality::same;
 use list_checks::factor_degree_out_of_range;
 use list_checks::not_monic;
@@ -47,7 +47,8 @@ pub fn some_not_monic(p: u64, factors: &[&[u8]]) -> bool
 
 // Whether a factor from place `from` on equals f.
 fn occurs_from(f: &[u8], factors: &[&[u8]], from: usize) -> bool
-    ensures { λ r. ⌜ r ≡ holdsForSome (same (now (f .entry))) (drop from (contents (now (factors .entry)))) ⌝ }
+    ensures { λ r. ⌜ r ≡ holdsForSome (same (now (f .entry)))
+        (drop from (contents (now (factors .entry)))) ⌝ }
 {
     let mut i = from;
     // none before i: the factors from i on decide
@@ -104,7 +105,8 @@ fn capped_product(v: u64, d: usize) -> usize
 
 // The total degree D, or 4,097 where it is larger.
 pub fn total_degree(factors: &[&[u8]], uppers: &[u64]) -> usize
-    ensures { λ r. ⌜ r ≡ min (totalDegree (named (contents (now (factors .entry))) (now (uppers .entry)))) 4097 ⌝ }
+    ensures { λ r. ⌜ r ≡ min (totalDegree (named (contents (now (factors .entry))) (now (uppers .entry))))
+        4097 ⌝ }
 {
     let mut sum = 0;
     let mut i = 0;
@@ -137,7 +139,8 @@ fn some_upper_zero(factors: &[&[u8]], uppers: &[u64]) -> bool
 
 // 14: an upper power is 0, or the total degree exceeds 4,096.
 pub fn upper_powers_out_of_range(factors: &[&[u8]], uppers: &[u64]) -> bool
-    ensures { λ r. ⌜ r ≡ upperPowersOutOfRange (named (contents (now (factors .entry))) (now (uppers .entry))) ⌝ }
+    ensures { λ r. ⌜ r ≡ upperPowersOutOfRange (named (contents (now (factors .entry)))
+        (now (uppers .entry))) ⌝ }
 {
     if some_upper_zero(factors, uppers) {
         return true;

@@ -61,7 +61,8 @@ pub fn rate_joined_set(
     work: &mut [u8],
 ) -> SetRating
     ensures { λ r. ⌜ SetCall p (split (now (joined .entry)) (now (lengths .entry))) (now (uppers .entry))
-        (now (terms .entry)) (now (answer .entry)) (now (work .entry)) r (now (answer .exit)) (now (work .exit)) ⌝ }
+        (now (terms .entry)) (now (answer .entry)) (now (work .entry)) r (now (answer .exit))
+        (now (work .exit)) ⌝ }
 {
     let a = part(joined, lengths, 0);
     let b = part(joined, lengths, 1);

@@ -11,8 +11,8 @@ ghost use Rattle.arith.specs.Represented.{fieldOf, WellFormed};
 ghost use Rattle.period_way.specs.Period.{told};
 ghost use Rattle.one_factor.specs.OneFactor.{Answerable, FoundRated};
 
-// The answer with the power of f that a way has found: leaves f to this power at the front of the answer bytes,
-// and all beyond its degree as it was. Nothing found is 17, and leaves the answer bytes as they were.
+// The answer with the power of f that a way has found: leaves f to this power at the front of the answer
+// bytes, and all beyond its degree as it was. Nothing found is 17, and leaves the answer bytes as they were.
 pub fn rated(field: GaloisField, answer: &mut [u8], f: &[u8], found: Found) -> PowerRating
     requires { ⌜ WellFormed field ⌝ }
     requires { ⌜ 4097 ≤ length (now answer) ⌝ }

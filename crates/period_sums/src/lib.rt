@@ -18,24 +18,30 @@ fn advance(at: usize, step: usize, n: usize) -> usize
     if next < n { next } else { next - n }
 }
 
-// Adds c·s to the sums, s being the terms of the period ts from the place `at` on. Answers the room that is left.
+// Adds c·s to the sums, s being the terms of the period ts from the place `at` on. Answers the room that is
+// left.
 fn add_cyclic(field: GaloisField, sums: &mut [u16], room: u16, c: u8, ts: &[u8], at: usize) -> u16
     requires { ⌜ WellFormed field ⌝ }
     requires { ⌜ Room room (now sums) ⌝ }
     requires { ⌜ (at < length (now ts)) × (length (now sums) ≤ length (now ts)) ⌝ }
-    ensures { λ r. ⌜ ProductsAdded field (now (sums .entry)) c (cut (periodic (now (ts .entry))) at (length (now (sums .entry)))) (now (sums .exit)) r ⌝ }
+    ensures { λ r. ⌜ ProductsAdded field (now (sums .entry)) c
+        (cut (periodic (now (ts .entry))) at (length (now (sums .entry)))) (now (sums .exit)) r ⌝ }
 {
     let n = smaller(sums.len(), ts.len() - at);
     let rest = sums.len() - n;
     sums::add_products(field, sums, room, c, &ts[at..at + n], &ts[0..rest])
 }
 
-// Leaves in the sums, which are 0, the action of f with the stride `step` on the period ts, from the place i on.
+// Leaves in the sums, which are 0, the action of f with the stride `step` on the period ts, from the place i
+// on.
 pub fn sum_up(field: GaloisField, sums: &mut [u16], ts: &[u8], i: usize, f: &[u8], step: usize)
     requires { ⌜ WellFormed field ⌝ }
     requires { ⌜ now sums ≡ replicate (length (now sums)) 0 ⌝ }
-    requires { ⌜ (i < length (now ts)) × (length (now sums) ≤ length (now ts)) × (step < length (now ts)) × (length (now ts) ≤ 4096) ⌝ }
-    ensures { λ _. ⌜ elementsOf field (now (sums .exit)) ≡ cut (actStride (fieldOf field) (now (f .entry)) step (periodic (now (ts .entry)))) i (length (now (sums .entry))) ⌝ }
+    requires { ⌜ (i < length (now ts)) × (length (now sums) ≤ length (now ts)) × (step < length (now ts)) ×
+        (length (now ts) ≤ 4096) ⌝ }
+    ensures { λ _. ⌜ elementsOf field (now (sums .exit)) ≡ cut
+        (actStride (fieldOf field) (now (f .entry)) step (periodic (now (ts .entry)))) i
+        (length (now (sums .entry))) ⌝ }
 {
     // sums + the action of the coefficients from j on at the place `at` is the whole action
     let mut room = sums::ALL_ROOM;

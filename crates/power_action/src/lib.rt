@@ -13,9 +13,9 @@ pub struct Place {
     pub count: usize,
 }
 
-// Acts with f^u on the n terms of half h, and answers where the n − u·deg f values are. For each digit of u in base p
-// f, spread by the power q of p that the digit stands at, acts as often as the digit says. Uses both halves, and leaves
-// all beyond them as it was.
+// Acts with f^u on the n terms of half h, and answers where the n − u·deg f values are. For each digit of u
+// in base p f, spread by the power q of p that the digit stands at, acts as often as the digit says. Uses
+// both halves, and leaves all beyond them as it was.
 pub fn act_power(
     field: GaloisField,
     work: &mut [u8],

@@ -9,8 +9,8 @@ ghost use Rattle.power_product.specs.Writing.{PowerInput, PowerWritten};
 use arith::GaloisField;
 use poly::times_power;
 
-// Leaves the product of the factors to the powers at the front of the answer, and all beyond its degree as it was.
-// Answers the degree. Nothing beyond the degree is read.
+// Leaves the product of the factors to the powers at the front of the answer, and all beyond its degree as it
+// was. Answers the degree. Nothing beyond the degree is read.
 pub fn write_product(
     field: GaloisField,
     answer: &mut [u8],
@@ -20,7 +20,8 @@ pub fn write_product(
     requires { ⌜ WellFormed field ⌝ }
     requires { ⌜ 4097 ≤ length (now answer) ⌝ }
     requires { ⌜ ProductInput (fieldOf field) (contents (now factors)) (now powers) ⌝ }
-    ensures { λ n. ⌜ ProductWritten (fieldOf field) (contents (now (factors .entry))) (now (powers .entry)) (now (answer .entry)) (now (answer .exit)) n ⌝ }
+    ensures { λ n. ⌜ ProductWritten (fieldOf field) (contents (now (factors .entry))) (now (powers .entry))
+        (now (answer .entry)) (now (answer .exit)) n ⌝ }
 {
     answer[0] = 1;
     let mut n = 0;
@@ -38,7 +39,8 @@ pub fn write_power(field: GaloisField, answer: &mut [u8], f: &[u8], power: u64) 
     requires { ⌜ WellFormed field ⌝ }
     requires { ⌜ 4097 ≤ length (now answer) ⌝ }
     requires { ⌜ PowerInput (fieldOf field) (now f) power ⌝ }
-    ensures { λ n. ⌜ PowerWritten (fieldOf field) (now (f .entry)) power (now (answer .entry)) (now (answer .exit)) n ⌝ }
+    ensures { λ n. ⌜ PowerWritten (fieldOf field) (now (f .entry)) power (now (answer .entry))
+        (now (answer .exit)) n ⌝ }
 {
     let factors = [f];
     let powers = [power];

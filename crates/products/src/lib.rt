@@ -15,8 +15,8 @@ ghost use Rattle.arith.specs.Represented.{fieldOf, WellFormed};
 ghost use Rattle.products.specs.Product.{places, Padded, Growing, Multiplied};
 
 // Multiplies the polynomial of degree n in `answer` by f(x^q), where zeros stand after it up to the new
-// degree. For the q places from q·b on, coefficients of f after b do not count, those more than n / q before b
-// meet only zeros, and the places more than n after the first stay 0.
+// degree. For the q places from q·b on, coefficients of f after b do not count, those more than n / q before
+// b meet only zeros, and the places more than n after the first stay 0.
 fn multiply(field: GaloisField, f: &[u8], q: usize, answer: &mut [u8], n: usize)
     requires { ⌜ WellFormed field ⌝ }
     requires { ⌜ Padded (now f) q (now answer) n ⌝ }

@@ -11,8 +11,8 @@ pub fn prime_in_range(n: u64) -> bool
     arith::prime_in_range(n)
 }
 
-// Whether the polynomial with these coefficients, constant first, is irreducible over GF(p), or the refusal by 6, 10
-// or 11.
+// Whether the polynomial with these coefficients, constant first, is irreducible over GF(p), or the refusal
+// by 6, 10 or 11.
 pub fn is_irreducible(p: u64, coefficients: &[u8]) -> Irreducibility
     ensures { λ r. ⌜ IrreducibleCall p (now (coefficients .entry)) r ⌝ }
 {

@@ -1,6 +1,6 @@
-// Products with powers in lent bytes: a polynomial of degree n stands in the first n + 1 of them, is multiplied by
-// powers of f there, and nothing beyond the new degree is read or written. Assumes a well-formed field, and as many
-// lent bytes as each function says.
+// Products with powers in lent bytes: a polynomial of degree n stands in the first n + 1 of them, is
+// multiplied by powers of f there, and nothing beyond the new degree is read or written. Assumes a
+// well-formed field, and as many lent bytes as each function says.
 use arith::GaloisField;
 use products::times_spread;
 ghost use Prim.Native.Nat.{_+_};

@@ -7,9 +7,9 @@ use refusals::free_verdict;
 ghost use Rattle.meaning.specs.Calls.{FreeCall};
 ghost use Rattle.massey.specs.Shortest.{freeChoice};
 
-// The least degree L of a monic polynomial that annihilates the m terms, and whether 2L is at most m, so that only
-// one of that degree does; or the refusal by 6, 7, 8 or 16. Accepted, it leaves such a polynomial at the front of the
-// answer and zeros in the first 8,192 work bytes; every other lent byte stays as it was.
+// The least degree L of a monic polynomial that annihilates the m terms, and whether 2L is at most m, so that
+// only one of that degree does; or the refusal by 6, 7, 8 or 16. Accepted, it leaves such a polynomial at the
+// front of the answer and zeros in the first 8,192 work bytes; every other lent byte stays as it was.
 pub fn rate_free(p: u64, terms: &[u8], answer: &mut [u8], work: &mut [u8]) -> FreeRating
     ensures { λ r. ⌜ FreeCall freeChoice p (now (terms .entry)) (now (answer .entry)) (now (work .entry)) r
         (now (answer .exit)) (now (work .exit)) ⌝ }

@@ -8,9 +8,9 @@ use ways::period_power;
 ghost use Rattle.meaning.specs.Calls.{PeriodCall};
 
 // The least power of the factor that annihilates the endless repetition of the terms, with the degree of the
-// factor to this power and the repeat bound; or the refusal by 6, 7, 8, 10, 11, 12, 16 or 17. Accepted, it leaves
-// the factor to this power at the front of the answer; accepted or refused by 17, zeros in the first 8,192 work
-// bytes. Every other lent byte stays as it was.
+// factor to this power and the repeat bound; or the refusal by 6, 7, 8, 10, 11, 12, 16 or 17. Accepted, it
+// leaves the factor to this power at the front of the answer; accepted or refused by 17, zeros in the first
+// 8,192 work bytes. Every other lent byte stays as it was.
 pub fn rate_period(
     p: u64,
     factor: &[u8],

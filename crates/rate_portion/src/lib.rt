@@ -7,11 +7,11 @@ use refusals::ratings::portion_verdict;
 use ways::portion_power;
 ghost use Rattle.meaning.specs.Calls.{PortionCall};
 
-// The least power of the factor that annihilates the continuation of the first terms by the factor to the upper
-// power, as many terms as the upper power times the degree, with the degree of the factor to the least power and the
-// repeat bound; or the refusal by 6, 7, 8, 10, 11, 12, 14, 15, 16 or 17. Accepted, it leaves the factor to the least
-// power at the front of the answer; accepted or refused by 17, zeros in the first 8,192 work bytes. Every other lent
-// byte stays as it was.
+// The least power of the factor that annihilates the continuation of the first terms by the factor to the
+// upper power, as many terms as the upper power times the degree, with the degree of the factor to the least
+// power and the repeat bound; or the refusal by 6, 7, 8, 10, 11, 12, 14, 15, 16 or 17. Accepted, it leaves
+// the factor to the least power at the front of the answer; accepted or refused by 17, zeros in the first
+// 8,192 work bytes. Every other lent byte stays as it was.
 pub fn rate_portion(
     p: u64,
     factor: &[u8],

@@ -34,9 +34,9 @@ fn rated(degree: u64, count: u64, powers: [u64; 8]) -> SetRating
 }
 
 // The powers of the factors in the minimal polynomial of the continuation of the first D terms, D the total
-// degree of the upper powers, and the degree of that polynomial; or the refusal by 6 to 17. Accepted, it leaves
-// the polynomial at the front of the answer; accepted or refused by 17, zeros in the first 8,192 work bytes.
-// Every other lent byte stays as it was.
+// degree of the upper powers, and the degree of that polynomial; or the refusal by 6 to 17. Accepted, it
+// leaves the polynomial at the front of the answer; accepted or refused by 17, zeros in the first 8,192 work
+// bytes. Every other lent byte stays as it was.
 pub fn rate_set(
     p: u64,
     factors: &[&[u8]],

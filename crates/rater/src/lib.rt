@@ -1,6 +1,6 @@
-// The public calls of the rater, and nothing else. Each answers on every input: no call asks anything of its caller,
-// and its contract, a record of crate meaning, fixes the whole answer and every lent byte afterwards. Each stands in
-// a crate of its own, the two questions in one.
+// The public calls of the rater, and nothing else. Each answers on every input: no call asks anything of its
+// caller, and its contract, a record of crate meaning, fixes the whole answer and every lent byte afterwards.
+// Each stands in a crate of its own, the two questions in one.
 pub use continue_sequence::continue_sequence;
 pub use questions::is_irreducible;
 pub use questions::prime_in_range;

@@ -1,5 +1,5 @@
-// Condition 12 of the numbered list: a factor is reducible. It is asked of a factor that 6, 10 and 11 let pass,
-// and holds of no other. For any number and slices of any length; no lent byte is changed.
+// Condition 12 of the numbered list: a factor is reducible. It is asked of a factor that 6, 10 and 11 let
+// pass, and holds of no other. For any number and slices of any length; no lent byte is changed.
 use irreducible::is_irreducible;
 use list_checks::factor_degree_out_of_range;
 use list_checks::not_monic;
