@@ -331,7 +331,7 @@ fn changed(random: &mut Random, file: &mut Vec<u8>) {
 
 // Tests
 
-// Every shipped example, by what it prints; row I may print any polynomial that fits.
+// Every shipped example, by what it prints, byte for byte.
 fn examples() -> Outcome {
     let names = "abcdefghijklm";
     for name in names.chars() {

@@ -12,7 +12,7 @@
 --
 -- Assumes nothing.
 use Prim.Native.Nat.{ℕ, _+_, _*_, _%_, _≤_, _<_}
-use mathlib.Core.Path.{_≡_, sym, ap, subst, _∙_}
+use mathlib.Core.Path.{_≡_, sym, ap, _∙_}
 use native.Mathlib.Nat.{mod-lt, mod-mod, zero-mod}
 use native.Mathlib.Omega.{arith}
 use Rattle.bridge.proofs.Interpretation.{IsField, Prime, prime-size, inRange-isField, inRange-prime}

@@ -46,7 +46,7 @@ use Rattle.algebra.proofs.Polynomial.{X, constant, constant-polynomial-hom}
 use Rattle.algebra.proofs.Irreducible.{Reducible, Irreducible, irreducible-degrees, irreducible-constant-term}
 use Rattle.algebra.proofs.Irreducible.{irreducibles-atoms}
 use Rattle.algebra.proofs.PowerProduct.{CoprimeAtoms}
-use Rattle.bridge.proofs.Searches.{T-same, T-decided, T-false, false-T, not-false, some-range}
+use Rattle.bridge.proofs.Searches.{T-same, T-decided, false-T, not-false, some-range}
 use Rattle.bridge.proofs.Searches.{range-some, none-member, none-at, getD-member}
 use Rattle.bridge.proofs.Interpretation.{IsField, size-positive, mul-below, number-add-zero}
 use Rattle.bridge.proofs.Interpretation.{number-zero-mul}

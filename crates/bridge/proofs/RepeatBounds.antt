@@ -1,6 +1,7 @@
 -- The repeat bound: it is always there, the least period does not exceed it, and it has 64 bits.
 --
 --   Level p r t    == t is least with r ≤ p^t; `level-last` tells it from the power before, `level-exists`
+--   power-next     == a power, made from the one before it
 --   repeatBound-zero, repeatBound-x, repeatBound-value == the bound: 1 for the power 0, 0 for x and a power
 --                     above 0, else p^t·(q^d − 1) with the level t, q the size of the field and d the degree
 --   repeatBound-exists == there is always one
@@ -61,6 +62,9 @@ level-last p r t l b h = record { reaches = b; least = earlier t h }
         omega (arith, h n refl, ℕ.pow-le-pow-right l c)
 
 -- a number is below its power of a base above 1
+pub power-next : (p e q : ℕ) → q ≡ p ^ e → q * p ≡ p ^ (e + 1)
+power-next p e q h = ap (λ n. n * p) h ∙ sym (ℕ.pow-suc p e) ∙ ap (_^_ p) (omega arith)
+
 pub below-power : (p n : ℕ) → 1 < p → n < p ^ n
 below-power p zero l = omega (arith, ℕ.pow-zero p)
 below-power p (suc n) l =

@@ -1,6 +1,6 @@
 // What a file holds, by its records with nothing checked: the box that sent it, the bytes p and mode, its
-// factors and its terms. Each function answers for every file; only `gather_terms` writes, and only into the
-// bytes lent for it.
+// factors and its terms. Each function answers for every file; only `gather_terms` and `lay_factor` write,
+// and only into the bytes lent for it.
 use framing::body_at;
 use framing::body_of;
 use framing::count_of;
@@ -15,7 +15,7 @@ ghost use Rattle.framing.specs.Framing.{recordsFrom};
 ghost use Rattle.contents.specs.Contents.{TermsAt, Gathered, LaidFactor};
 
 // The number of up to four bytes, the most significant first.
-pub fn number_of(bytes: &[u8]) -> u64
+fn number_of(bytes: &[u8]) -> u64
     requires { ⌜ length (now bytes) ≤ 4 ⌝ }
     ensures { λ r. ⌜ r ≡ number (now (bytes .entry)) ⌝ }
 {
@@ -46,7 +46,7 @@ pub fn box_of(file: &[u8]) -> u64
 }
 
 // The first byte; 0 where there is none. That of the body of a factor is its degree.
-pub fn first_byte(bytes: &[u8]) -> u8
+fn first_byte(bytes: &[u8]) -> u8
     ensures { λ r. ⌜ r ≡ getD (now (bytes .entry)) 0 0 ⌝ }
 {
     if 0 < bytes.len() { bytes[0] } else { 0 }

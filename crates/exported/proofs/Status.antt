@@ -1,6 +1,5 @@
 -- The status of a result by what it tells.
 -- Assumes nothing.
-use Prim.Native.Nat.{ℕ}
 use mathlib.Core.Path.{_≡_, refl}
 use Rattle.meaning.specs.Result.{Result, refused, answered, mapResult}
 use Rattle.exported.specs.Exported.{statusOf}

@@ -79,7 +79,7 @@ pub fn body_at(file: &[u8], at: usize) -> &[u8]
 }
 
 // The first place from `at` on with a record of the kind; a place from the end on where there is none.
-pub fn seek(file: &[u8], kind: u8, at: usize) -> usize
+fn seek(file: &[u8], kind: u8, at: usize) -> usize
     ensures { λ r. ⌜ FoundKind (now (file .entry)) kind at r ⌝ }
 {
     let mut here = at;

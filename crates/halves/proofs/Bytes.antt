@@ -14,7 +14,7 @@ use mathlib.Core.List.{List, _++_}
 use native.Mathlib.Nat as ℕ
 use native.Mathlib.Decide.{decLe}
 use native.Mathlib.Omega.{arith}
-use lib.ListN.{length, take, drop, replicate, length-take, length-drop, length-append, length-replicate}
+use lib.ListN.{length, take, drop, replicate, length-take}
 use lib.Seq.{take-take, take-all}
 use lib.Dec.{T}
 use Rattle.meaning.specs.Field.{Field}
@@ -57,12 +57,6 @@ placed-kept x = record { beyond = x .beyond; size = x .size }
 pub cleared-kept : {w w′ : List ℕ} → Kept w w′ → cleared w′ ≡ cleared w
 unfolding cleared
 cleared-kept x = ap (λ l. replicate 8192 0 ++ l) (x .beyond)
-
-pub cleared-length : (w : List ℕ) → 8192 ≤ length w → length (cleared w) ≡ length w
-unfolding cleared
-cleared-length w h =
-    length-append (replicate 8192 0) (drop 8192 w)
-    ∙ omega (arith, length-replicate {A = ℕ} 8192 0, length-drop 8192 w)
 
 -- a half that was kept, as far as it was in use
 pub placed-same : {w : List ℕ} {h k : ℕ} {values w′ : List ℕ} (n : ℕ)

@@ -9,19 +9,14 @@ use mathlib.Core.Path.{_≡_, refl, sym, ap, subst, _∙_}
 use mathlib.Core.Bool.{Bool, true, false}
 use mathlib.Core.List.{List, [], _∷_}
 use native.Mathlib.Nat as ℕ
-use native.Mathlib.Numerals.{add-one}
 use native.Mathlib.Omega.{arith}
 use lib.Dec.{eqb}
 use lib.ListN.{length, getD}
 use borrow.Author.Tests.{ne-eqb, eq-eqb}
 use Rattle.meaning.specs.Polynomial.{same}
 use Rattle.meaning.specs.Power.{isX}
-use Rattle.bridge.proofs.RepeatBounds.{level-last, below-power}
+use Rattle.bridge.proofs.RepeatBounds.{level-last, below-power, power-next}
 use Rattle.levels.specs.Levels.{Base, Reaching, Dividing}
-
--- the next power
-pub power-next : (p e q : ℕ) → q ≡ p ^ e → q * p ≡ p ^ (e + 1)
-power-next p e q h = ap (λ n. n * p) h ∙ sym (ℕ.pow-suc p e) ∙ ap (_^_ p) (sym (add-one e))
 
 -- a product of two small numbers
 pub product-small : {p q : ℕ} → Base p → q ≤ 4096 → q * p ≤ 1028096

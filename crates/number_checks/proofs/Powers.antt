@@ -1,16 +1,13 @@
 -- Powers of a number against a bound.
 -- Assumes nothing.
-use Prim.Native.Nat.{ℕ, zero, suc, _+_, _*_, _^_, _≤_, _<_}
-use native.Mathlib.Nat.{pow-zero, pow-suc, pow-le-pow-right, le-trans, le-antisymm, mul-zero, one-mul}
-use native.Mathlib.Numerals.{add-one}
+use Prim.Native.Nat.{ℕ, zero, suc, _*_, _^_, _≤_, _<_}
+use native.Mathlib.Nat.{pow-zero, pow-le-pow-right, le-trans, le-antisymm, mul-zero, one-mul}
 use native.Mathlib.Omega.{arith}
 use mathlib.Core.Path.{_≡_, sym, _∙_}
 use mathlib.Core.Bool.{true, false}
 use lib.Dec.{ltb}
 use borrow.Author.Tests.{lt-ltb, le-ltb}
-
-pub power-step : (p i : ℕ) {a : ℕ} → a ≡ p ^ i → a * p ≡ p ^ (i + 1)
-power-step p i e = rw (add-one, pow-suc, ← e)
+use Rattle.bridge.proofs.RepeatBounds.{power-next}
 
 factor-positive : (b a p : ℕ) → b < a * p → 0 < p
 factor-positive b a zero h = omega (arith, mul-zero a)
@@ -21,7 +18,7 @@ pub power-beyond : (b p i e : ℕ) {a : ℕ} → a ≡ p ^ i → i < e → b < a
 power-beyond b p i e {a} q l h =
     sym
     (lt-ltb _ _
-    (le-trans (rw (power-step p i q) at h) (pow-le-pow-right (factor-positive b a p h) (omega arith))))
+    (le-trans (rw (power-next p i a q) at h) (pow-le-pow-right (factor-positive b a p h) (omega arith))))
 
 -- a base beyond the bound: so is every power but 1
 pub power-of-large : (b p e : ℕ) → 0 < b → b < p → ltb 0 e ≡ ltb b (p ^ e)

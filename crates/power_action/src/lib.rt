@@ -1,6 +1,5 @@
 // A power of a polynomial acting on terms in one of the two halves of the first 8,192 work bytes. Assumes a
 // well-formed field, and a polynomial and a power so small that no number wraps.
-ghost use Prim.Native.Nat.{_≤_};
 ghost use Rattle.arith.specs.Represented.{WellFormed};
 ghost use Rattle.halves.specs.Halves.{Halves};
 ghost use Rattle.power_action.specs.Acting.{Actable, PowerActed};

@@ -12,7 +12,7 @@ use Rattle.meaning.specs.Field.{Field}
 use Rattle.meaning.specs.Search.{holdsForSome}
 use Rattle.meaning.specs.Result.{Result, refused, mapResult, Rated, figuresOf, firstOf}
 use Rattle.meaning.specs.Free.{FreeFigures, freeTable, rateFree}
-use Rattle.meaning.specs.Answers.{numberOf, toldFree}
+use Rattle.meaning.specs.Answers.{toldFree}
 use Rattle.meaning.specs.Calls.{FreeCall}
 use Rattle.bridge.proofs.MasseySteps.{massey-sizes}
 use Rattle.arith.specs.Inverse.{inverse}

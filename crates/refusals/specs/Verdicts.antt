@@ -8,8 +8,6 @@
 --   allButLast table   == the table without its last condition
 --   periodChecks, portionChecks, setChecks == the tables of the three ways without 17
 use Prim.Native.Nat.{ℕ}
-use mathlib.Core.Path.{_≡_}
-use mathlib.Core.Bool.{false}
 use mathlib.Core.List.{List, [], _∷_}
 use mathlib.Core.Option.{Option, none, some}
 use lib.ListN.{length}

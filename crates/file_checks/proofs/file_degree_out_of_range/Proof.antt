@@ -1,4 +1,4 @@
--- `files::file_degree_out_of_range` meets its contract.
+-- `file_checks::file_degree_out_of_range` meets its contract.
 -- Assumes nothing.
 use native.Mathlib.Omega.{arith}
 use borrow.Author.Needs.{needs}

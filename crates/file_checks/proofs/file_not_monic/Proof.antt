@@ -1,4 +1,4 @@
--- `files::file_not_monic` meets its contract.
+-- `file_checks::file_not_monic` meets its contract.
 -- Assumes nothing.
 use native.Mathlib.Omega.{arith}
 use mathlib.Core.Path.{_∙_, sym, ap}

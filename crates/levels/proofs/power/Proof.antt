@@ -3,7 +3,7 @@ use Prim.Native.Nat.{_+_, _-_, _^_, _≤_}
 use mathlib.Core.Path.{_≡_, sym, ap, _∙_}
 use native.Mathlib.Nat as ℕ
 use native.Mathlib.Omega.{arith}
-use Rattle.levels.proofs.Climbing.{power-next}
+use Rattle.bridge.proofs.RepeatBounds.{power-next}
 use Rattle.levels.proofs.power.Statement.{statement}
 use Rattle.levels.proofs.power.Tie as tie
 

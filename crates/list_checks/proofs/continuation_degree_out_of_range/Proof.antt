@@ -1,4 +1,4 @@
--- `lists::continuation_degree_out_of_range` meets its contract.
+-- `list_checks::continuation_degree_out_of_range` meets its contract.
 -- Assumes nothing.
 use lib.ListN.{length}
 use denote.Ref.{now}

@@ -1,4 +1,4 @@
--- `lists::factor_degree_out_of_range` meets its contract.
+-- `list_checks::factor_degree_out_of_range` meets its contract.
 -- Assumes nothing.
 use native.Mathlib.Omega.{arith}
 use mathlib.Core.Path.{_∙_}

@@ -1,4 +1,4 @@
--- `lists::fewer_terms_than` meets its contract.
+-- `list_checks::fewer_terms_than` meets its contract.
 -- Assumes nothing.
 use mathlib.Core.Path.{refl}
 use Rattle.meaning.specs.Conditions.{fewerTermsThan}

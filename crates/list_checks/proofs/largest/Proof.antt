@@ -1,4 +1,4 @@
--- `lists::largest` meets its contract. The invariant: the larger of m and the largest from i on is the
+-- `list_checks::largest` meets its contract. The invariant: the larger of m and the largest from i on is the
 -- largest of all.
 -- Assumes nothing.
 use Prim.Native.Nat.{_-_, _≤_, max, zero-le}

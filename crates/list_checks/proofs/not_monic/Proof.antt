@@ -1,4 +1,4 @@
--- `lists::not_monic` meets its contract.
+-- `list_checks::not_monic` meets its contract.
 -- Assumes nothing.
 use native.Mathlib.Omega.{arith}
 use mathlib.Core.Path.{_∙_, sym}

@@ -1,4 +1,4 @@
--- `lists::start_unlike_degree` meets its contract.
+-- `list_checks::start_unlike_degree` meets its contract.
 -- Assumes nothing.
 use native.Mathlib.Omega.{arith}
 use mathlib.Core.Path.{refl}

@@ -1,4 +1,4 @@
--- `lists::term_out_of_field` meets its contract.
+-- `list_checks::term_out_of_field` meets its contract.
 -- Assumes nothing.
 use mathlib.Core.Path.{_∙_, ap₂, sym}
 use lib.Dec.{leb}

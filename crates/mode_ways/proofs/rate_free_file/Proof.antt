@@ -1,4 +1,4 @@
--- `by_mode::rate_free_file` meets its contract.
+-- `mode_ways::rate_free_file` meets its contract.
 -- Assumes nothing.
 use borrow.Author.Needs.{needs}
 use Rattle.mode_ways.proofs.Calls.{free-rated}

@@ -1,4 +1,4 @@
--- `by_mode::rate_period_file` meets its contract.
+-- `mode_ways::rate_period_file` meets its contract.
 -- Assumes nothing.
 use mathlib.Core.Path.{sym, _∙_}
 use mathlib.Core.List.{[]}

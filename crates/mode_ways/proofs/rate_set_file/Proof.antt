@@ -1,4 +1,4 @@
--- `by_mode::rate_set_file` meets its contract.
+-- `mode_ways::rate_set_file` meets its contract.
 -- Assumes nothing.
 use Prim.Native.Nat.{ℕ}
 use native.Mathlib.Nat.{sub-zero}

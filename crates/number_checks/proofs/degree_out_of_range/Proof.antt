@@ -1,4 +1,4 @@
--- `numbers::degree_out_of_range` meets its contract.
+-- `number_checks::degree_out_of_range` meets its contract.
 -- Assumes nothing.
 use borrow.Author.Needs.{needs}
 use borrow.Author.Tests.{eq-eqb, ne-eqb, lt-ltb, le-ltb}

@@ -1,4 +1,4 @@
--- `numbers::lent_too_short` meets its contract.
+-- `number_checks::lent_too_short` meets its contract.
 -- Assumes nothing.
 use borrow.Author.Tests.{lt-ltb, le-ltb}
 use Rattle.meaning.specs.Conditions.{lentTooShort}

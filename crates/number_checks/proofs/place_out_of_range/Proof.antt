@@ -1,4 +1,4 @@
--- `numbers::place_out_of_range` meets its contract.
+-- `number_checks::place_out_of_range` meets its contract.
 -- Assumes nothing.
 use borrow.Author.Needs.{needs}
 use borrow.Author.Tests.{lt-ltb, le-ltb}

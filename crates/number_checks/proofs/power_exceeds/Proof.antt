@@ -1,10 +1,11 @@
--- `numbers::power_exceeds` meets its contract. The invariant: `power` is p^i, and at most 65,536.
+-- `number_checks::power_exceeds` meets its contract. The invariant: `power` is p^i, and at most 65,536.
 -- Assumes nothing.
 use Prim.Native.Nat.{_-_, _^_, _≤_, zero-le}
 use native.Mathlib.Nat.{pow-zero, mul-le-mul}
 use native.Mathlib.Omega.{arith}
 use mathlib.Core.Path.{_≡_, sym}
-use Rattle.number_checks.proofs.Powers.{power-step, power-beyond, power-of-large, power-within}
+use Rattle.bridge.proofs.RepeatBounds.{power-next}
+use Rattle.number_checks.proofs.Powers.{power-beyond, power-of-large, power-within}
 use Rattle.number_checks.proofs.power_exceeds.Statement.{statement}
 use Rattle.number_checks.proofs.power_exceeds.Tie as tie
 
@@ -34,7 +35,7 @@ loop-less : tie.Need-loop-less Inv-loop μ-loop
 loop-less c = omega arith
 
 loop-again : tie.Need-loop-again Inv-loop μ-loop
-loop-again c = (omega arith, power-step _ _ (c .before .before .loop .inv .1), c .if2 .left)
+loop-again c = (omega arith, power-next _ _ _ (c .before .before .loop .inv .1), c .if2 .left)
 
 returns-3 : tie.Need-returns-3 Inv-loop μ-loop
 returns-3 c =
