@@ -48,7 +48,7 @@ static void tell(void *task_, answer *a) {
             a->status = VERSION##_rate_set(j->p, j->coefficients, j->bytes, (const uint8_t *)j->lengths,              \
                                            8 * j->factors, (const uint8_t *)j->uppers, 8 * j->factors, j->terms,      \
                                            j->count, a->polynomial, sizeof a->polynomial, t->work,                    \
-                                           sizeof t->work, (uint8_t *)a->powers, &degree);                            \
+                                           sizeof t->work, (uint8_t *)a->powers, sizeof a->powers, &degree);          \
             break;                                                                                                    \
         case IRREDUCIBLE:                                                                                             \
             a->status = VERSION##_is_irreducible(j->p, j->coefficients, j->bytes, &yes);                              \

@@ -9,7 +9,7 @@
 
 // Each call answers 0, or the number of its refusal. Factors of a set stand one after the other, `lengths` has the
 // number of coefficients of each. Lengths, upper powers and powers of a set are numbers of eight bytes each, the least
-// significant first, as x86-64 has them.
+// significant first, as x86-64 has them. As many of the 64 bytes of eight powers as were lent are written.
 #define DECLARE_CALLS(VERSION)                                                                                        \
     uint64_t VERSION##_rate_period(uint64_t p, const uint8_t *factor, size_t coefficients, const uint8_t *terms,      \
                                    size_t count, uint8_t *answer, size_t answer_bytes, uint8_t *work,                 \
@@ -21,7 +21,8 @@
     uint64_t VERSION##_rate_set(uint64_t p, const uint8_t *factors, size_t factors_bytes, const uint8_t *lengths,     \
                                 size_t lengths_bytes, const uint8_t *uppers, size_t uppers_bytes,                     \
                                 const uint8_t *terms, size_t count, uint8_t *answer, size_t answer_bytes,             \
-                                uint8_t *work, size_t work_bytes, uint8_t powers[64], uint64_t *degree);              \
+                                uint8_t *work, size_t work_bytes, uint8_t *powers, size_t powers_bytes,               \
+                                uint64_t *degree);                                                                    \
     uint64_t VERSION##_rate_free(uint64_t p, const uint8_t *terms, size_t count, uint8_t *answer,                     \
                                  size_t answer_bytes, uint8_t *work, size_t work_bytes, uint64_t *degree,             \
                                  uint8_t *unique);                                                                    \

@@ -78,7 +78,7 @@ static uint64_t rate(void) {
     case 2:
         return CALL(rate_set)(p, factors, factor_bytes, (const uint8_t *)lengths, 8 * factor_count,
                               (const uint8_t *)uppers, 8 * factor_count, terms, count, answer, sizeof answer, work,
-                              sizeof work, (uint8_t *)powers, &degree);
+                              sizeof work, (uint8_t *)powers, sizeof powers, &degree);
     default:
         return CALL(rate_free)(p, terms, count, answer, sizeof answer, work, sizeof work, &degree, &unique);
     }

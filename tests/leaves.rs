@@ -90,9 +90,9 @@ fn no_sums() -> Outcome {
         expect(dot(n, &[1], &[1, 1]), 0, || format!("p {n}"))?;
         cases += 1;
     }
-    // 65,536 products are summed, and no more of them
-    for p in [2, 3, 251] {
-        let (c, s) = (vec![255; 65537], vec![255; 65540]);
+    // 65,536 products are summed, and no more of them; the sum of one more is no multiple of p here
+    for (p, byte) in [(2, 255), (3, 254), (251, 255)] {
+        let (c, s) = (vec![byte; 65537], vec![byte; 65540]);
         dot_agrees(p, &c[1..], &s)?;
         dot_agrees(p, &c[1..], &s[..65536])?;
         expect(dot(p, &c, &s), 0, || format!("p {p}, 65,537 products"))?;
@@ -251,8 +251,7 @@ fn no_remainders() -> Outcome {
     let mut cases = 0;
     for n in NO_PRIMES {
         kept(n, &[1, 1, 1, 1], &[1, 1])?;
-        kept(n, &[], &[1])?;
-        cases += 2;
+        cases += 1;
     }
     for p in primes() {
         kept(p, &random.elements(p, 9), &[])?;

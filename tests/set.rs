@@ -2,12 +2,12 @@
 // up to eight factors, and every refusal.
 mod common;
 
-use common::calls::{bytes_of, rate_joined_set, rate_numbered_set};
-use common::inputs::{self, factors, registers};
+use common::calls::{bytes_of, rate_joined_set, rate_numbered_set, rate_set_into, Told};
+use common::inputs::{self, factors, registers, total_degree};
 use common::lent::{answers, answers_by, refuses};
 use common::random::Random;
 use common::rater::{rate, Factor, Input, Way};
-use common::{faults, named, primes, run, table, Outcome};
+use common::{expect, faults, named, primes, run, table, Outcome};
 
 fn known_answers() -> Outcome {
     let rows = table::rows(include_str!("data/set.txt"));
@@ -114,6 +114,61 @@ fn any_bytes() -> Outcome {
     Ok(cases)
 }
 
+// The call where `size` bytes are lent for the powers, in the midst of others: all of them afterwards.
+fn lends(
+    input: &Input,
+    size: usize,
+    status: u64,
+    powers: &[u64],
+    degree: u64,
+) -> Result<(), String> {
+    const MARGIN: usize = 32;
+    let marks = vec![0xa5; size + 2 * MARGIN];
+    let mut room = marks.clone();
+    let (mut answer, mut work) = (vec![0; input.answer], vec![0; input.work]);
+    let lent = &mut room[MARGIN..MARGIN + size];
+    let told = rate_set_into(lent, input, &mut answer, &mut work);
+    let (mut expected, mut left) = (Told::marks(status), marks);
+    if status == 0 {
+        let mut all = bytes_of(powers);
+        all.resize(64, 0);
+        let written = size.min(64);
+        left[MARGIN..MARGIN + written].copy_from_slice(&all[..written]);
+        expected.degree = degree;
+    }
+    let case = || format!("p {}, {size} bytes for the powers {powers:?}", input.p);
+    expect(told, expected, case)?;
+    expect(room, left, case)
+}
+
+// Any number of bytes for the powers: as many of the 64 bytes of eight powers as were lent are written, from the
+// front, and no others; a refusal writes none.
+fn any_power_bytes() -> Outcome {
+    let mut random = Random::of_seed(53);
+    let mut cases = 0;
+    for p in primes() {
+        let n = random.between(1, 8) as usize;
+        let factors = factors(&mut random, p, n, 3);
+        let powers = inputs::uppers(&mut random, &factors, 400);
+        let degree = total_degree(&factors, &powers) as u64;
+        let terms = registers(&mut random, p, &factors, &powers, 500);
+        let mut changed = terms.clone();
+        changed[499] = (changed[499] + 1) % p;
+        for size in [0, 1, 7, 8, 8 * n, 63, 64, 65, 100] {
+            for (uppers, terms, status) in [
+                (&powers[..], &terms, 0),
+                (&[], &terms, 14),
+                (&powers, &changed, 17),
+            ] {
+                let input = inputs::set(p, &factors, uppers, terms);
+                lends(&input, size, status, &powers, degree)?;
+                cases += 1;
+            }
+        }
+    }
+    Ok(cases)
+}
+
 // Upper powers whose higher bytes count: those that a byte, two or four of them would take for 1.
 fn large_uppers() -> Outcome {
     let mut cases = 0;
@@ -198,6 +253,7 @@ fn main() {
             ("all short portions", || named::all_short(Way::Set)),
             ("lengths that do not fit", any_lengths),
             ("any number of bytes", any_bytes),
+            ("any number of bytes for the powers", any_power_bytes),
             ("upper powers of many bytes", large_uppers),
             ("known powers", || named::made(Way::Set)),
             ("against the second rater", || {

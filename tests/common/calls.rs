@@ -66,7 +66,8 @@ mod exported {
             answer_size: usize,
             work: *mut u8,
             work_size: usize,
-            powers: *mut [u8; 64],
+            powers: *mut u8,
+            power_bytes: usize,
             degree: *mut u64,
         ) -> u64;
         pub fn rater_rate_free(
@@ -216,10 +217,28 @@ fn rate_portion(input: &Input, answer: &mut [u8], work: &mut [u8]) -> Told {
     told
 }
 
+// Factors one after another, and the length of each.
+fn joined(factors: &[Factor]) -> (Vec<u8>, Vec<u64>) {
+    let lists: Vec<&[u8]> = factors.iter().map(coefficients).collect();
+    let lengths = lists.iter().map(|list| list.len() as u64).collect();
+    (lists.concat(), lengths)
+}
+
 fn rate_set(input: &Input, answer: &mut [u8], work: &mut [u8]) -> Told {
-    let lists: Vec<&[u8]> = input.factors.iter().map(coefficients).collect();
-    let lengths: Vec<u64> = lists.iter().map(|list| list.len() as u64).collect();
-    rate_joined_set(&lists.concat(), &lengths, input, answer, work)
+    let (joined, lengths) = joined(&input.factors);
+    rate_joined_set(&joined, &lengths, input, answer, work)
+}
+
+// The set way with these bytes lent for the powers; the powers that are told stay marks.
+pub fn rate_set_into(
+    powers: &mut [u8],
+    input: &Input,
+    answer: &mut [u8],
+    work: &mut [u8],
+) -> Told {
+    let (joined, lengths) = joined(&input.factors);
+    let (lengths, uppers) = (bytes_of(&lengths), bytes_of(&input.uppers));
+    call_set(&joined, &lengths, &uppers, powers, input, answer, work)
 }
 
 // Numbers in bytes: eight bytes each, the least significant first.
@@ -249,8 +268,25 @@ pub fn rate_numbered_set(
     answer: &mut [u8],
     work: &mut [u8],
 ) -> Told {
+    let mut powers = bytes_of(&Told::marks(0).powers);
+    let mut told = call_set(joined, lengths, uppers, &mut powers, input, answer, work);
+    for (n, bytes) in told.powers.iter_mut().zip(powers.chunks(8)) {
+        *n = u64::from_le_bytes(bytes.try_into().unwrap());
+    }
+    told
+}
+
+// The exported call itself.
+fn call_set(
+    joined: &[u8],
+    lengths: &[u8],
+    uppers: &[u8],
+    powers: &mut [u8],
+    input: &Input,
+    answer: &mut [u8],
+    work: &mut [u8],
+) -> Told {
     let mut told = Told::marks(0);
-    let mut powers: [u8; 64] = bytes_of(&told.powers).try_into().unwrap();
     let terms = &input.terms;
     told.status = unsafe {
         exported::rater_rate_set(
@@ -267,13 +303,11 @@ pub fn rate_numbered_set(
             answer.len(),
             work.as_mut_ptr(),
             work.len(),
-            &mut powers,
+            powers.as_mut_ptr(),
+            powers.len(),
             &mut told.degree,
         )
     };
-    for (n, bytes) in told.powers.iter_mut().zip(powers.chunks(8)) {
-        *n = u64::from_le_bytes(bytes.try_into().unwrap());
-    }
     told
 }
 

@@ -2,9 +2,9 @@
 -- Assumes nothing.
 use Prim.Native.Nat.{ℕ}
 use mathlib.Core.Path.{_≡_, refl, sym, ap, _∙_}
-use mathlib.Core.List.{List}
+use mathlib.Core.List.{List, _++_}
 use native.Mathlib.Omega.{arith}
-use lib.ListN.{length}
+use lib.ListN.{length, take, drop}
 use Rattle.meaning.specs.declared.Refusal.{Refusal}
 use Rattle.meaning.specs.declared.SetOutcome.{SetOutcome}
 use Rattle.meaning.specs.declared.SetRating.{SetRating}
@@ -13,7 +13,7 @@ use Rattle.meaning.specs.Result.{Result, refused, answered, mapResult, figuresO
 use Rattle.meaning.specs.Portion.{SetFigures, rateSet}
 use Rattle.meaning.specs.Answers.{numberOf, SetTold, toldSet, setFiguresTold, setPadded}
 use Rattle.meaning.specs.Calls.{SetCall}
-use Rattle.numbers.specs.Numbers.{numbersOf}
+use Rattle.numbers.specs.Numbers.{bytesOfAll}
 use Rattle.exported.specs.Exported.{statusOf, numberAfter}
 use Rattle.export_set.specs.SetExported.{PowersAfter, SetExported}
 use Rattle.exported.proofs.Status.{status-map}
@@ -30,7 +30,7 @@ degree-map (answered a) n = refl
 
 powers-told : (r : Result SetFigures) (l m : List ℕ) {t : SetTold}
     → answered t ≡ mapResult setFiguresTold r
-    → numbersOf m ≡ setPadded r
+    → m ≡ take (length l) (bytesOfAll (setPadded r)) ++ drop 64 l
     → PowersAfter r l m
 unfolding mapResult setPadded PowersAfter
 powers-told (refused k) l m e q = absurd (refused-answered e)
@@ -71,12 +71,14 @@ module _ {p : ℕ} {fs : List Polynomial} {us ts answer work : List ℕ} {a : Se
 
   pub set-told : (powers powers′ : List ℕ) {degree d n : ℕ}
       → a .outcome ≡ SetOutcome.Rated d n
-      → numbersOf powers′ ≡ a .powers
+      → powers′ ≡ take (length powers) (bytesOfAll (a .powers)) ++ drop 64 powers
       → SetExported (rateSet p fs us ts (length answer) (length work)) answer work powers degree 0
       answer′ work′ powers′ d
   unfolding toldSet statusOf numberAfter
   set-told powers powers′ q e =
-      exported q refl refl (powers-told result powers powers′ (told q) (e ∙ call .powers))
+      exported q refl refl
+      (powers-told result powers powers′ (told q)
+      (e ∙ ap (λ ns. take (length powers) (bytesOfAll ns) ++ drop 64 powers) (call .powers)))
 
   pub set-untold : {powers : List ℕ} {degree : ℕ} {x : Refusal} {k : ℕ}
       → a .outcome ≡ SetOutcome.Refused x

@@ -37,7 +37,9 @@ fn rate_numbered_set(
 
 // Rates a portion with one to eight factors: leaves the powers in the order of the factors, then zeros, and
 // the degree. The factors stand one after another in one slice, with their lengths apart. Lengths, upper
-// powers and powers are numbers of eight bytes each, the least significant first.
+// powers and powers are numbers of eight bytes each, the least significant first. Any number of bytes may be
+// lent for the powers: as many of the 64 bytes of eight powers as were lent are written, from the front, so
+// that 8·n are enough for n factors. Bytes beyond 64 stay as they were, and a refusal leaves all so.
 #[no_mangle]
 pub extern "C" fn rater_rate_set(
     p: u64,
@@ -47,7 +49,7 @@ pub extern "C" fn rater_rate_set(
     terms: &[u8],
     answer: &mut [u8],
     work: &mut [u8],
-    powers: &mut [u8; 64],
+    powers: &mut [u8],
     degree: &mut u64,
 ) -> u64
     ensures { λ r. ⌜ SetExported

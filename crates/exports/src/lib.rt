@@ -1,7 +1,8 @@
 // The public calls for programs in other languages, on numbers and byte slices alone: each function is the
 // call of crate rater that it names, on every input. A call with refusals answers its status, which is 0
 // where it is accepted and else the number of the refusal. What it answers beside goes into lent numbers and
-// bytes, which a refusal leaves as they were. `tools/library` builds the library that has them all.
+// bytes. A refusal leaves all that was lent as it was, but for the first 8,192 work bytes, which the refusal
+// by 17 leaves zero. `tools/library` builds the library that has them all.
 pub use export_continuation::rater_continue_sequence;
 pub use export_free::rater_rate_free;
 pub use export_one_factor::rater_rate_period;

@@ -3,10 +3,12 @@
 --   number-below     == a number of i bytes, continued by one byte, is below 256^(i + 1)
 --   number-read      == number i is that of the eight bytes from the place 8·i on
 --   number-bytes     == the bytes of a number make it again
---   numbers-written  == the bytes of eight numbers, one after another, hold them
+--   numbers-of-bytes == the bytes of numbers below 2^64, one after another, hold them
+--   front-of-bytes   == the first 8·n of them are the bytes of the first n numbers
+--   room-filled      == as many of 64 bytes as there is room for, and what stands beyond 64
 -- Assumes nothing.
-use Prim.Native.Nat.{ℕ, zero, suc, _+_, _*_, _-_, _^_, _/_, _%_, _<_, _≤_}
-use mathlib.Core.Path.{_≡_, refl, sym, ap, subst, _∙_}
+use Prim.Native.Nat.{ℕ, zero, suc, _+_, _*_, _-_, _^_, _/_, _%_, _<_, _≤_, min}
+use mathlib.Core.Path.{_≡_, refl, sym, ap, ap₂, subst, _∙_}
 use mathlib.Core.List.{List, [], _∷_, _++_, append-assoc, append-nil}
 use native.Mathlib.Nat as ℕ
 use native.Mathlib.Nat.{lt-of-lt-of-le}
@@ -16,9 +18,10 @@ use native.Mathlib.Omega.{arith}
 use lib.ListN.{length, getD, set, take, drop, drop-of-length-le, length-append, length-set, length-take}
 use lib.ListN.{List·getD-eq-default}
 use lib.Pow.{pow-add, pow-mono}
-use lib.Seq.{drop-cons, drop-drop, take-at, drop-at, take-suc, take-suc-set, take-all}
+use lib.Seq.{drop-cons, drop-drop, take-at, drop-at, take-suc, take-suc-set, take-all, take-nil}
+use lib.Seq.{take-length, take-append-add}
 use lib.Seq.{getD-set-same, getD-set-other}
-use Rattle.numbers.specs.Numbers.{littleEndian, eights, numbersOf, bytesOf}
+use Rattle.numbers.specs.Numbers.{littleEndian, eights, numbersOf, bytesOf, bytesOfAll}
 
 -- Numbers of several bytes
 pub number-below : (n b i : ℕ) → n < 2 ^ (8 * i) → b < 256 → 256 * n + b < 2 ^ (8 * (i + 1))
@@ -121,29 +124,25 @@ module _ (bytes : List ℕ) (i rest : ℕ) where
       ∙ ap (λ m. take i bytes ++ bytesOf m rest) e
 
 -- The bytes of several numbers, one after another
-unfoldable pub allBytes : List ℕ → List ℕ
-allBytes [] = []
-allBytes (n ∷ ns) = bytesOf 8 n ++ allBytes ns
+length-bytesOfAll : (ns : List ℕ) → length (bytesOfAll ns) ≡ 8 * length ns
+unfolding bytesOfAll
+length-bytesOfAll [] = refl
+length-bytesOfAll (n ∷ ns) =
+    omega (arith, length-append (bytesOf 8 n) (bytesOfAll ns), length-bytesOf 8 n, length-bytesOfAll ns)
 
-length-allBytes : (ns : List ℕ) → length (allBytes ns) ≡ 8 * length ns
-unfolding allBytes
-length-allBytes [] = refl
-length-allBytes (n ∷ ns) =
-    omega (arith, length-append (bytesOf 8 n) (allBytes ns), length-bytesOf 8 n, length-allBytes ns)
-
-all-append : (ns ms : List ℕ) → allBytes (ns ++ ms) ≡ allBytes ns ++ allBytes ms
-unfolding allBytes
+all-append : (ns ms : List ℕ) → bytesOfAll (ns ++ ms) ≡ bytesOfAll ns ++ bytesOfAll ms
+unfolding bytesOfAll
 all-append [] ms = refl
 all-append (n ∷ ns) ms =
     ap (λ l. bytesOf 8 n ++ l) (all-append ns ms)
-    ∙ sym (append-assoc (bytesOf 8 n) (allBytes ns) (allBytes ms))
+    ∙ sym (append-assoc (bytesOf 8 n) (bytesOfAll ns) (bytesOfAll ms))
 
 -- the eight bytes from the place 8·i on are those of number i now
 module _ (ns bytes : List ℕ) (i : ℕ) {ys : List ℕ} (h : i < length ns) (k : 8 * i ≤ length bytes)
-    (e : ys ≡ bytesOf 8 (getD ns i 0)) (b : take (8 * i) bytes ≡ allBytes (take i ns)) where
+    (e : ys ≡ bytesOf 8 (getD ns i 0)) (b : take (8 * i) bytes ≡ bytesOfAll (take i ns)) where
   pub all-more :
-      (r : List ℕ) → take (8 * (i + 1)) (take (8 * i) bytes ++ (ys ++ r)) ≡ allBytes (take (i + 1) ns)
-  unfolding allBytes
+      (r : List ℕ) → take (8 * (i + 1)) (take (8 * i) bytes ++ (ys ++ r)) ≡ bytesOfAll (take (i + 1) ns)
+  unfolding bytesOfAll
   all-more r =
       let z : length ys ≡ 8 = ap length e ∙ length-bytesOf 8 (getD ns i 0) in
       let m : length (take (8 * i) bytes ++ ys) ≡ 8 * (i + 1)
@@ -151,32 +150,70 @@ module _ (ns bytes : List ℕ) (i : ℕ) {ys : List ℕ} (h : i < length ns) (k 
       ap (take (8 * (i + 1))) (sym (append-assoc (take (8 * i) bytes) ys r))
       ∙ take-at (take (8 * i) bytes ++ ys) r (8 * (i + 1)) m
       ∙ ap (λ l. l ++ ys) b
-      ∙ ap (λ l. allBytes (take i ns) ++ l) (e ∙ sym (append-nil (bytesOf 8 (getD ns i 0))))
+      ∙ ap (λ l. bytesOfAll (take i ns) ++ l) (e ∙ sym (append-nil (bytesOf 8 (getD ns i 0))))
       ∙ sym (all-append (take i ns) (getD ns i 0 ∷ []))
-      ∙ ap allBytes (sym (take-suc ns i 0 h))
-      ∙ ap (λ m. allBytes (take m ns)) (sym (add-one i))
+      ∙ ap bytesOfAll (sym (take-suc ns i 0 h))
+      ∙ ap (λ m. bytesOfAll (take m ns)) (sym (add-one i))
 
-numbers-of-all : (ns : List ℕ)
+eights-of-all : (ns : List ℕ)
     → ((i : ℕ) → i < length ns → getD ns i 0 < 2 ^ 64)
-    → eights (length ns) (allBytes ns) ≡ ns
-unfolding eights allBytes
-numbers-of-all [] h = refl
-numbers-of-all (n ∷ ns) h =
-    ap (λ l. littleEndian l ∷ eights (length ns) (drop 8 (bytesOf 8 n ++ allBytes ns)))
-    (take-at (bytesOf 8 n) (allBytes ns) 8 (length-bytesOf 8 n))
+    → eights (length ns) (bytesOfAll ns) ≡ ns
+unfolding eights bytesOfAll
+eights-of-all [] h = refl
+eights-of-all (n ∷ ns) h =
+    ap (λ l. littleEndian l ∷ eights (length ns) (drop 8 (bytesOf 8 n ++ bytesOfAll ns)))
+    (take-at (bytesOf 8 n) (bytesOfAll ns) 8 (length-bytesOf 8 n))
     ∙ ap (λ l. littleEndian (bytesOf 8 n) ∷ eights (length ns) l)
-    (drop-at (bytesOf 8 n) (allBytes ns) 8 (length-bytesOf 8 n))
-    ∙ ap (λ m. m ∷ eights (length ns) (allBytes ns)) (number-bytes 8 n (h 0 (omega arith)))
-    ∙ ap (λ l. n ∷ l) (numbers-of-all ns (λ i l. h (suc i) (omega arith)))
+    (drop-at (bytesOf 8 n) (bytesOfAll ns) 8 (length-bytesOf 8 n))
+    ∙ ap (λ m. m ∷ eights (length ns) (bytesOfAll ns)) (number-bytes 8 n (h 0 (omega arith)))
+    ∙ ap (λ l. n ∷ l) (eights-of-all ns (λ i l. h (suc i) (omega arith)))
 
-pub numbers-written : (ns bytes : List ℕ)
+pub numbers-of-bytes : (ns : List ℕ)
     → ((i : ℕ) → i < length ns → getD ns i 0 < 2 ^ 64)
-    → bytes ≡ allBytes ns
-    → numbersOf bytes ≡ ns
+    → numbersOf (bytesOfAll ns) ≡ ns
 unfolding numbersOf
-numbers-written ns bytes h e =
-    let m : length (allBytes ns) / 8 ≡ length ns = omega (arith, length-allBytes ns) in
-    ap (λ l. eights (length l / 8) l) e ∙ ap (λ k. eights k (allBytes ns)) m ∙ numbers-of-all ns h
+numbers-of-bytes ns h =
+    let m : length (bytesOfAll ns) / 8 ≡ length ns = omega (arith, length-bytesOfAll ns) in
+    ap (λ k. eights k (bytesOfAll ns)) m ∙ eights-of-all ns h
+
+pub front-of-bytes : (n : ℕ) (ns : List ℕ) → take (8 * n) (bytesOfAll ns) ≡ bytesOfAll (take n ns)
+unfolding bytesOfAll
+front-of-bytes zero ns = refl
+front-of-bytes (suc n) [] = take-nil (8 * suc n)
+front-of-bytes (suc n) (m ∷ ns) =
+    let e : 8 * suc n ≡ length (bytesOf 8 m) + 8 * n = omega (arith, length-bytesOf 8 m) in
+    ap (λ k. take k (bytesOf 8 m ++ bytesOfAll ns)) e
+    ∙ take-append-add (bytesOf 8 m) (bytesOfAll ns) (8 * n)
+    ∙ ap (λ l. bytesOf 8 m ++ l) (front-of-bytes n ns)
+
+-- 64 bytes are copied to the front of others, as many as there is room for
+module _ (room all : List ℕ) {n : ℕ} (h : length all ≡ 64) (k : n ≡ min (length room) 64) where
+  room-front : take n all ≡ take (length room) all
+  room-front = elim (decLt (length room) 64) [
+    | yes q ↦ let e : n ≡ length room = omega arith in ap (λ m. take m all) e
+    | no q ↦ take-all n all (omega arith) ∙ sym (take-all (length room) all (omega arith))
+  ]
+
+  room-beyond : drop n room ≡ drop 64 room
+  room-beyond = elim (decLt (length room) 64) [
+    | yes q ↦
+        drop-of-length-le room {i = n} (omega arith) ∙ sym (drop-of-length-le room {i = 64} (omega arith))
+    | no q ↦ let e : n ≡ 64 = omega arith in ap (λ m. drop m room) e
+  ]
+
+  abbrev copied : List ℕ
+  copied = take (n - 0) (drop 0 all)
+
+  pub room-filled :
+      {room′ : List ℕ}
+      → room′ ≡ take (length copied) copied ++ drop (length copied) room
+      → room′ ≡ take (length room) all ++ drop 64 room
+  room-filled e =
+      let z : n - 0 ≡ n = omega arith in
+      let l : length copied ≡ n = omega (arith, length-take (n - 0) all) in
+      e
+      ∙ ap₂ _++_ (take-length copied ∙ ap (λ m. take m all) z ∙ room-front)
+      (ap (λ m. drop m room) l ∙ room-beyond)
 
 -- Two lists that have the same numbers in the places below n
 abbrev pub SameBelow : ℕ → List ℕ → List ℕ → Type 0

@@ -5,10 +5,13 @@
 --   numbersOf bytes   == the numbers that the bytes hold, each in eight bytes, from the front on; a rest of
 --                        fewer than eight bytes at the end holds none
 --   bytesOf k n       == the k least significant bytes of n, the least significant first
+--   bytesOfAll ns     == the bytes of the numbers, eight of each, one number after another. They hold ns again
+--                        where all are below 2^64: `numbersOf (bytesOfAll ns)` is ns (`numbers-of-bytes` of
+--                        proofs/Numbers.antt)
 --   FirstNine ns ms   == ms has nine numbers: the first nine of ns, and zeros after them where ns has fewer
 use Prim.Native.Nat.{ℕ, zero, suc, _+_, _*_, _/_, _%_, _<_}
 use mathlib.Core.Path.{_≡_}
-use mathlib.Core.List.{List, [], _∷_}
+use mathlib.Core.List.{List, [], _∷_, _++_}
 use lib.ListN.{length, getD, take, drop}
 
 unfoldable pub littleEndian : List ℕ → ℕ
@@ -25,6 +28,10 @@ numbersOf bytes = eights (length bytes / 8) bytes
 unfoldable pub bytesOf : ℕ → ℕ → List ℕ
 bytesOf zero n = []
 bytesOf (suc k) n = n % 256 ∷ bytesOf k (n / 256)
+
+unfoldable pub bytesOfAll : List ℕ → List ℕ
+bytesOfAll [] = []
+bytesOfAll (n ∷ ns) = bytesOf 8 n ++ bytesOfAll ns
 
 pub record FirstNine (ns ms : List ℕ) : Type 0 where
   pub size : length ms ≡ 9

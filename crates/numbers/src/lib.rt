@@ -1,8 +1,9 @@
 // Numbers in slices of bytes: each number in eight bytes, the least significant first.
 ghost use mathlib.Core.Path.{_≡_};
-ghost use Prim.Native.Nat.{_≤_};
-ghost use lib.ListN.{length, getD};
-ghost use Rattle.numbers.specs.Numbers.{littleEndian, numbersOf, bytesOf, FirstNine};
+ghost use mathlib.Core.List.{_++_};
+ghost use Prim.Native.Nat.{_≤_, min};
+ghost use lib.ListN.{length, getD, take, drop};
+ghost use Rattle.numbers.specs.Numbers.{littleEndian, numbersOf, bytesOf, bytesOfAll, FirstNine};
 
 // The number of up to eight bytes, the least significant first.
 fn number_of(bytes: &[u8]) -> u64
@@ -56,7 +57,7 @@ fn write_number(n: u64, bytes: &mut [u8])
 // Writes the numbers, of which there are eight, into 64 bytes.
 fn write_numbers(numbers: &[u64], bytes: &mut [u8])
     requires { ⌜ (length (now numbers) ≡ 8) × (length (now bytes) ≡ 64) ⌝ }
-    ensures { λ _. ⌜ numbersOf (now (bytes .exit)) ≡ now (numbers .entry) ⌝ }
+    ensures { λ _. ⌜ now (bytes .exit) ≡ bytesOfAll (now (numbers .entry)) ⌝ }
 {
     let mut i = 0;
     // the bytes before 8·i are those of the numbers before i
@@ -67,11 +68,24 @@ fn write_numbers(numbers: &[u64], bytes: &mut [u8])
     }
 }
 
-// Writes eight numbers: the bytes hold them afterwards.
-pub fn write_eight(numbers: &[u64; 8], bytes: &mut [u8; 64])
-    ensures { λ _. ⌜ numbersOf (now (bytes .exit)) ≡ now (numbers .entry) ⌝ }
+// The number, or 64 where it is larger.
+fn at_most_64(n: usize) -> usize
+    ensures { λ r. ⌜ r ≡ min n 64 ⌝ }
 {
-    write_numbers(numbers, bytes);
+    if n < 64 { n } else { 64 }
+}
+
+// Writes eight numbers: as many of their 64 bytes as there is room for, from the front. Room beyond 64 bytes
+// stays as it was.
+pub fn write_eight(numbers: &[u64; 8], room: &mut [u8])
+    ensures { λ _. ⌜ now (room .exit)
+        ≡ take (length (now (room .entry))) (bytesOfAll (now (numbers .entry)))
+        ++ drop 64 (now (room .entry)) ⌝ }
+{
+    let mut all = [0u8; 64];
+    write_numbers(numbers, &mut all);
+    let n = at_most_64(room.len());
+    bytes::copy(&all[0..n], room);
 }
 
 // The first nine numbers that the bytes hold, with zeros after them where there are fewer.

@@ -27,18 +27,22 @@ same-length c = search needs
 same-length-2 : tie.Need-same-length-2
 same-length-2 c = search needs
 
-returns : tie.Need-returns
-returns c =
-    let v = c .before .before .before .before in
-    let j = v .before .before .before .before .before .before .before in
-    set-told (j .rate-numbered-set .ensures) _ (c .write-eight .last .1 .0) (v .outcome .given .1)
-    (c .write-eight .ensures)
-
 same-length-3 : tie.Need-same-length-3
 same-length-3 c = search needs
 
+returns : tie.Need-returns
+returns c =
+    let w = c .before .before in
+    let v = w .before .before .before .before in
+    let j = v .before .before .before .before .before .before .before in
+    set-told (j .rate-numbered-set .ensures) _ (w .write-eight .last .1 .0) (v .outcome .given .1)
+    (w .write-eight .ensures)
+
 same-length-4 : tie.Need-same-length-4
 same-length-4 c = search needs
+
+same-length-5 : tie.Need-same-length-5
+same-length-5 c = search needs
 
 returns-2 : tie.Need-returns-2
 returns-2 c =
@@ -57,7 +61,8 @@ rater-rate-set-spec =
     number-of-requires
     same-length
     same-length-2
-    returns
     same-length-3
+    returns
     same-length-4
+    same-length-5
     returns-2)

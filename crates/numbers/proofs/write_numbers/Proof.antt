@@ -6,19 +6,20 @@ use native.Mathlib.Omega.{arith}
 use borrow.Author.Needs.{needs}
 use lib.ListN.{length, take}
 use lib.Seq.{take-all}
-use Rattle.numbers.proofs.Numbers.{allBytes, all-more, numbers-written}
+use Rattle.numbers.specs.Numbers.{bytesOfAll}
+use Rattle.numbers.proofs.Numbers.{all-more}
 use Rattle.numbers.proofs.write_numbers.Statement.{statement}
 use Rattle.numbers.proofs.write_numbers.Tie as tie
 
 abbrev Inv-loop : tie.InvT-loop
 Inv-loop numbers bytes₀ i₀ bytes i =
-    (length bytes ≡ 64) × (i ≤ 8) × (take (8 * i) bytes ≡ allBytes (take i numbers))
+    (length bytes ≡ 64) × (i ≤ 8) × (take (8 * i) bytes ≡ bytesOfAll (take i numbers))
 
 abbrev μ-loop : tie.MeasureT-loop
 μ-loop numbers bytes₀ i₀ bytes i = 8 - i
 
 loop-holds : tie.Need-loop-holds Inv-loop μ-loop
-unfolding allBytes
+unfolding bytesOfAll
 loop-holds c = search needs
 
 mul-from : tie.Need-mul-from Inv-loop μ-loop
@@ -74,11 +75,9 @@ returns c =
     let s = c .before .before .before .before in
     let ns = s .args .numbers .now in
     let i : l .i ≡ 8 = omega arith in
-    let known = c .before .before .before .shared-slice-known in
-    numbers-written ns (l .bytes) (λ k h. omega (arith, known .given k))
-    (sym (take-all (8 * l .i) (l .bytes) (omega (arith, l .inv .0)))
+    sym (take-all (8 * l .i) (l .bytes) (omega (arith, l .inv .0)))
     ∙ l .inv .2
-    ∙ ap allBytes (take-all (l .i) ns (omega (arith, s .pre .0))))
+    ∙ ap bytesOfAll (take-all (l .i) ns (omega (arith, s .pre .0)))
 
 pub write-numbers-spec : {M : Type 1} → statement M
 write-numbers-spec =
