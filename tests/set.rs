@@ -141,8 +141,8 @@ fn lends(
     expect(room, left, case)
 }
 
-// Any number of bytes for the powers: as many of the 64 bytes of eight powers as were lent are written, from the
-// front, and no others; a refusal writes none.
+// Any number of bytes for the powers: as many of the 64 bytes of eight powers as were lent are written, from
+// the front, and no others; a refusal writes none.
 fn any_power_bytes() -> Outcome {
     let mut random = Random::of_seed(53);
     let mut cases = 0;

@@ -2,9 +2,10 @@
 -- their lengths (`split` of crate joined). The powers of the answer in the order of the factors, then zeros,
 -- are eight numbers (`padded` of crate meaning), and so 64 bytes (`bytesOfAll` of crate numbers).
 --
---   PowersAfter r b b′ == the bytes b lent for the powers, of any number, are b′ afterwards: as many of these 64
---                        bytes as were lent, from the front, and what was lent beyond 64 as it was; all of b
---                        as it was where refused
+--   PowersAfter r b b′ == the bytes b lent for the powers, any number of them, are b′ afterwards: as many of
+--                        these 64 bytes as were lent, from the front, and those lent beyond 64 as they were;
+--                        b as it was where refused. So 8·n bytes take the powers of n factors
+--                        (`front-of-bytes`, `numbers-of-bytes` of crate numbers, proofs/Numbers.antt)
 --   SetExported r …   == an exported set way with the result r answers its status, leaves the powers and the
 --                        degree in what was lent for them, and leaves the answer and work bytes as `rate_set`
 --                        does

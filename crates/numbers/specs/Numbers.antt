@@ -5,8 +5,8 @@
 --   numbersOf bytes   == the numbers that the bytes hold, each in eight bytes, from the front on; a rest of
 --                        fewer than eight bytes at the end holds none
 --   bytesOf k n       == the k least significant bytes of n, the least significant first
---   bytesOfAll ns     == the bytes of the numbers, eight of each, one number after another. They hold ns again
---                        where all are below 2^64: `numbersOf (bytesOfAll ns)` is ns (`numbers-of-bytes` of
+--   bytesOfAll ns     == the bytes of the numbers, eight of each, one number after another. They hold ns:
+--                        `numbersOf (bytesOfAll ns)` is ns where all are below 2^64 (`numbers-of-bytes` of
 --                        proofs/Numbers.antt)
 --   FirstNine ns ms   == ms has nine numbers: the first nine of ns, and zeros after them where ns has fewer
 use Prim.Native.Nat.{ℕ, zero, suc, _+_, _*_, _/_, _%_, _<_}
