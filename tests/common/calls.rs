@@ -230,12 +230,7 @@ fn rate_set(input: &Input, answer: &mut [u8], work: &mut [u8]) -> Told {
 }
 
 // The set way with these bytes lent for the powers; the powers that are told stay marks.
-pub fn rate_set_into(
-    powers: &mut [u8],
-    input: &Input,
-    answer: &mut [u8],
-    work: &mut [u8],
-) -> Told {
+pub fn rate_set_into(powers: &mut [u8], input: &Input, answer: &mut [u8], work: &mut [u8]) -> Told {
     let (joined, lengths) = joined(&input.factors);
     let (lengths, uppers) = (bytes_of(&lengths), bytes_of(&input.uppers));
     call_set(&joined, &lengths, &uppers, powers, input, answer, work)
