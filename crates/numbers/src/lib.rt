@@ -28,7 +28,7 @@ pub fn number_count(bytes: &[u8]) -> usize
 }
 
 // Number i of those that the bytes hold; 0 beyond the last.
-pub fn number_at(bytes: &[u8], i: usize) -> u64
+fn number_at(bytes: &[u8], i: usize) -> u64
     ensures { λ r. ⌜ r ≡ getD (numbersOf (now (bytes .entry))) i 0 ⌝ }
 {
     if i < bytes.len() / 8 {

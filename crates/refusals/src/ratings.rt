@@ -16,7 +16,7 @@ ghost use Rattle.refusals.specs.Verdicts.{numberIn, powersTable, periodC
 ghost use Rattle.refusals.specs.Verdicts.{setChecks};
 
 // What the upper powers, the number of terms and the lent bytes decide: 14, 15, 16.
-pub fn powers_verdict(
+fn powers_verdict(
     factors: &[&[u8]],
     uppers: &[u64],
     terms: &[u8],
