@@ -23,10 +23,11 @@ use Rattle.bridge.proofs.Interpretation.{IsField, number-add-comm, number-add-a
 use Rattle.bridge.proofs.Interpretation.{number-zero-add, number-add-negative, number-mul-comm}
 use Rattle.bridge.proofs.Interpretation.{number-mul-zero, number-mul-negative, number-one-mul}
 use Rattle.bridge.proofs.Interpretation.{add-below, size-positive}
-use Rattle.bridge.proofs.Polynomials.{getD-below, getD-elements, elements-getD, elements-cons}
+use Rattle.bridge.proofs.Polynomials.{getD-below, getD-elements, elements-cons}
 use Rattle.bridge.proofs.Polynomials.{scale-elements, times-elements, length-plus, length-times}
 use Rattle.bridge.proofs.Polynomials.{monic-last, monic-length, monic-nonempty}
 use Rattle.bridge.proofs.Coefficients.{getD-sum, getD-multiple, getD-zeros}
+use Rattle.bridge.proofs.Continuations.{take-elements}
 use Rattle.arith.specs.Slices.{combined}
 use Rattle.arith.proofs.Slices.{length-combined, getD-combined, getD-paste-inside, getD-paste-before}
 use Rattle.arith.proofs.Slices.{getD-paste-after}
@@ -69,14 +70,6 @@ pub record Dividing (F : Field) (g : Polynomial) (f w : List ℕ) (i : ℕ) : Ty
 -- past the end there are zeros
 take-beyond : (i : ℕ) (w : List ℕ) (j : ℕ) → i ≤ j → getD (take i w) j 0 ≡ 0
 take-beyond i w j l = List·getD-eq-default (take i w) 0 (omega (arith, length-take i w))
-
-take-elements : (F : Field) (i : ℕ) (w : List ℕ) → T (areElements F w) → T (areElements F (take i w))
-take-elements F i w h =
-    getD-elements F (take i w)
-    (λ j l.
-    let a : j < i = omega (arith, length-take i w) in
-    let b : j < length w = omega (arith, length-take i w) in
-    subst (λ x. x < F .size) (sym (getD-take i w j 0 a)) (elements-getD F w h j b))
 
 times-none : (F : Field) (g : Polynomial) → length (times F [] g) ≡ 0
 unfolding times

@@ -20,43 +20,30 @@ use Rattle.meaning.specs.declared.SetRating.{SetRating}
 use Rattle.meaning.specs.Field.{prime}
 use Rattle.meaning.specs.Polynomial.{Polynomial}
 use Rattle.meaning.specs.Conditions.{named, notPrime, countOutOfRange, termOutOfField, factorCountOutOfRange}
-use Rattle.meaning.specs.Result.{Result, refused, Check, firstOf, settle, Rated, figuresOf, mapResult}
+use Rattle.meaning.specs.Result.{Result, refused, Check, settle, Rated, figuresOf, mapResult}
 use Rattle.meaning.specs.Portion.{SetFigures, setTable, setAnswer, rateSet}
 use Rattle.meaning.specs.Answers.{setFiguresTold, setPadded}
 use Rattle.meaning.specs.Calls.{LentAfter, SetCall}
 use Rattle.bridge.proofs.Products.{length-named}
+use Rattle.bridge.proofs.Searches.{settle-stop, settle-skip}
 
--- A condition that holds decides, whatever comes after it.
-settle-here :
-    {A : Type 0} (v : Unit {0} → Option A) (c : Check) (B : List Check)
-    → (c .1) tt ≡ true
-    → settle (c ∷ B) v ≡ refused (c .0)
-unfolding settle firstOf
-settle-here v c B h = rw (h, firstOf, settle)
-
-settle-past :
-    {A : Type 0} (v : Unit {0} → Option A) (c : Check) (B : List Check)
-    → (c .1) tt ≡ false
-    → settle (c ∷ B) v ≡ settle B v
-unfolding settle firstOf
-settle-past v c B h = rw (h, firstOf, settle)
-
-settle-stop :
+-- Where the same conditions come first and then one that holds, the tables decide alike.
+settle-alike :
     {A : Type 0} (v w : Unit {0} → Option A) (T : List Check) (c d : Check) (B C : List Check)
     → c .0 ≡ d .0
     → (c .1) tt ≡ true
     → (d .1) tt ≡ true
     → settle (T ++ (c ∷ B)) v ≡ settle (T ++ (d ∷ C)) w
-settle-stop v w [] c d B C e h k = settle-here v c B h ∙ ap refused e ∙ sym (settle-here w d C k)
-settle-stop v w (a ∷ T) c d B C e h k = go ((a .1) tt) refl (settle-stop v w T c d B C e h k)
+settle-alike v w [] c d B C e h k = settle-stop v c B h ∙ ap refused e ∙ sym (settle-stop w d C k)
+settle-alike v w (a ∷ T) c d B C e h k = go ((a .1) tt) refl (settle-alike v w T c d B C e h k)
   where
     go :
         (b : Bool)
         → (a .1) tt ≡ b
         → settle (T ++ (c ∷ B)) v ≡ settle (T ++ (d ∷ C)) w
         → settle (a ∷ (T ++ (c ∷ B))) v ≡ settle (a ∷ (T ++ (d ∷ C))) w
-    go true q rest = settle-here v a (T ++ (c ∷ B)) q ∙ sym (settle-here w a (T ++ (d ∷ C)) q)
-    go false q rest = settle-past v a (T ++ (c ∷ B)) q ∙ rest ∙ sym (settle-past w a (T ++ (d ∷ C)) q)
+    go true q rest = settle-stop v a (T ++ (c ∷ B)) q ∙ sym (settle-stop w a (T ++ (d ∷ C)) q)
+    go false q rest = settle-skip v a (T ++ (c ∷ B)) q ∙ rest ∙ sym (settle-skip w a (T ++ (d ∷ C)) q)
 
 too-many : (n : ℕ) → 8 < n → factorCountOutOfRange n ≡ true
 unfolding factorCountOutOfRange
@@ -74,7 +61,7 @@ module _ (p : ℕ) (us ts : List ℕ) (answer work : ℕ) where
       → rateSet p fs us ts answer work ≡ rateSet p gs us ts answer work
   unfolding rateSet setAnswer setTable
   set-refuses-many fs gs h k =
-      settle-stop _ _
+      settle-alike _ _
       ((6, λ _. notPrime p)
       ∷ (7, λ _. countOutOfRange (length ts))
       ∷ (8, λ _. termOutOfField (prime p) ts)
