@@ -526,7 +526,7 @@ def main():
             agreed[2], agreed[0])
     sizes = [(name, file_size(path)) for name, path in (('The program `rate`', 'target/bin/rate'),
                                                        ('The library of the exported calls',
-                                                        'target/staticlib/librater.a'))]
+                                                        'target/staticlib/libexports.a'))]
     seconds = proof_times()
     parts = dict(
         slower=slower(jobs, routes), date=datetime.date.today().isoformat(), machine=machine(),

@@ -1,4 +1,4 @@
-// The exported calls of the crates export_*. A slice passes as its start and its length.
+// The exported calls of crates/exports. A slice passes as its start and its length.
 use super::rater::{Factor, Input, Way};
 
 // An answer, or the number of the refusal.

@@ -1,3 +1,4 @@
 pub mod Represented
 pub mod Inverse
 pub mod Slices
+pub mod sums

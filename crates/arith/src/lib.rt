@@ -3,7 +3,8 @@
 // takes any bytes, and a byte that is no element counts as the one that it stands for. All but the
 // constructor and the prime test assume a well-formed struct.
 mod field;
+pub mod primes;
+pub mod sums;
 mod vectors;
 
 pub use field::GaloisField;
-pub use primes::prime_in_range;

@@ -27,7 +27,7 @@ use Rattle.bridge.proofs.Products.{accepted-monic}
 use Rattle.refusals.specs.declared.Verdict.{Verdict}
 use Rattle.refusals.specs.Verdicts.{numberIn}
 use Rattle.refusals.proofs.Settled.{accepted-holds, settle-refused, settle-accepted}
-use Rattle.continuation.specs.Continuing.{Continuable}
+use Rattle.continue_sequence.specs.continuation.Continuing.{Continuable}
 
 -- a call for a buffer of `size` bytes that is accepted
 module _ (p : ℕ) (g : Polynomial) (start : List ℕ) (place size : ℕ) {v : Verdict}

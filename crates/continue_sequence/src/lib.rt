@@ -1,6 +1,8 @@
 // The continuation of a sequence in a lent buffer.
+pub mod continuation;
+
+use crate::continuation::fill;
 use arith::GaloisField;
-use continuation::fill;
 use meaning::Filling;
 use refusals::Verdict;
 use refusals::continue_verdict;

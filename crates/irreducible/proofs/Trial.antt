@@ -47,10 +47,10 @@ use Rattle.bridge.proofs.Remainders.{
   number-negative-negative,
   number-negative-zero,
 }
-use Rattle.trial_division.specs.Word.{value, Below, below-nil, below-cons}
-use Rattle.trial_division.specs.Trial.{turned, remainder, divides, dividesAt, dividesSome, hasDivisor}
-use Rattle.trial_division.proofs.Word.{digits-value, digits-below, value-below, take-below, drop-below}
-use Rattle.trial_division.proofs.Remainder.{length-remainder}
+use Rattle.irreducible.specs.trial_division.Word.{value, Below, below-nil, below-cons}
+use Rattle.irreducible.specs.trial_division.Trial.{turned, remainder, divides, dividesAt, dividesSome, hasDivisor}
+use Rattle.irreducible.proofs.trial_division.Word.{digits-value, digits-below, value-below, take-below, drop-below}
+use Rattle.irreducible.proofs.trial_division.Remainder.{length-remainder}
 
 -- Elements and digits below the size
 pub elements-below : (F : Field) (f : List ℕ) → T (areElements F f) → Below (F .size) f

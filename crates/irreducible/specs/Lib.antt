@@ -1,1 +1,4 @@
 pub mod Trial
+pub mod trial_division
+pub mod binary_division
+pub mod lane_division

@@ -9,7 +9,7 @@ use Prim.Native.Nat.{ℕ}
 use lib.Dec.{T}
 use Rattle.meaning.specs.Field.{Field}
 use Rattle.meaning.specs.Polynomial.{Polynomial}
-use Rattle.division.specs.Division.{Divisible, Divided}
+use Rattle.poly.specs.division.Division.{Divisible, Divided}
 
 pub record Remaindered (b : Bool) (F : Field) (g : Polynomial) (f f′ : List ℕ) : Type 0 where
   pub divided : T b → Divisible F f g → Divided F g f f′

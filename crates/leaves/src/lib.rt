@@ -1,10 +1,10 @@
 // Leaves of the arithmetic on slices, for benchmarks and tests from another language. Where what a leaf
 // requires does not hold, the answer is 0, and all bytes stay as they were.
 use arith::GaloisField;
-use list_checks::not_monic;
-use list_checks::term_out_of_field;
-use poly::remainder;
-use primes::prime_in_range;
+use arith::primes::prime_in_range;
+use conditions::lists::not_monic;
+use conditions::lists::term_out_of_field;
+use poly::division::remainder;
 ghost use mathlib.Core.Path.{_≡_};
 ghost use lib.ListN.{length};
 ghost use Rattle.meaning.specs.Field.{prime, primeInRange};

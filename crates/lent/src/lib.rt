@@ -1,4 +1,6 @@
 // What is shared by all who work in lent bytes: zeros in a part of them, and the smaller of two sizes.
+pub mod halves;
+
 ghost use mathlib.Core.Path.{_≡_};
 ghost use Prim.Native.Nat.{_≤_, min};
 ghost use lib.ListN.{length, replicate};

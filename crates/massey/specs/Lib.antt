@@ -1,1 +1,3 @@
 pub mod Shortest
+pub mod updates
+pub mod recurrence

@@ -4,7 +4,8 @@
 // and updates are in place. Assumes a well-formed field, at most 4,096 terms, and as many lent bytes as each
 // function says.
 mod bytes;
+pub mod recurrence;
 mod shortest;
+pub mod updates;
 
-pub use recurrence::Recurrence;
 pub use shortest::shortest_recurrence;

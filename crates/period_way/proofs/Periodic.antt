@@ -21,11 +21,11 @@ use Rattle.bridge.proofs.Periods.{PeriodSearch, prime-period-search}
 use Rattle.arith.specs.declared.field.GaloisField.{GaloisField}
 use Rattle.arith.specs.Represented.{fieldOf, WellFormed}
 use Rattle.arith.proofs.Represented.{field-isField, size-least}
-use Rattle.levels.specs.declared.Level.{Level}
-use Rattle.levels.specs.Levels.{Dividing}
-use Rattle.halves.specs.Halves.{half, Halves, Placed, Acted}
-use Rattle.digit_search.specs.Searching.{Searchable, Searched}
-use Rattle.halves.proofs.Bytes.{half-length, half-cut, placed-same, placed-kept, kept-trans, cleared-kept}
+use Rattle.powers.specs.declared.levels.Level.{Level}
+use Rattle.powers.specs.levels.Levels.{Dividing}
+use Rattle.lent.specs.halves.Halves.{half, Halves, Placed, Acted}
+use Rattle.powers.specs.digit_search.Searching.{Searchable, Searched}
+use Rattle.lent.proofs.halves.Bytes.{half-length, half-cut, placed-same, placed-kept, kept-trans, cleared-kept}
 use Rattle.period_way.specs.declared.Found.{Found}
 use Rattle.period_way.specs.declared.Found.the-variants.{Power, Nothing}
 use Rattle.period_way.specs.Period.{told, PeriodInput, PeriodSearched, PeriodFound}

@@ -15,7 +15,7 @@ use Rattle.meaning.specs.Field.{Field, areElements}
 use Rattle.meaning.specs.Polynomial.{Polynomial, degree, isMonicOver, irreducible}
 use Rattle.meaning.specs.Result.{cleared}
 use Rattle.meaning.specs.Period.{periodPower}
-use Rattle.halves.specs.Kept.{Kept}
+use Rattle.lent.specs.halves.Kept.{Kept}
 use Rattle.period_way.specs.declared.Found.{Found}
 use Rattle.period_way.specs.declared.Found.the-variants.{Power, Nothing}
 

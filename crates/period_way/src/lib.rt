@@ -1,18 +1,20 @@
 // The period way on accepted input: from terms in lent bytes to the power of the factor. The first 8,192
 // work bytes are two halves of 4,096, terms are stored there alone, and the way leaves them 0 and all beyond
 // them as it was. Assumes a well-formed field and what each function says of its input.
+pub mod one_factor;
+
 ghost use Prim.Native.Nat.{_≤_};
 ghost use lib.ListN.{length};
 ghost use Rattle.arith.specs.Represented.{fieldOf, WellFormed};
-ghost use Rattle.halves.specs.Halves.{Halves, half};
+ghost use Rattle.lent.specs.halves.Halves.{Halves, half};
 ghost use Rattle.period_way.specs.Period.{PeriodInput, PeriodSearched, PeriodFound};
 use action::act_on_period;
 use arith::GaloisField;
-use digit_search::least_power;
-use halves::load;
 use lent::clear;
+use lent::halves::load;
 use lent::smaller;
-use levels::level_dividing;
+use powers::digit_search::least_power;
+use powers::levels::level_dividing;
 
 // The power of a factor that is rated, or nothing where no power allowed annihilates.
 pub enum Found {

@@ -8,7 +8,7 @@ ghost use Rattle.meaning.specs.Calls.{PrimeCall, IrreducibleCall};
 pub fn prime_in_range(n: u64) -> bool
     ensures { λ r. ⌜ PrimeCall n r ⌝ }
 {
-    arith::prime_in_range(n)
+    arith::primes::prime_in_range(n)
 }
 
 // Whether the polynomial with these coefficients, constant first, is irreducible over GF(p), or the refusal

@@ -12,8 +12,8 @@ use Rattle.meaning.specs.File.{FileChosenFits}
 use Rattle.meaning.specs.Calls.{FileCall}
 use Rattle.meaning.specs.Print.{printed}
 use Rattle.massey.specs.Shortest.{freeChoice}
-use Rattle.lines.specs.Lines.{linesOf, PrintCall}
-use Rattle.lines.proofs.FileResults.{printed-lines}
+use Rattle.printing.specs.lines.Lines.{linesOf, PrintCall}
+use Rattle.printing.proofs.lines.FileResults.{printed-lines}
 use Rattle.rate.specs.Responses.{Response}
 use Rattle.rate.proofs.Cuts.{printed-cut, chosen-cut}
 

@@ -1,13 +1,13 @@
 // The rating program. It reads one route file on standard input and writes the header, the result line and,
 // where the file is rated, the poly line to standard output. `main` reads and writes; what is written for
 // what was read is the matter of `respond`.
-use framing::part;
 use libc::STDIN_FILENO;
 use libc::STDOUT_FILENO;
-use lines::ANSWER_BYTES;
-use lines::MOST_PRINTED;
-use lines::print_rating;
-use route::rate_file;
+use printing::lines::ANSWER_BYTES;
+use printing::lines::MOST_PRINTED;
+use printing::lines::print_rating;
+use rater::rate_file;
+use route::framing::part;
 ghost use Rattle.rate.specs.Responses.{Response};
 
 // How much of the input is kept: one byte more than a file may have. Further bytes change nothing.

@@ -10,10 +10,10 @@ use lib.Dec.{eqb}
 use lib.ListN.{length, getD}
 use Rattle.meaning.specs.Result.{answered, mapResult}
 use Rattle.meaning.specs.Route.{RouteRecord, bodies, records}
-use Rattle.framing.specs.Framing.{bodyLength, recordsFrom}
-use Rattle.walk.specs.Walking.{verdictOf}
-use Rattle.walk.proofs.Walks.{Whole, AnswersWhole}
-use Rattle.file_verdict.proofs.Verdicts.{records-whole, records-known}
+use Rattle.route.specs.framing.Framing.{bodyLength, recordsFrom}
+use Rattle.route.specs.walk.Walking.{verdictOf}
+use Rattle.route.proofs.walk.Walks.{Whole, AnswersWhole}
+use Rattle.route.proofs.file_verdict.Verdicts.{records-whole, records-known}
 
 module _ (k : ℕ) where
   abbrev AllWhole : List (List ℕ) → Type 0

@@ -12,14 +12,14 @@ use Rattle.meaning.specs.Route.{records, boxOf}
 use Rattle.meaning.specs.Free.{Choice}
 use Rattle.meaning.specs.File.{rateRecords, rateFile}
 use Rattle.meaning.specs.Calls.{FileCall}
-use Rattle.framing.specs.Framing.{recordsFrom}
-use Rattle.framing.proofs.Records.{records-suited}
+use Rattle.route.specs.framing.Framing.{recordsFrom}
+use Rattle.route.proofs.framing.Records.{records-suited}
 use Rattle.massey.specs.Shortest.{freeChoice}
 use Rattle.massey.proofs.FreeWay.{free-chosen}
-use Rattle.telling.specs.Ratings.{RatedFile}
-use Rattle.file_ways.specs.Accepted.{AcceptedRecords}
-use Rattle.walk.specs.Walking.{verdictOf}
-use Rattle.file_verdict.proofs.Verdicts.{records-whole, records-known}
+use Rattle.rate_file.specs.telling.Ratings.{RatedFile}
+use Rattle.rate_file.specs.ways.Accepted.{AcceptedRecords}
+use Rattle.route.specs.walk.Walking.{verdictOf}
+use Rattle.route.proofs.file_verdict.Verdicts.{records-whole, records-known}
 use Rattle.rate_file.proofs.Accepted.{records-accepted, bodies-accepted}
 
 module _ (file : List ℕ) where

@@ -1,13 +1,18 @@
 // The rating of a route file: its verdict, and then the rating of what it holds. It answers for every file of
 // any length.
-use contents::box_of;
-use contents::gather_terms;
-use file_verdict::verdict;
-use file_ways::rate_records;
-use framing::part;
+pub mod factors;
+pub mod modes;
+pub mod telling;
+pub mod ways;
+
+use crate::telling::of_refusal;
+use crate::ways::rate_records;
 use meaning::FileRating;
 use refusals::Verdict;
-use telling::of_refusal;
+use route::contents::box_of;
+use route::contents::gather_terms;
+use route::file_verdict::verdict;
+use route::framing::part;
 ghost use Rattle.meaning.specs.Calls.{FileCall};
 ghost use Rattle.massey.specs.Shortest.{freeChoice};
 

@@ -36,10 +36,10 @@ use Rattle.refusals.proofs.Settled.{accepted-holds, settle-early, period-last}
 use Rattle.period_way.specs.declared.Found.{Found}
 use Rattle.period_way.specs.Period.{told, PeriodInput, PeriodFound}
 use Rattle.period_way.proofs.Sizes.{period-small}
-use Rattle.one_factor.specs.OneFactor.{ratingFound, Answerable, FoundRated}
+use Rattle.period_way.specs.one_factor.OneFactor.{ratingFound, Answerable, FoundRated}
 use Rattle.refusals.proofs.Lent.{lent-enough, never-refused, lent-refused}
-use Rattle.one_factor.proofs.OneFactor.{call-rating, call-lent, settled-none, settled-some}
-use Rattle.one_factor.proofs.OneFactor.{factor-monic, factor-positive}
+use Rattle.period_way.proofs.one_factor.OneFactor.{call-rating, call-lent, settled-none, settled-some}
+use Rattle.period_way.proofs.one_factor.OneFactor.{factor-monic, factor-positive}
 
 module _ (p : ℕ) (f : Polynomial) (ts : List ℕ) (answer work : ℕ) where
   -- no power of f annihilates the period

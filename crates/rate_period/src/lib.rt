@@ -1,10 +1,10 @@
 // The rating of a period with one factor.
 use arith::GaloisField;
 use meaning::PowerRating;
-use one_factor::rated;
+use period_way::one_factor::rated;
+use period_way::period_power;
 use refusals::Verdict;
 use refusals::ratings::period_verdict;
-use ways::period_power;
 ghost use Rattle.meaning.specs.Calls.{PeriodCall};
 
 // The least power of the factor that annihilates the endless repetition of the terms, with the degree of the

@@ -38,14 +38,14 @@ use Rattle.refusals.specs.Verdicts.{numberIn, allButLast, portionChecks}
 use Rattle.refusals.proofs.Settled.{accepted-holds, settle-early, portion-last}
 use Rattle.period_way.specs.declared.Found.{Found}
 use Rattle.period_way.specs.Period.{told}
-use Rattle.set_action.specs.SetActions.{SetInput}
-use Rattle.portion_way.specs.Portion.{portionFound, PortionFound}
-use Rattle.set_action.proofs.Inputs.{input-monics}
-use Rattle.portion_way.proofs.Portions.{portion-small}
-use Rattle.one_factor.specs.OneFactor.{ratingFound, Answerable, FoundRated}
+use Rattle.set_way.specs.actions.SetActions.{SetInput}
+use Rattle.set_way.specs.portion.Portion.{portionFound, PortionFound}
+use Rattle.set_way.proofs.actions.Inputs.{input-monics}
+use Rattle.set_way.proofs.portion.Portions.{portion-small}
+use Rattle.period_way.specs.one_factor.OneFactor.{ratingFound, Answerable, FoundRated}
 use Rattle.refusals.proofs.Lent.{lent-enough, never-refused, lent-refused}
-use Rattle.one_factor.proofs.OneFactor.{call-rating, call-lent, settled-none, settled-some}
-use Rattle.one_factor.proofs.OneFactor.{factor-monic, factor-positive}
+use Rattle.period_way.proofs.one_factor.OneFactor.{call-rating, call-lent, settled-none, settled-some}
+use Rattle.period_way.proofs.one_factor.OneFactor.{factor-monic, factor-positive}
 
 -- The power found
 portionFound-yes :

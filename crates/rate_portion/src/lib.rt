@@ -1,10 +1,10 @@
 // The rating of a portion with one factor.
 use arith::GaloisField;
 use meaning::PowerRating;
-use one_factor::rated;
+use period_way::one_factor::rated;
 use refusals::Verdict;
 use refusals::ratings::portion_verdict;
-use ways::portion_power;
+use set_way::portion::portion_power;
 ghost use Rattle.meaning.specs.Calls.{PortionCall};
 
 // The least power of the factor that annihilates the continuation of the first terms by the factor to the

@@ -38,11 +38,11 @@ use Rattle.bridge.proofs.Portions.{setPowers-exists}
 use Rattle.refusals.specs.declared.Verdict.{Verdict}
 use Rattle.refusals.specs.Verdicts.{numberIn, allButLast, setChecks}
 use Rattle.refusals.proofs.Settled.{accepted-holds, settle-early, settle-last, settle-over, set-last}
-use Rattle.power_product.specs.Writing.{ProductInput, ProductWritten}
+use Rattle.powers.specs.product.Writing.{ProductInput, ProductWritten}
 use Rattle.set_way.specs.declared.SetPowers.{SetPowers}
-use Rattle.set_action.specs.SetActions.{SetInput}
+use Rattle.set_way.specs.actions.SetActions.{SetInput}
 use Rattle.set_way.specs.SetWay.{SetFound}
-use Rattle.set_action.proofs.Inputs.{input-monics}
+use Rattle.set_way.proofs.actions.Inputs.{input-monics}
 use Rattle.set_way.proofs.Answers.{answer-annihilated, answer-powers}
 use Rattle.set_way.proofs.Sizes.{set-count, set-product, named-padded}
 use Rattle.refusals.proofs.Lent.{lent-enough, names, never-refused, lent-refused, lent-seventeen}

@@ -1,17 +1,19 @@
 // The rating of a portion with one to eight factors.
+pub mod joined;
+
 use arith::GaloisField;
 use meaning::Refusal;
 use meaning::SetOutcome;
 use meaning::SetRating;
-use powers::write_product;
+use powers::product::write_product;
 use refusals::Verdict;
 use refusals::ratings::set_verdict;
-use ways::set_powers;
+use set_way::set_powers;
 ghost use mathlib.Core.Path.{_≡_};
 ghost use lib.ListN.{replicate};
 ghost use Rattle.meaning.specs.declared.SetOutcome.{SetOutcome};
 ghost use Rattle.meaning.specs.Calls.{SetCall};
-ghost use Rattle.factor_checks.specs.Contents.{contents};
+ghost use Rattle.conditions.specs.factors.Contents.{contents};
 
 // A refusal, which has no powers.
 fn refused(r: Refusal) -> SetRating

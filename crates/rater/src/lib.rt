@@ -1,6 +1,7 @@
 // The public calls of the rater, and nothing else. Each answers on every input: no call asks anything of its
 // caller, and its contract, a record of crate meaning, fixes the whole answer and every lent byte afterwards.
-// Each stands in a crate of its own, the two questions in one.
+
+// on numbers and slices
 pub use continue_sequence::continue_sequence;
 pub use questions::is_irreducible;
 pub use questions::prime_in_range;
@@ -8,3 +9,9 @@ pub use rate_free::rate_free;
 pub use rate_period::rate_period;
 pub use rate_portion::rate_portion;
 pub use rate_set::rate_set;
+
+// on route files
+pub use rate_file::rate_file;
+pub use route::reader::record;
+pub use route::reader::record_body;
+pub use route::reader::record_outcome;

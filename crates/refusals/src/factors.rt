@@ -1,17 +1,17 @@
 // The conditions on factors in their order: 10, 11, 12 for one factor, 9 to 13 for several.
 use crate::Verdict;
-use checks::factor_count_out_of_range;
-use checks::factor_degree_out_of_range;
-use checks::not_monic;
-use checks::reducible;
-use checks::some_degree_out_of_range;
-use checks::some_not_monic;
-use checks::some_reducible;
-use checks::two_equal;
+use conditions::factors::some_degree_out_of_range;
+use conditions::factors::some_not_monic;
+use conditions::factors::two_equal;
+use conditions::lists::factor_degree_out_of_range;
+use conditions::lists::not_monic;
+use conditions::numbers::factor_count_out_of_range;
+use conditions::reducibility::reducible;
+use conditions::reducibility::some_reducible;
 use meaning::Refusal;
 ghost use mathlib.Core.Path.{_≡_};
 ghost use Rattle.meaning.specs.Result.{firstOf};
-ghost use Rattle.factor_checks.specs.Contents.{contents};
+ghost use Rattle.conditions.specs.factors.Contents.{contents};
 ghost use Rattle.refusals.specs.Verdicts.{numberIn, oneFactorTable, factorsTable};
 
 // One factor: 10, 11, 12.

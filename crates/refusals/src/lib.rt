@@ -1,17 +1,18 @@
 // The conditions of the numbered list of refusals in their order, one function for each call: the first that
 // holds, up to 16. Each answers for any numbers and slices of any length, and changes no lent byte.
 pub mod factors;
+pub mod numbers;
 pub mod ratings;
 
-use checks::continuation_degree_out_of_range;
-use checks::count_out_of_range;
-use checks::factor_degree_out_of_range;
-use checks::lent_too_short;
-use checks::not_monic;
-use checks::not_prime;
-use checks::place_out_of_range;
-use checks::start_unlike_degree;
-use checks::term_out_of_field;
+use conditions::lists::continuation_degree_out_of_range;
+use conditions::lists::factor_degree_out_of_range;
+use conditions::lists::not_monic;
+use conditions::lists::start_unlike_degree;
+use conditions::lists::term_out_of_field;
+use conditions::numbers::count_out_of_range;
+use conditions::numbers::lent_too_short;
+use conditions::numbers::not_prime;
+use conditions::numbers::place_out_of_range;
 use meaning::Refusal;
 ghost use mathlib.Core.Path.{_≡_};
 ghost use Rattle.meaning.specs.Result.{firstOf};

@@ -29,12 +29,12 @@ use Rattle.bridge.proofs.Interpretation.{IsField}
 use Rattle.bridge.proofs.Products.{Nonempties, monics-nonempty}
 use Rattle.bridge.proofs.Continuations.{take-elements}
 use Rattle.bridge.proofs.Portions.{setPowers-exists}
-use Rattle.factor_checks.proofs.Uppers.{total-known}
-use Rattle.halves.proofs.Bytes.{kept-trans, cleared-kept}
+use Rattle.conditions.proofs.factors.Uppers.{total-known}
+use Rattle.lent.proofs.halves.Bytes.{kept-trans, cleared-kept}
 use Rattle.set_way.specs.declared.SetPowers.{SetPowers}
-use Rattle.set_action.specs.SetActions.{SetInput, SetDecided}
-use Rattle.set_action.proofs.Inputs.{input-monics}
-use Rattle.set_search.specs.SetSearch.{PowersSearched}
+use Rattle.set_way.specs.actions.SetActions.{SetInput, SetDecided}
+use Rattle.set_way.proofs.actions.Inputs.{input-monics}
+use Rattle.set_way.specs.search.SetSearch.{PowersSearched}
 use Rattle.set_way.specs.SetWay.{powersFound, toldPowers, SetSearched, SetFound}
 
 -- The first D terms

@@ -19,9 +19,9 @@ use Rattle.meaning.specs.Answers.{padded}
 use Rattle.bridge.proofs.Interpretation.{IsField}
 use Rattle.bridge.proofs.Products.{Nonempties, monics-nonempty, length-named, powerAt-named}
 use Rattle.bridge.proofs.Portions.{leastAt-exists, setPowers-places}
-use Rattle.power_product.specs.Writing.{ProductInput}
-use Rattle.set_action.specs.SetActions.{SetInput}
-use Rattle.set_action.proofs.Inputs.{input-monics, input-total}
+use Rattle.powers.specs.product.Writing.{ProductInput}
+use Rattle.set_way.specs.actions.SetActions.{SetInput}
+use Rattle.set_way.proofs.actions.Inputs.{input-monics, input-total}
 
 total-below :
     (fs : List Polynomial) (rs us : List ℕ)

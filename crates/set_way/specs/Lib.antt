@@ -1,1 +1,4 @@
 pub mod SetWay
+pub mod actions
+pub mod search
+pub mod portion

@@ -17,7 +17,7 @@ use Rattle.meaning.specs.Result.{cleared}
 use Rattle.meaning.specs.Conditions.{named}
 use Rattle.meaning.specs.Portion.{setPowers}
 use Rattle.meaning.specs.Answers.{padded}
-use Rattle.halves.specs.Kept.{Kept}
+use Rattle.lent.specs.halves.Kept.{Kept}
 use Rattle.set_way.specs.declared.SetPowers.{SetPowers}
 
 unfoldable pub powersFound : Field → List (Polynomial × ℕ) → List ℕ → Option (List ℕ)

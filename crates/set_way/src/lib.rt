@@ -1,16 +1,20 @@
 // The set way on accepted input: from terms in lent bytes to the powers of the factors. The first 8,192
 // work bytes are two halves of 4,096, terms are stored there alone, and the way leaves them 0 and all beyond
 // them as it was. Assumes a well-formed field and what each function says of its input.
+pub mod actions;
+pub mod portion;
+pub mod search;
+
+use crate::actions::annihilates;
+use crate::search::least_powers;
 use arith::GaloisField;
-use factor_checks::total_degree;
+use conditions::factors::total_degree;
 use lent::clear;
-use set_action::annihilates;
-use set_search::least_powers;
 ghost use Prim.Native.Nat.{_≤_};
 ghost use lib.ListN.{length};
 ghost use Rattle.arith.specs.Represented.{fieldOf, WellFormed};
-ghost use Rattle.factor_checks.specs.Contents.{contents};
-ghost use Rattle.set_action.specs.SetActions.{SetInput};
+ghost use Rattle.conditions.specs.factors.Contents.{contents};
+ghost use Rattle.set_way.specs.actions.SetActions.{SetInput};
 ghost use Rattle.set_way.specs.SetWay.{SetSearched, SetFound};
 
 // What the set way finds: whether the product to the upper powers annihilates the terms, and then the powers

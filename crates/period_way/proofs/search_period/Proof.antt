@@ -2,8 +2,8 @@
 use mathlib.Core.Path.{_∙_}
 use native.Mathlib.Omega.{arith}
 use borrow.Author.Needs.{needs}
-use Rattle.levels.proofs.Bounds.{size-base}
-use Rattle.halves.proofs.Bytes.{half-length}
+use Rattle.powers.proofs.levels.Bounds.{size-base}
+use Rattle.lent.proofs.halves.Bytes.{half-length}
 use Rattle.period_way.proofs.Periodic.{period-terms, period-nonempty, period-fits, searched-halves}
 use Rattle.period_way.proofs.Periodic.{period-searchable, searched-none, searched-some}
 use Rattle.period_way.proofs.search_period.Statement.{statement}

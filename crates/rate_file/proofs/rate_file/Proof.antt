@@ -2,9 +2,9 @@
 -- Assumes nothing.
 use mathlib.Core.Path.{sym, refl, ap, _∙_}
 use borrow.Author.Needs.{needs}
-use Rattle.file_ways.proofs.Terms.{gathered-cut}
-use Rattle.mode_ways.proofs.Calls.{rated-as, refused-rated}
-use Rattle.walk.specs.Walking.{toldVerdict}
+use Rattle.rate_file.proofs.ways.Terms.{gathered-cut}
+use Rattle.rate_file.proofs.modes.Calls.{rated-as, refused-rated}
+use Rattle.route.specs.walk.Walking.{toldVerdict}
 use Rattle.rate_file.proofs.Ratings.{file-accepted, file-rated, file-refused, file-number, file-call}
 use Rattle.rate_file.proofs.rate_file.Statement.{statement}
 use Rattle.rate_file.proofs.rate_file.Tie as tie

@@ -3,7 +3,7 @@
 use mathlib.Core.Path.{sym}
 use borrow.Author.Needs.{needs}
 use Rattle.arith.proofs.Represented.{field-isField}
-use Rattle.factor_checks.proofs.Contents.{contents-length}
+use Rattle.conditions.proofs.factors.Contents.{contents-length}
 use Rattle.rate_set.proofs.SetWay.{set-refused, set-prime, set-lent, set-input, set-seventeen}
 use Rattle.rate_set.proofs.SetWay.{set-powers-input, set-rated}
 use Rattle.rate_set.proofs.rate_set.Statement.{statement}

@@ -9,8 +9,8 @@ use borrow.Author.Needs.{needs}
 use Rattle.meaning.specs.Result.{Check}
 use Rattle.meaning.specs.Answers.{numberOf}
 use Rattle.meaning.specs.Conditions.{factorCountOutOfRange}
-use Rattle.factor_checks.specs.Contents.{contents}
-use Rattle.factor_checks.proofs.Contents.{contents-length}
+use Rattle.conditions.specs.factors.Contents.{contents}
+use Rattle.conditions.proofs.factors.Contents.{contents-length}
 use Rattle.refusals.specs.Verdicts.{numberIn, factorsTable}
 use Rattle.refusals.proofs.Order.{Passed, first-here, first-skip, first-nowhere}
 use Rattle.refusals.proofs.factors.factors_verdict.Statement.{statement}

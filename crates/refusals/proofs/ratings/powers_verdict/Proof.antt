@@ -9,8 +9,8 @@ use Rattle.meaning.specs.Result.{Check}
 use Rattle.meaning.specs.Answers.{numberOf}
 use Rattle.meaning.specs.Polynomial.{Polynomial}
 use Rattle.meaning.specs.Conditions.{named, totalDegree, fewerTermsThan}
-use Rattle.factor_checks.specs.Contents.{contents}
-use Rattle.factor_checks.proofs.Uppers.{total-known}
+use Rattle.conditions.specs.factors.Contents.{contents}
+use Rattle.conditions.proofs.factors.Uppers.{total-known}
 use Rattle.refusals.specs.Verdicts.{numberIn, powersTable}
 use Rattle.refusals.proofs.Order.{Passed, first-here, first-skip, first-nowhere}
 use Rattle.refusals.proofs.ratings.powers_verdict.Statement.{statement}

@@ -1,0 +1,47 @@
+-- `rater_continue_sequence` meets its contract: at each arm the answer tells what the arm names.
+-- Assumes nothing.
+use borrow.Author.Needs.{needs}
+use Rattle.exports.proofs.continuation.Told.{told-filled, told-unfilled}
+use Rattle.exports.proofs.continuation.rater_continue_sequence.Statement.{statement}
+use Rattle.exports.proofs.continuation.rater_continue_sequence.Tie as tie
+
+continue-sequence-requires : tie.Need-continue-sequence-requires
+continue-sequence-requires c κs = search needs
+
+enum-told : tie.Need-enum-told
+enum-told c = search needs
+
+enum-known-r : tie.Need-enum-known-r
+enum-known-r c = search needs
+
+number-of-requires : tie.Need-number-of-requires
+number-of-requires c κs = search needs
+
+same-length : tie.Need-same-length
+same-length c = search needs
+
+returns : tie.Need-returns
+returns c =
+    told-filled (c .before .before .before .before .continue-sequence .ensures) (c .enum-told .given .1)
+
+same-length-2 : tie.Need-same-length-2
+same-length-2 c = search needs
+
+returns-2 : tie.Need-returns-2
+returns-2 c =
+    let v = c .before .before in
+    told-unfilled (v .before .before .before .before .continue-sequence .ensures) (v .r .given .1)
+    (c .number-of .ensures)
+
+pub rater-continue-sequence-spec : {M : Type 1} → statement M
+rater-continue-sequence-spec =
+    tie.close
+    (tie.spec
+    continue-sequence-requires
+    enum-told
+    enum-known-r
+    number-of-requires
+    same-length
+    returns
+    same-length-2
+    returns-2)

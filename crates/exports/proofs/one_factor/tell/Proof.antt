@@ -1,0 +1,31 @@
+-- `tell` meets its contract: at each arm the rating tells what the arm names.
+-- Assumes nothing.
+use borrow.Author.Needs.{needs}
+use Rattle.exports.proofs.one_factor.ToldPower.{power-told, power-untold}
+use Rattle.exports.proofs.one_factor.tell.Statement.{statement}
+use Rattle.exports.proofs.one_factor.tell.Tie as tie
+
+enum-known-rating : tie.Need-enum-known-rating
+enum-known-rating c = search needs
+
+enum-known-rating-2 : tie.Need-enum-known-rating-2
+enum-known-rating-2 c = search needs
+
+number-of-requires : tie.Need-number-of-requires
+number-of-requires c κs = search needs
+
+returns : tie.Need-returns
+returns c = power-told (c .before .rating .given .1)
+
+returns-2 : tie.Need-returns-2
+returns-2 c = power-untold (c .before .before .rating2 .given .1) (c .number-of .ensures)
+
+pub tell-spec : {M : Type 1} → statement M
+tell-spec =
+    tie.close
+    (tie.spec
+    enum-known-rating
+    enum-known-rating-2
+    number-of-requires
+    returns
+    returns-2)

@@ -1,0 +1,84 @@
+-- The set way on the first nine lengths and the first nine upper powers.
+--
+--   nine-lengths     == the first nine numbers, cut to their count, are the first nine
+--   split-take       == the first parts are those by the first lengths
+--   named-same       == upper powers count as far as there are factors
+--   numbered-call    == the contract with nine numbers of each is that with all of them
+-- Assumes nothing.
+use Prim.Native.Nat.{ℕ, zero, suc, _-_, _<_, _≤_, min}
+use mathlib.Core.Path.{_≡_, refl, sym, ap, subst, _∙_}
+use mathlib.Core.List.{List, [], _∷_}
+use native.Mathlib.Omega.{arith}
+use lib.ListN.{length, getD, take, drop, length-take}
+use lib.Seq.{ext-getD, getD-take}
+use Rattle.meaning.specs.declared.SetRating.{SetRating}
+use Rattle.meaning.specs.Polynomial.{Polynomial}
+use Rattle.meaning.specs.Search.{holdsForSome}
+use Rattle.meaning.specs.Field.{prime}
+use Rattle.meaning.specs.Conditions.{named, factorDegreeOutOfRange, notMonic}
+use Rattle.meaning.specs.Portion.{setAnswer, rateSet}
+use Rattle.meaning.specs.Calls.{SetCall}
+use Rattle.rate_set.specs.joined.Joined.{split}
+use Rattle.rate_set.proofs.joined.Nine.{call-same, call-nine}
+use Rattle.exports.specs.numbers.Numbers.{FirstNine}
+
+nine-lengths : {ns ms : List ℕ} {k : ℕ} → FirstNine ns ms → k ≡ min (length ns) 9 → take k ms ≡ take 9 ns
+nine-lengths {ns} {ms} {k} f e =
+    ext-getD 0 (take k ms) (take 9 ns) (omega (arith, length-take k ms, length-take 9 ns, f .size))
+    (λ i h.
+    let l : i < k = omega (arith, length-take k ms) in
+    let m : i < 9 = omega arith in
+    getD-take k ms i 0 l ∙ f .same i m ∙ sym (getD-take 9 ns i 0 m))
+
+split-take : (n : ℕ) (b ns : List ℕ) → split b (take n ns) ≡ take n (split b ns)
+unfolding split
+split-take zero b ns = refl
+split-take (suc n) b [] = refl
+split-take (suc n) b (m ∷ ns) = ap (λ l. take m b ∷ l) (split-take n (drop m b) ns)
+
+named-same : (fs : List Polynomial) (us vs : List ℕ)
+    → ((i : ℕ) → i < length fs → getD us i 0 ≡ getD vs i 0)
+    → named fs us ≡ named fs vs
+unfolding named
+named-same [] us vs h = refl
+named-same (f ∷ fs) [] [] h = refl
+named-same (f ∷ fs) [] (v ∷ vs) h =
+    ap (λ u. (f, u) ∷ named fs []) (h 0 (omega arith))
+    ∙ ap (λ l. (f, v) ∷ l) (named-same fs [] vs (λ i k. h (suc i) (omega arith)))
+named-same (f ∷ fs) (u ∷ us) [] h =
+    ap (λ v. (f, v) ∷ named fs us) (h 0 (omega arith))
+    ∙ ap (λ l. (f, 0) ∷ l) (named-same fs us [] (λ i k. h (suc i) (omega arith)))
+named-same (f ∷ fs) (u ∷ us) (v ∷ vs) h =
+    ap (λ w. (f, w) ∷ named fs us) (h 0 (omega arith))
+    ∙ ap (λ l. (f, v) ∷ l) (named-same fs us vs (λ i k. h (suc i) (omega arith)))
+
+answer-same : (p : ℕ) (fs : List Polynomial) (us vs ts : List ℕ) (answer work : ℕ)
+    → named fs us ≡ named fs vs
+    → rateSet p fs us ts answer work ≡ rateSet p fs vs ts answer work
+unfolding rateSet
+answer-same p fs us vs ts answer work e =
+    ap
+    (λ l.
+    setAnswer p (holdsForSome (factorDegreeOutOfRange (prime p)) fs) (holdsForSome (notMonic (prime p)) fs) l
+    ts
+    answer
+    work)
+    e
+
+module _ {p : ℕ} (b : List ℕ) {ls ms us vs ts answer work : List ℕ} {k : ℕ} {r : SetRating}
+    {answer′ work′ : List ℕ} where
+  pub numbered-call :
+      FirstNine ls ms
+      → FirstNine us vs
+      → k ≡ min (length ls) 9
+      → SetCall p (split b (take (k - 0) (drop 0 ms))) vs ts answer work r answer′ work′
+      → SetCall p (split b ls) us ts answer work r answer′ work′
+  numbered-call f g e c =
+      let l : k - 0 ≡ k = omega arith in
+      let fs : split b (take (k - 0) ms) ≡ take 9 (split b ls)
+      = ap (split b) (ap (λ n. take n ms) l ∙ nine-lengths f e) ∙ split-take 9 b ls in
+      let q = named-same (take 9 (split b ls)) vs us
+      (λ i h. g .same i (omega (arith, length-take 9 (split b ls)))) in
+      call-nine (split b ls)
+      (call-same (answer-same p (take 9 (split b ls)) vs us ts (length answer) (length work) q)
+      (subst (λ gs. SetCall p gs vs ts answer work r answer′ work′) fs c))

@@ -1,0 +1,71 @@
+-- `rate_numbered_set` meets its contract: nine numbers of each are all that the set way looks at.
+-- Assumes nothing.
+use Prim.Native.Nat.{min}
+use mathlib.Core.Path.{ap, _∙_}
+use denote.Ref.{now}
+use borrow.Author.Needs.{needs}
+use Rattle.exports.proofs.set.Nine.{numbered-call}
+use Rattle.exports.proofs.set.rate_numbered_set.Statement.{statement}
+use Rattle.exports.proofs.set.rate_numbered_set.Tie as tie
+
+first-nine-requires : tie.Need-first-nine-requires
+first-nine-requires c κs = search needs
+
+first-nine-requires-2 : tie.Need-first-nine-requires-2
+first-nine-requires-2 c κs = search needs
+
+number-count-requires : tie.Need-number-count-requires
+number-count-requires c κs = search needs
+
+at-most-nine-requires : tie.Need-at-most-nine-requires
+at-most-nine-requires c κs = search needs
+
+sub-rate-joined-set : tie.Need-sub-rate-joined-set
+sub-rate-joined-set c = search needs
+
+part-rate-joined-set-start : tie.Need-part-rate-joined-set-start
+part-rate-joined-set-start c = search needs
+
+part-rate-joined-set-end : tie.Need-part-rate-joined-set-end
+part-rate-joined-set-end c = search needs
+
+slice-aggregate-rate-joined-set : tie.Need-slice-aggregate-rate-joined-set
+slice-aggregate-rate-joined-set c = search needs
+
+rate-joined-set-requires : tie.Need-rate-joined-set-requires
+rate-joined-set-requires c κs = search needs
+
+same-length : tie.Need-same-length
+same-length c = search needs
+
+same-length-2 : tie.Need-same-length-2
+same-length-2 c = search needs
+
+returns : tie.Need-returns
+returns c =
+    let r = c .before .before .before .before in
+    let n = r .before .before .before .before .before .before in
+    let k = n .before in
+    let u = k .before in
+    let f = u .before in
+    let s = f .before .before .before .before .before .before .before in
+    numbered-call (now (s .args .factors)) (f .first-nine .ensures) (u .first-nine2 .ensures)
+    (n .at-most-nine .ensures ∙ ap (λ m. min m 9) (k .number-count .ensures))
+    (r .rate-joined-set .ensures)
+
+pub rate-numbered-set-spec : {M : Type 1} → statement M
+rate-numbered-set-spec =
+    tie.close
+    (tie.spec
+    first-nine-requires
+    first-nine-requires-2
+    number-count-requires
+    at-most-nine-requires
+    sub-rate-joined-set
+    part-rate-joined-set-start
+    part-rate-joined-set-end
+    slice-aggregate-rate-joined-set
+    rate-joined-set-requires
+    same-length
+    same-length-2
+    returns)

@@ -1,0 +1,7 @@
+pub mod results
+pub mod numbers
+pub mod questions
+pub mod one_factor
+pub mod set
+pub mod free
+pub mod continuation

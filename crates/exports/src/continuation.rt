@@ -1,0 +1,24 @@
+// The continuation for programs in other languages.
+use meaning::Filling;
+use refusals::numbers::number_of;
+ghost use Rattle.meaning.specs.Continuation.{continueSequence};
+ghost use Rattle.exports.specs.continuation.Filled.{Filled};
+
+// Fills the buffer from the place on with the continuation.
+#[no_mangle]
+pub extern "C" fn rater_continue_sequence(
+    p: u64,
+    polynomial: &[u8],
+    start: &[u8],
+    buffer: &mut [u8],
+    place: usize,
+) -> u64
+    ensures { λ r. ⌜ Filled
+        (continueSequence p (now (polynomial .entry)) (now (start .entry)) place (now (buffer .entry)))
+        (now (buffer .entry)) r (now (buffer .exit)) ⌝ }
+{
+    match rater::continue_sequence(p, polynomial, start, buffer, place) {
+        Filling::Filled => 0,
+        Filling::Refused(r) => number_of(r),
+    }
+}

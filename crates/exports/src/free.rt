@@ -1,0 +1,34 @@
+// The free way for programs in other languages.
+use meaning::FreeRating;
+use refusals::numbers::number_of;
+ghost use Rattle.massey.specs.Shortest.{freeChoice};
+ghost use Rattle.exports.specs.free.FreeExported.{FreeExported};
+
+// Rates known terms with no factor named: leaves the degree, and 1 for the word `one` or 0 for `some`.
+#[no_mangle]
+pub extern "C" fn rater_rate_free(
+    p: u64,
+    terms: &[u8],
+    answer: &mut [u8],
+    work: &mut [u8],
+    degree: &mut u64,
+    unique: &mut u8,
+) -> u64
+    ensures { λ r. ⌜ FreeExported freeChoice p (now (terms .entry)) (now (answer .entry)) (now (work .entry))
+        (now (degree .entry)) (now (unique .entry)) r (now (answer .exit)) (now (work .exit))
+        (now (degree .exit)) (now (unique .exit)) ⌝ }
+{
+    match rater::rate_free(p, terms, answer, work) {
+        FreeRating::Unique { degree: l } => {
+            *degree = l;
+            *unique = 1;
+            0
+        }
+        FreeRating::Several { degree: l } => {
+            *degree = l;
+            *unique = 0;
+            0
+        }
+        FreeRating::Refused(r) => number_of(r),
+    }
+}

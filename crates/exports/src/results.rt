@@ -1,0 +1,1 @@
+// What the exported calls share: a call's result as numbers, said in specs/.

@@ -1,0 +1,76 @@
+// The set way for programs in other languages.
+use crate::numbers::first_nine;
+use crate::numbers::number_count;
+use crate::numbers::write_eight;
+use meaning::SetOutcome;
+use meaning::SetRating;
+use rate_set::joined::at_most_nine;
+use rate_set::joined::rate_joined_set;
+use refusals::numbers::number_of;
+ghost use lib.ListN.{length};
+ghost use Rattle.meaning.specs.Portion.{rateSet};
+ghost use Rattle.meaning.specs.Calls.{SetCall};
+ghost use Rattle.rate_set.specs.joined.Joined.{split};
+ghost use Rattle.exports.specs.numbers.Numbers.{numbersOf};
+ghost use Rattle.exports.specs.set.SetExported.{SetExported};
+
+// The set way with the lengths of the joined factors and their upper powers as numbers in bytes. Nine factors
+// are refused whatever they are, so nine numbers of each are all that is looked at.
+fn rate_numbered_set(
+    p: u64,
+    factors: &[u8],
+    lengths: &[u8],
+    uppers: &[u8],
+    terms: &[u8],
+    answer: &mut [u8],
+    work: &mut [u8],
+) -> SetRating
+    ensures { λ r. ⌜ SetCall p (split (now (factors .entry)) (numbersOf (now (lengths .entry))))
+        (numbersOf (now (uppers .entry))) (now (terms .entry)) (now (answer .entry)) (now (work .entry)) r
+        (now (answer .exit)) (now (work .exit)) ⌝ }
+{
+    let parts = first_nine(lengths);
+    let powers = first_nine(uppers);
+    let count = at_most_nine(number_count(lengths));
+    rate_joined_set(p, factors, &parts[0..count], &powers, terms, answer, work)
+}
+
+// Rates a portion with one to eight factors: leaves the powers in the order of the factors, then zeros, and
+// the degree. The factors stand one after another in one slice, with their lengths apart. Lengths, upper
+// powers and powers are numbers of eight bytes each, the least significant first. Any number of bytes may be
+// lent for the powers: as many of the 64 bytes of eight powers as were lent are written, from the front, so
+// that 8·n are enough for n factors. Bytes beyond 64 stay as they were, and a refusal leaves all so.
+#[no_mangle]
+pub extern "C" fn rater_rate_set(
+    p: u64,
+    factors: &[u8],
+    lengths: &[u8],
+    uppers: &[u8],
+    terms: &[u8],
+    answer: &mut [u8],
+    work: &mut [u8],
+    powers: &mut [u8],
+    degree: &mut u64,
+) -> u64
+    ensures { λ r. ⌜ SetExported
+        (rateSet p (split (now (factors .entry)) (numbersOf (now (lengths .entry))))
+        (numbersOf (now (uppers .entry))) (now (terms .entry)) (length (now (answer .entry)))
+        (length (now (work .entry))))
+        (now (answer .entry)) (now (work .entry)) (now (powers .entry)) (now (degree .entry)) r
+        (now (answer .exit)) (now (work .exit)) (now (powers .exit)) (now (degree .exit)) ⌝ }
+{
+    let rating = rate_numbered_set(p, factors, lengths, uppers, terms, answer, work);
+    let outcome = rating.outcome;
+    let found = rating.powers;
+    match outcome {
+        SetOutcome::Rated {
+            degree: d,
+            count: _,
+        } => {
+            write_eight(&found, powers);
+            *degree = d;
+            0
+        }
+        SetOutcome::Refused(r) => number_of(r),
+    }
+}

@@ -1,0 +1,138 @@
+-- Lists written into others, and what stands where afterwards.
+--
+--   copied            == a list copied over another of its length
+--   writing-block     == a turn of a loop that writes m numbers of a list at once
+--   kept-half, placed == numbers pasted at the front of a half: what stands in the two halves and beyond
+--   lent-length, block-acted == the terms that are lent to an action, and the block of its values that comes
+--                          back
+--
+-- Assumes nothing.
+use Prim.Native.Nat.{ℕ, _+_, _*_, _-_, _≤_}
+use mathlib.Core.Path.{_≡_, sym, ap, ap₂, subst, _∙_}
+use mathlib.Core.Bool.{Bool}
+use mathlib.Core.List.{List, _++_, append-assoc, append-nil}
+use native.Mathlib.Nat.{add-sub-cancel-left}
+use native.Mathlib.Decide.{decLt}
+use native.Mathlib.Omega.{arith}
+use lib.ListN.{length, take, drop, drop-of-length-le}
+use lib.Seq.{take-length, take-take, take-add, drop-drop}
+use lib.Seq.{paste, take-paste, drop-paste, length-paste}
+use borrow.Rule.Slice.PartMut.{putMid}
+use Rattle.meaning.specs.Field.{Field}
+use Rattle.meaning.specs.Polynomial.{Polynomial}
+use Rattle.meaning.specs.Sequence.{cut, periodic}
+use Rattle.bridge.proofs.Actions.{actStride, length-cut}
+use Rattle.bridge.proofs.KnownActions.{allZero}
+use Rattle.arith.specs.Slices.{part}
+use Rattle.arith.proofs.Slices.{length-part, part-paste-inside, part-paste-before, part-paste-after}
+use Rattle.arith.proofs.Writing.{Writing}
+use Rattle.lent.proofs.Parts.{put-paste}
+use Rattle.lent.specs.halves.Halves.{half, Halves, Placed, values, BlockActed}
+
+pub copied : (l t : List ℕ) → length l ≤ length t → take (length t) t ++ drop (length t) l ≡ t
+copied l t h = ap₂ _++_ (take-length t) (drop-of-length-le l h) ∙ append-nil t
+
+-- A list written piece by piece
+module _ (l : List ℕ) (x : ℕ) (t : List ℕ) (i m : ℕ) (h : x + i + m ≤ length l) (k : i + m ≤ length t) where
+  paste-more : paste (paste l x t i) (x + i) (part t i m) m ≡ paste l x t (i + m)
+  paste-more =
+      ap₂ (λ a b. a ++ take m (part t i m) ++ b) (take-paste l x t i (omega arith) (omega arith)) rest
+      ∙ ap (λ a. take x l ++ take i t ++ a ++ drop (x + (i + m)) l) (take-take m m (drop i t) (omega arith))
+      ∙ ap (λ a. a ++ drop (x + (i + m)) l)
+      (append-assoc (take x l) (take i t) (part t i m) ∙ ap (λ a. take x l ++ a) (sym (take-add i m t)))
+    where
+      rest : drop (x + i + m) (paste l x t i) ≡ drop (x + (i + m)) l
+      rest =
+          let e : x + i + m ≡ x + (i + m) = omega arith in
+          sym (drop-drop m (x + i) (paste l x t i))
+          ∙ ap (drop m) (drop-paste l x t i (omega arith) (omega arith))
+          ∙ drop-drop m (x + i) l
+          ∙ ap (λ n. drop n l) e
+
+  pub writing-block :
+      {w w′ : List ℕ}
+      → Writing l x t w i
+      → w′ ≡ paste w (x + i) (part t i m) m
+      → Writing l x t w′ (i + m)
+  writing-block {w} {w′} s e =
+      record {
+        within = omega arith;
+        enough = k;
+        size = ap length pasted ∙ length-paste l x t (i + m) (omega arith) k;
+        pasted = pasted;
+      }
+    where
+      pasted : w′ ≡ paste l x t (i + m)
+      pasted = e ∙ ap (λ v. paste v (x + i) (part t i m) m) (s .pasted) ∙ paste-more
+
+-- Numbers pasted at the front of half h, the other half being k
+drop-beyond :
+    (l : List ℕ) (x : ℕ) (t : List ℕ) (n k : ℕ)
+    → x + n ≤ k
+    → x ≤ length l
+    → n ≤ length t
+    → drop k (paste l x t n) ≡ drop k l
+drop-beyond l x t n k h a b =
+    let e : k ≡ x + n + (k - (x + n)) = omega arith in
+    ap (λ j. drop j (paste l x t n)) e
+    ∙ sym (drop-drop (k - (x + n)) (x + n) (paste l x t n))
+    ∙ ap (drop (k - (x + n))) (drop-paste l x t n a b)
+    ∙ drop-drop (k - (x + n)) (x + n) l
+    ∙ ap (λ j. drop j l) (sym e)
+
+module _
+    (w : List ℕ) (h k : ℕ) (size : 8192 ≤ length w) (which : h ≤ 1) (other : k ≡ 1 - h) (t : List ℕ)
+  where
+    pub kept-half :
+        (n m : ℕ)
+        → n ≤ 4096
+        → n ≤ length t
+        → m ≤ 4096
+        → half (paste w (4096 * h) t n) k m ≡ half w k m
+    kept-half n m a b l = elim (decLt k h) [
+      | yes c ↦ part-paste-before w (4096 * h) t n (omega arith) b (4096 * k) m (omega arith)
+      | no c ↦ part-paste-after w (4096 * h) t n (omega arith) b (4096 * k) m (omega arith) (omega arith)
+    ]
+
+    pub placed : {w′ : List ℕ} → length t ≤ 4096 → w′ ≡ paste w (4096 * h) t (length t) → Placed w h k t w′
+    placed {w′} few e =
+        subst (Placed w h k t) (sym e)
+        record {
+          made = part-paste-inside w (4096 * h) t (length t) (omega arith) (omega arith) ∙ take-length t;
+          kept = kept-half (length t) 4096 few (omega arith) (omega arith);
+          beyond = drop-beyond w (4096 * h) t (length t) 8192 (omega arith) (omega arith) (omega arith);
+          size = length-paste w (4096 * h) t (length t) (omega arith) (omega arith);
+        }
+
+-- A block of values that comes back to the place i of the other half, for the terms of half h that were lent
+module _ {w : List ℕ} {h n : ℕ} (p : Halves w h n) where
+  lent-half : part w (4096 * h) (4096 * h + n - 4096 * h) ≡ half w h n
+  lent-half = ap (part w (4096 * h)) (add-sub-cancel-left (4096 * h) n)
+
+  pub lent-length : length (part w (4096 * h) (4096 * h + n - 4096 * h)) ≡ n
+  lent-length = ap length lent-half ∙ length-part w (4096 * h) n (omega (arith, p .enough, p .which, p .few))
+
+  module _ (i : ℕ) where
+    abbrev to : ℕ
+    to = 4096 * (1 - h) + i
+
+    pub block-length : (m : ℕ) → i + m ≤ n → length (part w to (to + m - to)) ≡ m
+    block-length m l =
+        ap (λ k. length (part w to k)) (add-sub-cancel-left to m)
+        ∙ length-part w to m (omega (arith, p .enough, p .which, p .few))
+
+    pub block-acted :
+        (F : Field) (f : Polynomial) (q m : ℕ) {v y : List ℕ} {r : Bool}
+        → y ≡ v
+        → v ≡ cut (actStride F f q (periodic (part w (4096 * h) (4096 * h + n - 4096 * h)))) i m
+        → r ≡ allZero y
+        → BlockActed F w h n i m f q (putMid to (to + m - to) w y) r
+    block-acted F f q m {v} {y} {r} g e z =
+        record {
+          bytes =
+              put-paste w to m y (ap length all ∙ length-cut _ i m) ∙ ap (λ u. paste w to u m) all;
+          zero = z ∙ ap allZero all;
+        }
+      where
+        all : y ≡ values F w h n i m f q
+        all = g ∙ e ∙ ap (λ t. cut (actStride F f q (periodic t)) i m) lent-half

@@ -1,0 +1,366 @@
+-- Division by a monic polynomial, one coefficient of the quotient after the other.
+--
+--   Dividing F g f w i == what the loop keeps: w below i, and g times what stands in w from i on, as many
+--                       places lower as the degree of g, add up to f
+--   dividing-start, dividing-next, dividing-end == at the start, one coefficient more, at the end
+--
+-- Assumes nothing.
+use Prim.Native.Nat.{ℕ, suc, _+_, _-_, _≤_, _<_}
+use mathlib.Core.Path.{_≡_, refl, sym, ap, ap₂, subst, _∙_}
+use mathlib.Core.List.{List, [], _∷_, _++_}
+use native.Mathlib.Nat.{le-refl, sub-zero}
+use native.Mathlib.Decide.{decLt}
+use native.Mathlib.Omega.{arith}
+use lib.ListN.{length, getD, take, drop, replicate, length-replicate, List·getD-append}
+use lib.ListN.{List·getD-eq-default, length-take, length-drop, drop-of-length-le}
+use lib.Seq.{ext-getD, getD-take, getD-drop, getD-append-add, drop-cons, take-all, length-take-le}
+use lib.Seq.{paste, length-paste}
+use lib.Dec.{T}
+use borrow.Rule.Slice.PartMut.{putMid}
+use Rattle.meaning.specs.Field.{Field, areElements, negative}
+use Rattle.meaning.specs.Polynomial.{Polynomial, degree, plus, scale, times}
+use Rattle.bridge.proofs.Interpretation.{IsField, number-add-comm, number-add-assoc, number-add-zero}
+use Rattle.bridge.proofs.Interpretation.{number-zero-add, number-add-negative, number-mul-comm}
+use Rattle.bridge.proofs.Interpretation.{number-mul-zero, number-mul-negative, number-one-mul}
+use Rattle.bridge.proofs.Interpretation.{add-below, size-positive}
+use Rattle.bridge.proofs.Polynomials.{getD-below, getD-elements, elements-cons}
+use Rattle.bridge.proofs.Polynomials.{scale-elements, times-elements, length-plus, length-times}
+use Rattle.bridge.proofs.Polynomials.{monic-last, monic-length, monic-nonempty}
+use Rattle.bridge.proofs.Coefficients.{getD-sum, getD-multiple, getD-zeros}
+use Rattle.bridge.proofs.Continuations.{take-elements}
+use Rattle.arith.specs.Slices.{combined}
+use Rattle.arith.proofs.Slices.{length-combined, getD-combined, getD-paste-inside, getD-paste-before}
+use Rattle.arith.proofs.Slices.{getD-paste-after}
+use Rattle.lent.proofs.Parts.{put-paste}
+use Rattle.poly.specs.division.Division.{Divisible, Divided}
+
+-- the number at place j of a list that stands x places higher
+pub raised : ℕ → List ℕ → ℕ → ℕ
+raised x v j = getD (replicate x 0 ++ v) j 0
+
+raised-low : (x : ℕ) (v : List ℕ) (j : ℕ) → j < x → raised x v j ≡ 0
+unfolding raised
+raised-low x v j l =
+    List·getD-append (replicate x 0) v 0 j (omega (arith, length-replicate {A = ℕ} x 0)) ∙ getD-zeros x j
+
+raised-high : (x : ℕ) (v : List ℕ) (j : ℕ) → x ≤ j → raised x v j ≡ getD v (j - x) 0
+unfolding raised
+raised-high x v j l =
+    let e : j ≡ length {A = ℕ} (replicate x 0) + (j - x) = omega (arith, length-replicate {A = ℕ} x 0) in
+    ap (λ i. getD (replicate x 0 ++ v) i 0) e ∙ getD-append-add (replicate x 0) v (j - x) 0
+
+raised-suc : (x : ℕ) (v : List ℕ) (j : ℕ) → x ≤ j → getD (0 ∷ v) (j - x) 0 ≡ raised (suc x) v j
+raised-suc x v j l = elim (decLt x j) [
+  | yes a ↦
+      let b : j - x ≡ suc (j - suc x) = omega arith in
+      ap (λ n. getD (0 ∷ v) n 0) b ∙ sym (raised-high (suc x) v j (omega arith))
+  | no a ↦
+      let b : j - x ≡ 0 = omega arith in
+      ap (λ n. getD (0 ∷ v) n 0) b ∙ sym (raised-low (suc x) v j (omega arith))
+]
+
+pub record Dividing (F : Field) (g : Polynomial) (f w : List ℕ) (i : ℕ) : Type 0 where
+  pub size : length w ≡ length f
+  pub within : i ≤ length f
+  pub least : i < length f → degree g ≤ i
+  pub elements : T (areElements F w)
+  pub total : (j : ℕ)
+      → getD f j 0 ≡ (F .add) (getD (take i w) j 0) (raised (i - degree g) (times F (drop i w) g) j)
+
+-- past the end there are zeros
+take-beyond : (i : ℕ) (w : List ℕ) (j : ℕ) → i ≤ j → getD (take i w) j 0 ≡ 0
+take-beyond i w j l = List·getD-eq-default (take i w) 0 (omega (arith, length-take i w))
+
+times-none : (F : Field) (g : Polynomial) → length (times F [] g) ≡ 0
+unfolding times
+times-none F g = refl
+
+-- the numbers before place i, as many as the degree of g, are less by c·g, where c stands at i
+pub record Reduced (F : Field) (g : Polynomial) (w : List ℕ) (i : ℕ) (w′ : List ℕ) : Type 0 where
+  pub size : length w′ ≡ length w
+  pub before : (j : ℕ) → j < i - degree g → getD w′ j 0 ≡ getD w j 0
+  pub inside :
+      (j : ℕ)
+      → i - degree g ≤ j
+      → j < i
+      → getD w′ j 0
+      ≡ (F .add) (getD w j 0) ((F .mul) (negative F (getD w i 0)) (getD g (j - (i - degree g)) 0))
+  pub after : (j : ℕ) → i ≤ j → getD w′ j 0 ≡ getD w j 0
+
+module _ {F : Field} (I : IsField F) {g : Polynomial} {f : List ℕ} (d : Divisible F f g) where
+  abbrev e : ℕ
+  e = degree g
+
+  pub dividing-start : Dividing F g f f (length f)
+  unfolding times
+  dividing-start =
+      record {
+        size = refl;
+        within = omega arith;
+        least = λ l. absurd (omega arith);
+        elements = d .elements;
+        total = λ j.
+            sym
+            (ap₂ (λ v u. (F .add) (getD v j 0) (raised (length f - e) (times F u g) j))
+            (take-all (length f) f (omega arith))
+            (drop-of-length-le f (le-refl (length f)))
+            ∙ ap ((F .add) (getD f j 0)) (nothing (length f - e) j)
+            ∙ number-add-zero I (getD-below I f (d .elements) j));
+      }
+    where
+      nothing : (x j : ℕ) → raised x [] j ≡ 0
+      nothing x j = elim (decLt j x) [ yes l ↦ raised-low x [] j l | no l ↦ raised-high x [] j (omega arith) ]
+
+  -- one coefficient more of the quotient, at place i
+  module _ {w : List ℕ} {k : ℕ} (m : Dividing F g f w k) (l : e < k) where
+    abbrev i : ℕ
+    i = k - 1
+
+    abbrev c : ℕ
+    c = getD w i 0
+
+    abbrev x : ℕ
+    x = i - e
+
+    -- (a − c·b) + c·b
+    restored : (a b : ℕ) → a < F .size
+        → (F .add) ((F .add) a ((F .mul) (negative F c) b)) ((F .mul) c b) ≡ a
+    restored a b h =
+        number-add-assoc I a ((F .mul) (negative F c) b) ((F .mul) c b)
+        ∙ ap ((F .add) a)
+        (ap (λ y. (F .add) y ((F .mul) c b))
+        (number-mul-comm I (negative F c) b
+        ∙ number-mul-negative I b c
+        ∙ ap (negative F) (number-mul-comm I b c))
+        ∙ number-add-comm I (negative F ((F .mul) c b)) ((F .mul) c b)
+        ∙ number-add-negative I ((F .mul) c b))
+        ∙ number-add-zero I h
+
+    module _ {w′ : List ℕ} (s : Reduced F g w i w′) where
+      -- what stands below, with c·g added
+      lower : (j : ℕ) → x ≤ j
+          → (F .add) (getD (take i w′) j 0) ((F .mul) c (getD g (j - x) 0)) ≡ getD (take k w) j 0
+      lower j h = elim (decLt j i) [
+        | yes a ↦
+            ap (λ y. (F .add) y ((F .mul) c (getD g (j - x) 0))) (getD-take i w′ j 0 a ∙ s .inside j h a)
+            ∙ restored (getD w j 0) (getD g (j - x) 0) (getD-below I w (m .elements) j)
+            ∙ sym (getD-take k w j 0 (omega arith))
+        | no a ↦
+            ap (λ y. (F .add) y ((F .mul) c (getD g (j - x) 0))) (take-beyond i w′ j (omega arith))
+            ∙ elim (decLt j k) [
+              | yes b ↦ at-top j (omega arith) ∙ sym (getD-take k w j 0 b)
+              | no b ↦
+                  ap (λ y. (F .add) 0 ((F .mul) c y))
+                  (List·getD-eq-default g 0 (omega (arith, monic-length F g (d .monic))))
+                  ∙ ap ((F .add) 0) (number-mul-zero I c)
+                  ∙ number-zero-add I (size-positive I)
+                  ∙ sym (take-beyond k w j (omega arith))
+            ]
+      ]
+        where
+          at-top : (j : ℕ) → j ≡ i → (F .add) 0 ((F .mul) c (getD g (j - x) 0)) ≡ getD w j 0
+          at-top j t =
+              let y : j - x ≡ e = omega arith in
+              ap (λ z. (F .add) 0 ((F .mul) c z)) (ap (λ z. getD g z 0) y ∙ monic-last F g (d .monic))
+              ∙ ap ((F .add) 0) (number-mul-comm I c 1 ∙ number-one-mul I (getD-below I w (m .elements) i))
+              ∙ number-zero-add I (getD-below I w (m .elements) i)
+              ∙ ap (λ z. getD w z 0) (sym t)
+
+      -- the quotient has c before the coefficients that it had
+      quotient : drop i w′ ≡ c ∷ drop k w
+      quotient =
+          let a : i < length w′ = omega (arith, s .size, m .size, m .within) in
+          let b : suc i ≡ k = omega arith in
+          drop-cons w′ i 0 a
+          ∙ ap₂ _∷_ (s .after i (omega arith)) (ap (λ n. drop n w′) b ∙ later)
+        where
+          later : drop k w′ ≡ drop k w
+          later =
+              ext-getD 0 (drop k w′) (drop k w)
+              (omega (arith, length-drop k w′, length-drop k w, s .size))
+              (λ j h.
+              getD-drop k w′ j 0 ∙ s .after (k + j) (omega arith) ∙ sym (getD-drop k w j 0))
+
+      -- what the product with g adds at place j
+      higher : (j : ℕ) → x ≤ j
+          → raised x (times F (c ∷ drop k w) g) j
+          ≡ (F .add) ((F .mul) c (getD g (j - x) 0)) (raised (k - e) (times F (drop k w) g) j)
+      unfolding times
+      higher j h =
+          raised-high x (times F (c ∷ drop k w) g) j h
+          ∙ getD-sum I (scale F c g) (0 ∷ old) (j - x) (scale-elements I c g)
+          (elements-cons F old (size-positive I) (times-elements I (drop k w) g))
+          ∙ ap₂ (F .add) (getD-multiple I c g (j - x)) (raised-suc x old j h ∙ ap (λ n. raised n old j) above)
+        where
+          old : List ℕ
+          old = times F (drop k w) g
+
+          above : suc x ≡ k - e
+          above = omega arith
+
+      reduced-elements : T (areElements F w′)
+      reduced-elements =
+          getD-elements F w′
+          (λ j h. elim (decLt j i) [
+            | yes a ↦ elim (decLt j x) [
+              | yes b ↦ kept j (s .before j b)
+              | no b ↦ subst (λ y. y < F .size) (sym (s .inside j (omega arith) a)) (add-below I _ _)
+            ]
+            | no a ↦ kept j (s .after j (omega arith))
+          ])
+        where
+          kept : (j : ℕ) → getD w′ j 0 ≡ getD w j 0 → getD w′ j 0 < F .size
+          kept j t = subst (λ y. y < F .size) (sym t) (getD-below I w (m .elements) j)
+
+      pub dividing-next : Dividing F g f w′ i
+      dividing-next =
+          record {
+            size = s .size ∙ m .size;
+            within = omega (arith, m .within);
+            least = λ h. omega arith;
+            elements = reduced-elements;
+            total = λ j. m .total j ∙ sym (ap (sum j) quotient ∙ same j);
+          }
+        where
+          old : ℕ → ℕ
+          old j = raised (k - e) (times F (drop k w) g) j
+
+          sum : ℕ → List ℕ → ℕ
+          sum j u = (F .add) (getD (take i w′) j 0) (raised x (times F u g) j)
+
+          same : (j : ℕ) → sum j (c ∷ drop k w) ≡ (F .add) (getD (take k w) j 0) (old j)
+          same j = elim (decLt j x) [
+            | yes a ↦
+                ap₂ (F .add)
+                (getD-take i w′ j 0 (omega arith) ∙ s .before j a ∙ sym (getD-take k w j 0 (omega arith)))
+                (raised-low x (times F (c ∷ drop k w) g) j a
+                ∙ sym (raised-low (k - e) (times F (drop k w) g) j (omega arith)))
+            | no a ↦
+                ap ((F .add) (getD (take i w′) j 0)) (higher j (omega arith))
+                ∙ sym (number-add-assoc I (getD (take i w′) j 0) ((F .mul) c (getD g (j - x) 0)) (old j))
+                ∙ ap (λ y. (F .add) y (old j)) (lower j (omega arith))
+          ]
+
+  -- the length of the sum of a remainder and a product with g
+  length-sum : (w : List ℕ) → length (plus F (take e w) (times F (drop e w) g)) ≡ length w
+  length-sum w =
+      length-plus I (take e w) (times F (drop e w) g) ∙ elim (decLt e (length w)) [
+        | yes h ↦
+            omega (
+              arith,
+              length-take e w,
+              length-drop e w,
+              length-times I (drop e w) g (omega (arith, length-drop e w)) (monic-nonempty F g (d .monic)),
+              monic-length F g (d .monic),
+            )
+        | no h ↦
+            omega (
+              arith,
+              length-take e w,
+              ap (λ u. length (times F u g)) (drop-of-length-le w {i = e} (omega arith)) ∙ times-none F g,
+            )
+      ]
+
+  pub dividing-end : {w : List ℕ} {i : ℕ} → Dividing F g f w i → i ≤ e → Divided F g f w
+  dividing-end {w} {i} m l =
+      record {
+        size = m .size;
+        elements = m .elements;
+        equation =
+            ext-getD 0 f (plus F (take e w) (times F (drop e w) g)) (sym (length-sum w ∙ m .size))
+            (λ j h.
+            m .total j
+            ∙ ap₂ (F .add) (ap (λ v. getD v j 0) front) (high j)
+            ∙ sym
+            (getD-sum I (take e w) (times F (drop e w) g) j (take-elements F e w (m .elements))
+            (times-elements I (drop e w) g)));
+      }
+    where
+      -- i is the degree of g, or past the end
+      front : take i w ≡ take e w
+      front = elim (decLt i (length f)) [
+        | yes h ↦ let t : i ≡ e = omega (arith, m .least h) in ap (λ n. take n w) t
+        | no h ↦ take-all i w (omega (arith, m .size)) ∙ sym (take-all e w (omega (arith, m .size)))
+      ]
+
+      back : drop i w ≡ drop e w
+      back = elim (decLt i (length f)) [
+        | yes h ↦ let t : i ≡ e = omega (arith, m .least h) in ap (λ n. drop n w) t
+        | no h ↦
+            drop-of-length-le w {i = i} (omega (arith, m .size))
+            ∙ sym (drop-of-length-le w {i = e} (omega (arith, m .size)))
+      ]
+
+      high : (j : ℕ) → raised (i - e) (times F (drop i w) g) j ≡ getD (times F (drop e w) g) j 0
+      high j =
+          let t : i - e ≡ 0 = omega arith in
+          ap₂ (λ n u. raised n (times F u g) j) t back ∙ raised-high 0 (times F (drop e w) g) j (omega arith)
+          ∙ ap (λ n. getD (times F (drop e w) g) n 0) (sub-zero j)
+
+-- the part that comes back from the update
+module _ (F : Field) (g : Polynomial) (some : 0 < length g) (w : List ℕ) (i : ℕ) (l : length g - 1 ≤ i)
+    (h : i < length w) where
+  abbrev n : ℕ
+  n = length g - 1
+
+  abbrev y : ℕ
+  y = i - n
+
+  abbrev lent : List ℕ
+  lent = take (i - y) (drop y w)
+
+  abbrev factor : List ℕ
+  factor = take (n - 0) g
+
+  length-lent : length lent ≡ n
+  length-lent = length-take-le (i - y) (drop y w) (omega (arith, length-drop y w)) ∙ omega arith
+
+  length-factor : length factor ≡ n
+  length-factor = length-take-le (n - 0) g (omega arith) ∙ omega arith
+
+  pub lent-length : length factor ≤ length lent
+  lent-length = omega (arith, length-factor, length-lent)
+
+  module _ {ys : List ℕ} {v : ℕ} (q : v ≡ negative F (getD w i 0)) (e : ys ≡ combined F lent v factor) where
+    length-ys : length ys ≡ n
+    length-ys =
+        ap length e
+        ∙ length-combined F lent v factor lent-length
+        ∙ length-lent
+
+    pasted : putMid y (i - y) w ys ≡ paste w y ys n
+    pasted =
+        let t : i ≡ y + n = omega arith in
+        ap (λ k. putMid y (k - y) w ys) t ∙ put-paste w y n ys length-ys
+
+    updated : (j : ℕ) → j < n
+        → getD ys j 0 ≡ (F .add) (getD w (y + j) 0) ((F .mul) (negative F (getD w i 0)) (getD g j 0))
+    updated j b =
+        ap (λ u. getD u j 0) e
+        ∙ getD-combined F lent v factor j
+        (omega (arith, length-lent))
+        (omega (arith, length-factor))
+        ∙ ap₂ (λ a k. (F .add) a ((F .mul) k (getD factor j 0)))
+        (getD-take (i - y) (drop y w) j 0 (omega arith) ∙ getD-drop y w j 0) q
+        ∙ ap (λ k. (F .add) (getD w (y + j) 0) ((F .mul) (negative F (getD w i 0)) k))
+        (getD-take (n - 0) g j 0 (omega arith))
+
+    pub reduced-put : Reduced F g w i (putMid y (i - y) w ys)
+    unfolding degree
+    reduced-put =
+        subst (Reduced F g w i) (sym pasted)
+        (record {
+          size = length-paste w y ys n (omega arith) (omega (arith, length-ys));
+          before = getD-paste-before w y ys n (omega arith) (omega (arith, length-ys));
+          inside =
+              λ j a b.
+              let t : j ≡ y + (j - y) = omega arith in
+              ap (λ k. getD (paste w y ys n) k 0) t
+              ∙ getD-paste-inside w y ys n (omega arith) (omega (arith, length-ys)) (j - y) (omega arith)
+              ∙ updated (j - y) (omega arith)
+              ∙ ap
+              (λ k. (F .add) (getD w k 0) ((F .mul) (negative F (getD w i 0)) (getD g (j - y) 0)))
+              (sym t);
+          after = λ j a.
+              getD-paste-after w y ys n (omega arith) (omega (arith, length-ys)) j (omega arith);
+        })

@@ -1,0 +1,4 @@
+pub mod convolution
+pub mod products
+pub mod raising
+pub mod division

@@ -1,0 +1,3 @@
+pub mod levels
+pub mod digit_search
+pub mod product

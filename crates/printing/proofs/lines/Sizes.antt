@@ -1,0 +1,267 @@
+-- A rated file has as many coefficients as its degree and one more.
+--
+--   Whole a     == the result a has so many
+--   period-size, set-size, free-size == the answers of the ways have
+--   file-size   == the answer for a file has
+-- Assumes nothing.
+use Prim.Native.Nat.{ℕ, zero, suc, _<_, _≤_}
+use native.Mathlib.Omega.{arith}
+use mathlib.Core.Path.{_≡_, refl, sym, ap, subst, _∙_}
+use mathlib.Core.Bool.{Bool, true, false, not, true≢false}
+use mathlib.Core.List.{List, [], _∷_, map}
+use mathlib.Core.Option.{Option, none, some}
+use lib.Dec.{eqb, eqb→eq}
+use lib.ListN.{length, getD, take, length-append, length-map}
+use Rattle.meaning.specs.Field.{prime}
+use Rattle.meaning.specs.Polynomial.{Polynomial, power, product}
+use Rattle.meaning.specs.Result.{Result, refused, answered, Rated, mapResult}
+use Rattle.meaning.specs.Conditions.{named}
+use Rattle.meaning.specs.Power.{PowerFigures, powerRating, repeatBound}
+use Rattle.meaning.specs.Period.{periodPower, periodTable, periodAnswer}
+use Rattle.meaning.specs.Portion.{SetFigures, factorsOf, setPowers, setRating, setTable, setAnswer}
+use Rattle.meaning.specs.Free.{Choice, FreeFigures, Fits, isUnique, freeTable, rateFree, leastDegree}
+use Rattle.meaning.specs.Free.{ChosenFits}
+use Rattle.meaning.specs.Route.{RouteRecord, Mode, periodMode, setMode, freeMode, modeOf, byteOf, bodies}
+use Rattle.meaning.specs.Route.{suits, modeUnsuited, records, factorUpper}
+use Rattle.meaning.specs.File.{WrittenFactor, fileFactor, polynomialOf, termsOf, powers, FileFigures}
+use Rattle.meaning.specs.File.{fileAnswer, ofPeriod, ofSet, ofFree, freeLabel, rateMode, rateRecords}
+use Rattle.meaning.specs.File.{rateFile, FileChosenFits}
+use Rattle.meaning.proofs.Tables.{NoneHolds}
+use Rattle.bridge.proofs.Searches.{settle-answered, map-answered, some-bind, some-mapOption, not-false}
+use Rattle.bridge.proofs.Searches.{T-and}
+use Rattle.bridge.proofs.Interpretation.{inRange-isField}
+use Rattle.bridge.proofs.Polynomials.{degree-length, monic-nonempty}
+use Rattle.bridge.proofs.Products.{power-nonempty, product-nonempty, Nonempties, factorsOf-named}
+use Rattle.bridge.proofs.Products.{factorAt-factorsOf, length-factorsOf, length-named}
+use Rattle.bridge.proofs.Fitting.{free-rated, free-answer, leastDegree-least}
+use Rattle.bridge.proofs.Accepted.{prime-accepted}
+use Rattle.route.proofs.framing.Records.{records-suited}
+
+abbrev pub Whole : Rated FileFigures → Type 0
+Whole a = length (a .polynomial) ≡ suc (a .figures .degree)
+
+pub never : {A : Type 0} {B : Type 0} {n : ℕ} {a : A} → refused n ≡ answered a → B
+never {n = n} {a} e = absurd (let z : _≡_ {A = ℕ} 0 1 = cc in omega arith)
+
+-- THE POLYNOMIALS OF A FILE ARE NOT EMPTY
+polynomial-nonempty : (f : WrittenFactor) → 0 < length (polynomialOf f)
+unfolding polynomialOf
+polynomial-nonempty f = omega (arith, length-append (take (f .degree) (f .coefficients)) (1 ∷ []))
+
+first-nonempty : (fs : List WrittenFactor) → 1 ≤ length fs → 0 < length (getD (map polynomialOf fs) 0 [])
+first-nonempty [] l = absurd (omega arith)
+first-nonempty (f ∷ fs) l = polynomial-nonempty f
+
+-- THE WAYS
+period-size :
+    (p : ℕ) (ten eleven : Bool) (f : Polynomial) (ts : List ℕ) (answer work : ℕ)
+    → 0 < length f
+    → {b : Rated PowerFigures}
+    → periodAnswer p ten eleven f ts answer work ≡ answered b
+    → length (b .polynomial) ≡ suc (b .figures .degree)
+unfolding periodAnswer periodTable powerRating
+period-size p ten eleven f ts answer work l e =
+    let (h, v) = settle-answered _ (periodTable p ten eleven f ts answer work) e in
+    let (r, _, u) = some-bind (periodPower (prime p) f ts) (powerRating (prime p) f) v in
+    let (_, _, q) = some-mapOption _ (repeatBound (prime p) f r) u in
+    let I = inRange-isField p (prime-accepted p (h .0)) in
+    subst (λ b. length (b .polynomial) ≡ suc (b .figures .degree)) q
+    (degree-length (power (prime p) f r) (power-nonempty I f r l))
+
+set-size :
+    (p : ℕ) (ten eleven : Bool) (l : List (Polynomial × ℕ)) (ts : List ℕ) (answer work : ℕ)
+    → Nonempties l
+    → {b : Rated SetFigures}
+    → setAnswer p ten eleven l ts answer work ≡ answered b
+    → length (b .polynomial) ≡ suc (b .figures .degree)
+unfolding setAnswer setTable setRating
+set-size p ten eleven l ts answer work n e =
+    let (h, v) = settle-answered _ (setTable p ten eleven l ts answer work) e in
+    let (rs, _, q) = some-mapOption _ (setPowers (prime p) l ts) v in
+    let I = inRange-isField p (prime-accepted p (h .0)) in
+    subst (λ b. length (b .polynomial) ≡ suc (b .figures .degree)) q
+    (degree-length (product (prime p) (named (factorsOf l) rs))
+    (product-nonempty I (named (factorsOf l) rs) (named-nonempty rs)))
+  where
+    named-nonempty : (rs : List ℕ) → Nonempties (named (factorsOf l) rs)
+    named-nonempty rs i k =
+        subst (λ f. 0 < length f)
+        (sym (factorAt-factorsOf l i)
+        ∙ ap (λ fs. getD fs i []) (sym (factorsOf-named (factorsOf l) rs))
+        ∙ factorAt-factorsOf (named (factorsOf l) rs) i)
+        (n i (omega (arith, length-named (factorsOf l) rs, length-factorsOf l)))
+
+fits-size : (p : ℕ) {ts : List ℕ} {L : ℕ} {g : Polynomial} → Fits (prime p) ts L g → length g ≡ suc L
+fits-size p {g = g} x = degree-length g (monic-nonempty (prime p) g (x .monic)) ∙ ap suc (x .ofDegree)
+
+-- the polynomial of the free way fits: under `one` it is the only one, under `some` it is the choice
+free-size :
+    (pick : Choice) (p : ℕ) (ts : List ℕ) (answer work : ℕ)
+    → ChosenFits pick p ts
+    → {b : Rated FreeFigures}
+    → rateFree pick p ts answer work ≡ answered b
+    → length (b .polynomial) ≡ suc (b .figures .degree)
+unfolding freeTable
+free-size pick p ts answer work chosen {b} e =
+    let (h, l, _) = free-rated p ts answer work pick e in
+    go h l (isUnique ts (b .figures .degree)) refl
+  where
+    L : ℕ
+    L = b .figures .degree
+
+    by-fitting :
+        (g : Polynomial)
+        → NoneHolds (freeTable p ts answer work)
+        → leastDegree (prime p) ts ≡ some L
+        → Fits (prime p) ts L g
+        → (isUnique ts L ≡ false → pick p ts ≡ g)
+        → length (b .polynomial) ≡ suc L
+    by-fitting g h l x c =
+        let q = sym e ∙ free-answer p ts answer work pick h l x c in
+        let s : b .polynomial ≡ g = cc in
+        ap length s ∙ fits-size p x
+
+    go :
+        NoneHolds (freeTable p ts answer work)
+        → leastDegree (prime p) ts ≡ some L
+        → (u : Bool)
+        → isUnique ts L ≡ u
+        → length (b .polynomial) ≡ suc L
+    go h l true u =
+        let least = leastDegree-least (inRange-isField p (prime-accepted p (h .0))) l in
+        by-fitting (least .fitting) h l (least .fits) (λ z. absurd (true≢false (sym u ∙ z)))
+    go h l false u =
+        by-fitting (pick p ts) h l (chosen (h .0) (h .1 .0) (h .1 .1 .0) L l u) (λ _. refl)
+
+-- THE MODES
+period-map :
+    (m : ℕ) (x : Result (Rated PowerFigures))
+    → ofPeriod m x
+    ≡ mapResult (λ b. fileAnswer (b .figures .degree) m (powers (b .figures .power ∷ [])) (b .polynomial)) x
+unfolding ofPeriod mapResult
+period-map m (refused n) = refl
+period-map m (answered b) = refl
+
+set-map :
+    (m : ℕ) (x : Result (Rated SetFigures))
+    → ofSet m x
+    ≡ mapResult (λ b. fileAnswer (b .figures .degree) m (powers (b .figures .powers)) (b .polynomial)) x
+unfolding ofSet mapResult
+set-map m (refused n) = refl
+set-map m (answered b) = refl
+
+free-map :
+    (m : ℕ) (x : Result (Rated FreeFigures))
+    → ofFree m x
+    ≡ mapResult (λ b. fileAnswer (b .figures .degree) m (freeLabel (b .figures .unique)) (b .polynomial)) x
+unfolding ofFree mapResult
+free-map m (refused n) = refl
+free-map m (answered b) = refl
+
+-- the figures keep the degree, and the polynomial stays
+whole-of :
+    {A : Type 0} (f : A → Rated FileFigures) (x : Result A) {y : Result (Rated FileFigures)}
+    {a : Rated FileFigures}
+    → y ≡ mapResult f x
+    → ((b : A) → x ≡ answered b → Whole (f b))
+    → y ≡ answered a
+    → Whole a
+whole-of f x s h e = let (b, q, v) = map-answered f x (sym s ∙ e) in subst Whole v (h b q)
+
+-- the pairs of a file's factors and their upper powers
+pairs-nonempty : (fs : List WrittenFactor) → Nonempties (map (λ f. (polynomialOf f, f .upper)) fs)
+pairs-nonempty [] i l = absurd (omega arith)
+pairs-nonempty (f ∷ fs) zero l = polynomial-nonempty f
+pairs-nonempty (f ∷ fs) (suc i) l = pairs-nonempty fs i (omega arith)
+
+mode-size :
+    (pick : Choice) (m : Mode) (p : ℕ) (fs : List WrittenFactor) (ts : List ℕ) (answer work : ℕ)
+    → (m ≡ periodMode → 1 ≤ length fs)
+    → (m ≡ freeMode → ChosenFits pick p ts)
+    → {a : Rated FileFigures}
+    → rateMode pick m p fs ts answer work ≡ answered a
+    → Whole a
+unfolding rateMode fileAnswer
+mode-size pick periodMode p fs ts answer work one chosen e =
+    whole-of _ _ (period-map (length ts) _)
+    (λ b q.
+    period-size p _ _ (getD (map polynomialOf fs) 0 []) ts answer work (first-nonempty fs (one refl)) q)
+    e
+mode-size pick setMode p fs ts answer work one chosen e =
+    whole-of _ _ (set-map (length ts) _)
+    (λ b q. set-size p _ _ (map (λ f. (polynomialOf f, f .upper)) fs) ts answer work (pairs-nonempty fs) q)
+    e
+mode-size pick freeMode p fs ts answer work one chosen e =
+    whole-of _ _ (free-map (length ts) _) (λ b q. free-size pick p ts answer work (chosen refl) q) e
+
+-- THE FILE
+-- an accepted file in the period mode has a factor
+period-factor :
+    (rs : List RouteRecord)
+    → modeOf (byteOf 3 rs) ≡ some periodMode
+    → modeUnsuited rs ≡ false
+    → 1 ≤ length (bodies 4 rs)
+unfolding modeUnsuited suits
+period-factor rs m u =
+    let s : modeUnsuited rs ≡ not (suits periodMode (bodies 4 rs)) = rw (m, modeUnsuited) in
+    let t = not-false (suits periodMode (bodies 4 rs)) (sym s ∙ u) in
+    let one = T-and (eqb (length (bodies 4 rs)) 1) (eqb (factorUpper (getD (bodies 4 rs) 0 [])) 0) t .0 in
+    omega (arith, eqb→eq (length (bodies 4 rs)) 1 one)
+
+-- what the records of a rated file hold
+known-mode :
+    (pick : Choice) (rs : List RouteRecord) (answer work : ℕ) {m : Mode}
+    → modeOf (byteOf 3 rs) ≡ some m
+    → rateRecords pick rs answer work
+    ≡ rateMode pick m (byteOf 2 rs) (map fileFactor (bodies 4 rs)) (termsOf rs) answer work
+unfolding rateRecords
+known-mode pick rs answer work e = rw (e, rateRecords)
+
+unknown-mode :
+    (pick : Choice) (rs : List RouteRecord) (answer work : ℕ)
+    → modeOf (byteOf 3 rs) ≡ none
+    → rateRecords pick rs answer work ≡ refused 5
+unfolding rateRecords
+unknown-mode pick rs answer work e = rw (e, rateRecords)
+
+accepted-file :
+    (pick : Choice) (file : List ℕ) (answer work : ℕ) {rs : List RouteRecord}
+    → records file ≡ answered rs
+    → rateFile pick file answer work ≡ rateRecords pick rs answer work
+unfolding rateFile
+accepted-file pick file answer work e = rw (e, rateFile)
+
+refused-file :
+    (pick : Choice) (file : List ℕ) (answer work : ℕ) {n : ℕ}
+    → records file ≡ refused n
+    → rateFile pick file answer work ≡ refused n
+unfolding rateFile
+refused-file pick file answer work e = rw (e, rateFile)
+
+pub file-size :
+    (pick : Choice) (file : List ℕ) (answer work : ℕ)
+    → FileChosenFits pick file
+    → {a : Rated FileFigures}
+    → rateFile pick file answer work ≡ answered a
+    → length (a .polynomial) ≡ suc (a .figures .degree)
+file-size pick file answer work chosen {a} e = by-records (records file) refl
+  where
+    by-mode :
+        (rs : List RouteRecord)
+        → records file ≡ answered rs
+        → (o : Option Mode)
+        → modeOf (byteOf 3 rs) ≡ o
+        → Whole a
+    by-mode rs r none u =
+        never (sym (accepted-file pick file answer work r ∙ unknown-mode pick rs answer work u) ∙ e)
+    by-mode rs r (some m) u =
+        mode-size pick m (byteOf 2 rs) (map fileFactor (bodies 4 rs)) (termsOf rs) answer work
+        (λ s.
+        let one = period-factor rs (u ∙ ap some s) (records-suited file r) in
+        omega (arith, one, length-map (bodies 4 rs) fileFactor))
+        (λ s. chosen rs r (u ∙ ap some s))
+        (sym (accepted-file pick file answer work r ∙ known-mode pick rs answer work u) ∙ e)
+
+    by-records : (x : Result (List RouteRecord)) → records file ≡ x → Whole a
+    by-records (refused n) r = never (sym (refused-file pick file answer work r) ∙ e)
+    by-records (answered rs) r = by-mode rs r (modeOf (byteOf 3 rs)) refl

@@ -1,0 +1,4 @@
+pub mod words
+pub mod result_line
+pub mod poly_line
+pub mod lines

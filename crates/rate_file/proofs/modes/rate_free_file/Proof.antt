@@ -1,0 +1,25 @@
+-- `modes::rate_free_file` meets its contract.
+-- Assumes nothing.
+use borrow.Author.Needs.{needs}
+use Rattle.rate_file.proofs.modes.Calls.{free-rated}
+use Rattle.rate_file.proofs.modes.rate_free_file.Statement.{statement}
+use Rattle.rate_file.proofs.modes.rate_free_file.Tie as tie
+
+rate-free-requires : tie.Need-rate-free-requires
+rate-free-requires c κs = search needs
+
+of-free-requires : tie.Need-of-free-requires
+of-free-requires c κs = search needs
+
+same-length : tie.Need-same-length
+same-length c = search needs
+
+same-length-2 : tie.Need-same-length-2
+same-length-2 c = search needs
+
+returns : tie.Need-returns
+returns c = free-rated _ (c .before .before .before .before .before .rate-free .ensures) (c .of-free .ensures)
+
+pub rate-free-file-spec : {M : Type 1} → statement M
+rate-free-file-spec =
+    tie.close (tie.spec rate-free-requires of-free-requires same-length same-length-2 returns)

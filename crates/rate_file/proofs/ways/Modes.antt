@@ -1,0 +1,173 @@
+-- The rating by each mode, from the verdict on the terms (6, 7, 8) and that on the factors as the file writes
+-- them (10, 11): refused by the first that refuses, else the answer of the mode's way on the polynomials.
+--
+--   mode-terms       == the terms are refused, in any mode
+--   period-factors, set-factors == the terms are accepted and the factors refused
+--   period-way, set-way == both are accepted
+-- Assumes nothing.
+use Prim.Native.Nat.{ℕ, _≤_, _<_}
+use native.Mathlib.Omega.{arith}
+use mathlib.Core.Path.{_≡_, refl, sym, ap, _∙_}
+use mathlib.Core.Bool.{Bool, false, not}
+use mathlib.Core.List.{List, [], _∷_, _++_, map}
+use lib.ListN.{length, getD, length-map}
+use borrow.Author.Tests.{ne-eqb, le-ltb}
+use Rattle.meaning.specs.declared.Refusal.{Refusal}
+use Rattle.meaning.specs.Search.{holdsForSome, isNone}
+use Rattle.meaning.specs.Field.{prime}
+use Rattle.meaning.specs.Polynomial.{Polynomial, product}
+use Rattle.meaning.specs.Sequence.{annihilatesKnown}
+use Rattle.meaning.specs.Conditions.{named, totalDegree, factorCountOutOfRange, isReducible, twoEqual}
+use Rattle.meaning.specs.Conditions.{upperPowersOutOfRange, fewerTermsThan, lentTooShort}
+use Rattle.meaning.specs.Conditions.{factorDegreeOutOfRange, notMonic}
+use Rattle.meaning.specs.Result.{refused, Check, firstOf}
+use Rattle.meaning.specs.Period.{periodTable, periodPower, periodAnswer, ratePeriod}
+use Rattle.meaning.specs.Portion.{factorsOf, setTable, setAnswer, rateSet}
+use Rattle.meaning.specs.Free.{Choice, freeTable, rateFree}
+use Rattle.meaning.specs.Route.{Mode, periodMode, setMode, freeMode}
+use Rattle.meaning.specs.File.{WrittenFactor, polynomialOf, fileDegreeOutOfRange, fileNotMonic}
+use Rattle.meaning.specs.File.{ofPeriod, ofSet, ofFree, rateMode}
+use Rattle.meaning.specs.Answers.{numberOf}
+use Rattle.bridge.proofs.Accepted.{prime-accepted}
+use Rattle.bridge.proofs.Interpretation.{IsField, inRange-isField}
+use Rattle.bridge.proofs.Searches.{none-at}
+use Rattle.refusals.specs.declared.Verdict.{Verdict}
+use Rattle.refusals.specs.Verdicts.{numberIn, termsTable}
+use Rattle.refusals.proofs.Order.{first-skip, refused-before, refused-second}
+use Rattle.refusals.proofs.Settled.{settle-refused, accepted-holds}
+use Rattle.rate_file.specs.factors.Written.{writtenTable}
+use Rattle.rate_file.proofs.factors.Polynomials.{AllWhole, polynomials-ten, polynomials-eleven}
+
+named-map : {A : Type 0} (g : A → Polynomial) (h : A → ℕ) (l : List A)
+    → named (map g l) (map h l) ≡ map (λ a. (g a, h a)) l
+unfolding named
+named-map g h [] = refl
+named-map g h (a ∷ l) = ap (λ (m : List (Polynomial × ℕ)). (g a, h a) ∷ m) (named-map g h l)
+
+count-passes : (n : ℕ) → 1 ≤ n → n ≤ 8 → factorCountOutOfRange n ≡ false
+unfolding factorCountOutOfRange
+count-passes n l u = rw (ne-eqb n 0 (λ e. omega arith), le-ltb 8 n u)
+
+module _ (p : ℕ) (fs : List WrittenFactor) (ts : List ℕ) (answer work : ℕ) where
+  abbrev first : Polynomial
+  first = getD (map polynomialOf fs) 0 []
+
+  abbrev pairs : List (Polynomial × ℕ)
+  pairs = map (λ f. (polynomialOf f, f .upper)) fs
+
+  abbrev ten : Bool
+  ten = holdsForSome (fileDegreeOutOfRange (prime p)) fs
+
+  abbrev eleven : Bool
+  eleven = holdsForSome (fileNotMonic (prime p)) fs
+
+  -- the tables by their parts: 6, 7, 8; 9, 10 and 11; the others
+  periodRest : List Check
+  periodRest =
+      (12, λ _. isReducible p first)
+      ∷ (16, λ _. lentTooShort answer work)
+      ∷ (17, λ _. isNone (periodPower (prime p) first ts))
+      ∷ []
+
+  period-parts : periodTable p ten eleven first ts answer work
+      ≡ termsTable p ts ++ (writtenTable p fs ++ periodRest)
+  unfolding periodTable termsTable writtenTable periodRest
+  period-parts = refl
+
+  setRest : List Check
+  setRest =
+      (12, λ _. holdsForSome (isReducible p) (factorsOf pairs))
+      ∷ (13, λ _. twoEqual (factorsOf pairs))
+      ∷ (14, λ _. upperPowersOutOfRange pairs)
+      ∷ (15, λ _. fewerTermsThan (totalDegree pairs) ts)
+      ∷ (16, λ _. lentTooShort answer work)
+      ∷ (17, λ _. not (annihilatesKnown (prime p) (product (prime p) pairs) ts))
+      ∷ []
+
+  counted : List Check
+  counted = (9, λ _. factorCountOutOfRange (length pairs)) ∷ writtenTable p fs
+
+  set-parts : setTable p ten eleven pairs ts answer work ≡ termsTable p ts ++ (counted ++ setRest)
+  unfolding setTable termsTable writtenTable counted setRest
+  set-parts = refl
+
+  free-parts : freeTable p ts answer work ≡ termsTable p ts ++ ((16, λ _. lentTooShort answer work) ∷ [])
+  unfolding freeTable termsTable
+  free-parts = refl
+
+  counted-skip : 1 ≤ length fs → length fs ≤ 8 → firstOf counted ≡ firstOf (writtenTable p fs)
+  unfolding counted
+  counted-skip low high = first-skip _ _ refl (rw length-map (count-passes (length fs) low high))
+
+  -- u is the verdict on the terms
+  module _ {u : Verdict} (eu : numberIn u ≡ firstOf (termsTable p ts)) where
+    early : {x : Refusal} (T B : List Check) → T ≡ termsTable p ts ++ B → u ≡ Verdict.Refused x
+        → numberIn (Verdict.Refused x) ≡ firstOf T
+    early T B e q = refused-before (termsTable p ts) B eu q ∙ sym (ap firstOf e)
+
+    pub mode-terms : (pick : Choice) (m : Mode) {x : Refusal} → u ≡ Verdict.Refused x
+        → rateMode pick m p fs ts answer work ≡ refused (numberOf x)
+    unfolding rateMode periodAnswer setAnswer rateFree ofPeriod ofSet ofFree
+    mode-terms pick periodMode q =
+        ap (ofPeriod (length ts)) (settle-refused _ _ (early _ _ period-parts q) refl)
+    mode-terms pick setMode q = ap (ofSet (length ts)) (settle-refused _ _ (early _ _ set-parts q) refl)
+    mode-terms pick freeMode q = ap (ofFree (length ts)) (settle-refused _ _ (early _ _ free-parts q) refl)
+
+    module _ (accepted : u ≡ Verdict.Accepted) where
+      fieldExists : IsField (prime p)
+      unfolding termsTable
+      fieldExists = inRange-isField p (prime-accepted p (accepted-holds (termsTable p ts) eu accepted .0))
+
+      -- the terms are accepted, and v is the verdict on the factors
+      module _ {v : Verdict} (ev : numberIn v ≡ firstOf (writtenTable p fs)) where
+        pub period-factors : (pick : Choice) {x : Refusal} → v ≡ Verdict.Refused x
+            → rateMode pick periodMode p fs ts answer work ≡ refused (numberOf x)
+        unfolding rateMode periodAnswer ofPeriod
+        period-factors pick q =
+            ap (ofPeriod (length ts))
+            (settle-refused _ _
+            (refused-second (termsTable p ts) (writtenTable p fs) periodRest eu ev accepted q
+            ∙ sym (ap firstOf period-parts))
+            refl)
+
+        pub set-factors : (pick : Choice) {x : Refusal} → 1 ≤ length fs → length fs ≤ 8
+            → v ≡ Verdict.Refused x
+            → rateMode pick setMode p fs ts answer work ≡ refused (numberOf x)
+        unfolding rateMode setAnswer ofSet
+        set-factors pick low high q =
+            ap (ofSet (length ts))
+            (settle-refused _ _
+            (refused-second (termsTable p ts) counted setRest eu (ev ∙ sym (counted-skip low high)) accepted q
+            ∙ sym (ap firstOf set-parts))
+            refl)
+
+        -- the factors are accepted too
+        module _ (q : v ≡ Verdict.Accepted) (whole : AllWhole fs) where
+          passed : (ten ≡ false) × (eleven ≡ false)
+          unfolding writtenTable
+          passed = let h = accepted-holds (writtenTable p fs) ev q in (h .0, h .1 .0)
+
+          list-ten : holdsForSome (factorDegreeOutOfRange (prime p)) (map polynomialOf fs) ≡ false
+          list-ten = polynomials-ten (prime p) fs whole (passed .0)
+
+          list-eleven : holdsForSome (notMonic (prime p)) (map polynomialOf fs) ≡ false
+          list-eleven = polynomials-eleven (prime p) fieldExists fs whole (passed .0) (passed .1)
+
+          pub period-way : (pick : Choice) → 1 ≤ length fs
+              → rateMode pick periodMode p fs ts answer work
+              ≡ ofPeriod (length ts) (ratePeriod p first ts answer work)
+          unfolding rateMode ratePeriod
+          period-way pick low =
+              let n : 0 < length (map polynomialOf fs) = rw length-map low in
+              rw (
+                passed .0,
+                passed .1,
+                none-at (factorDegreeOutOfRange (prime p)) [] (map polynomialOf fs) 0 list-ten n,
+                none-at (notMonic (prime p)) [] (map polynomialOf fs) 0 list-eleven n,
+              )
+
+          pub set-way : (pick : Choice)
+              → rateMode pick setMode p fs ts answer work
+              ≡ ofSet (length ts) (rateSet p (map polynomialOf fs) (map (λ f. f .upper) fs) ts answer work)
+          unfolding rateMode rateSet
+          set-way pick = rw (passed .0, passed .1, list-ten, list-eleven, named-map)

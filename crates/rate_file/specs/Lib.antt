@@ -1,0 +1,3 @@
+pub mod factors
+pub mod telling
+pub mod ways

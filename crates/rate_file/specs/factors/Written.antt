@@ -1,0 +1,40 @@
+-- What the contracts of a file's factors cite.
+--
+--   factorsIn file     == the factors of the file, as it writes them, in order
+--   polynomialsIn file == their polynomials
+--   noFactor           == what a place beyond the last factor reads as
+--   writtenTable p fs  == the refusals 10 and 11 of factors as a file writes them
+--   Packed gs count to ns to′ == the first `count` numbers of ns are the lengths of the polynomials gs, and
+--                        the lent bytes `to` are left with their coefficients stored one after another from
+--                        their front on
+use Prim.Native.Nat.{ℕ}
+use mathlib.Core.Path.{_≡_}
+use mathlib.Core.List.{List, [], _∷_, map, flatten}
+use lib.ListN.{length, take}
+use lib.Seq.{sets}
+use Rattle.meaning.specs.Search.{holdsForSome}
+use Rattle.meaning.specs.Field.{prime}
+use Rattle.meaning.specs.Polynomial.{Polynomial}
+use Rattle.meaning.specs.Result.{Check}
+use Rattle.meaning.specs.Route.{bodies}
+use Rattle.meaning.specs.File.{WrittenFactor, fileFactor, polynomialOf, fileDegreeOutOfRange, fileNotMonic}
+use Rattle.route.specs.framing.Framing.{recordsFrom}
+
+unfoldable pub factorsIn : List ℕ → List WrittenFactor
+factorsIn file = map fileFactor (bodies 4 (recordsFrom file 0))
+
+abbrev pub polynomialsIn : List ℕ → List Polynomial
+polynomialsIn file = map polynomialOf (factorsIn file)
+
+unfoldable pub noFactor : WrittenFactor
+noFactor = fileFactor []
+
+unfoldable pub writtenTable : ℕ → List WrittenFactor → List Check
+writtenTable p fs =
+    (10, λ _. holdsForSome (fileDegreeOutOfRange (prime p)) fs)
+    ∷ (11, λ _. holdsForSome (fileNotMonic (prime p)) fs)
+    ∷ []
+
+pub record Packed (gs : List Polynomial) (count : ℕ) (to ns to′ : List ℕ) : Type 0 where
+  pub lengths : take count ns ≡ map length gs
+  pub bytes : to′ ≡ sets to 0 (flatten gs)

@@ -1,0 +1,3 @@
+pub mod framing
+pub mod contents
+pub mod walk
