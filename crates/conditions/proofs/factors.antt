@@ -1,4 +1,2 @@
 pub mod Scan
-pub mod Contents
-pub mod Capped
 pub mod Uppers

@@ -1,2 +1,1 @@
 pub mod lists
-pub mod factors

@@ -4,20 +4,21 @@
 use crate::lists::factor_degree_out_of_range;
 use crate::lists::not_monic;
 use poly::equality::same;
+use poly::factors::total_degree;
+use poly::factors::upper_at;
 ghost use mathlib.Core.Path.{_≡_};
-ghost use Prim.Native.Nat.{_*_, min};
 ghost use lib.Dec.{eqb};
-ghost use lib.ListN.{getD, drop};
+ghost use lib.ListN.{drop};
 ghost use Rattle.meaning.specs.Search.{holdsForSome};
 ghost use Rattle.meaning.specs.Field.{prime};
-ghost use Rattle.meaning.specs.Polynomial.{same, degree};
-ghost use Rattle.meaning.specs.Conditions.{named, totalDegree, factorDegreeOutOfRange, notMonic};
+ghost use Rattle.meaning.specs.Polynomial.{same};
+ghost use Rattle.meaning.specs.Conditions.{named, factorDegreeOutOfRange, notMonic};
 ghost use Rattle.meaning.specs.Conditions.{twoEqual, upperPowersOutOfRange};
-ghost use Rattle.conditions.specs.factors.Contents.{contents};
+ghost use Rattle.meaning.specs.Slices.{listsOf};
 
 // 10: a factor's degree is out of range.
 pub fn some_degree_out_of_range(p: u64, factors: &[&[u8]]) -> bool
-    ensures { λ r. ⌜ r ≡ holdsForSome (factorDegreeOutOfRange (prime p)) (contents (now (factors .entry))) ⌝ }
+    ensures { λ r. ⌜ r ≡ holdsForSome (factorDegreeOutOfRange (prime p)) (listsOf (now (factors .entry))) ⌝ }
 {
     let mut i = 0;
     // none before i: the factors from i on decide
@@ -32,7 +33,7 @@ pub fn some_degree_out_of_range(p: u64, factors: &[&[u8]]) -> bool
 
 // 11: a factor is not monic over the field.
 pub fn some_not_monic(p: u64, factors: &[&[u8]]) -> bool
-    ensures { λ r. ⌜ r ≡ holdsForSome (notMonic (prime p)) (contents (now (factors .entry))) ⌝ }
+    ensures { λ r. ⌜ r ≡ holdsForSome (notMonic (prime p)) (listsOf (now (factors .entry))) ⌝ }
 {
     let mut i = 0;
     // none before i: the factors from i on decide
@@ -48,7 +49,7 @@ pub fn some_not_monic(p: u64, factors: &[&[u8]]) -> bool
 // Whether a factor from place `from` on equals f.
 fn occurs_from(f: &[u8], factors: &[&[u8]], from: usize) -> bool
     ensures { λ r. ⌜ r ≡ holdsForSome (same (now (f .entry)))
-        (drop from (contents (now (factors .entry)))) ⌝ }
+        (drop from (listsOf (now (factors .entry)))) ⌝ }
 {
     let mut i = from;
     // none before i: the factors from i on decide
@@ -63,7 +64,7 @@ fn occurs_from(f: &[u8], factors: &[&[u8]], from: usize) -> bool
 
 // 13: two factors are equal.
 pub fn two_equal(factors: &[&[u8]]) -> bool
-    ensures { λ r. ⌜ r ≡ twoEqual (contents (now (factors .entry))) ⌝ }
+    ensures { λ r. ⌜ r ≡ twoEqual (listsOf (now (factors .entry))) ⌝ }
 {
     let mut i = 0;
     // no factor before i equals a later one: the factors from i on decide
@@ -76,55 +77,10 @@ pub fn two_equal(factors: &[&[u8]]) -> bool
     false
 }
 
-// The upper power of factor i.
-fn upper_at(uppers: &[u64], i: usize) -> u64
-    ensures { λ r. ⌜ r ≡ getD (now (uppers .entry)) i 0 ⌝ }
-{
-    if i < uppers.len() { uppers[i] } else { 0 }
-}
-
-// The degree of a list: one less than its length, and 0 for the empty list.
-fn degree(f: &[u8]) -> usize
-    ensures { λ r. ⌜ r ≡ degree (now (f .entry)) ⌝ }
-{
-    if f.len() == 0 { 0 } else { f.len() - 1 }
-}
-
-// The product, or 4,097 where it is larger.
-fn capped_product(v: u64, d: usize) -> usize
-    ensures { λ r. ⌜ r ≡ min (v * d) 4097 ⌝ }
-{
-    if d == 0 {
-        return 0;
-    }
-    if 4096 / d < v as usize {
-        return 4097;
-    }
-    v as usize * d
-}
-
-// The total degree D, or 4,097 where it is larger.
-pub fn total_degree(factors: &[&[u8]], uppers: &[u64]) -> usize
-    ensures { λ r. ⌜ r ≡ min (totalDegree (named (contents (now (factors .entry))) (now (uppers .entry))))
-        4097 ⌝ }
-{
-    let mut sum = 0;
-    let mut i = 0;
-    // sum, at most 4,096, and the total degree from factor i on are D
-    while i < factors.len() {
-        sum += capped_product(upper_at(uppers, i), degree(factors[i]));
-        if 4096 < sum {
-            return 4097;
-        }
-        i += 1;
-    }
-    sum
-}
-
 // Whether an upper power is 0.
 fn some_upper_zero(factors: &[&[u8]], uppers: &[u64]) -> bool
     ensures { λ r. ⌜ r ≡ holdsForSome (λ f. eqb (f .1) 0)
-        (named (contents (now (factors .entry))) (now (uppers .entry))) ⌝ }
+        (named (listsOf (now (factors .entry))) (now (uppers .entry))) ⌝ }
 {
     let mut i = 0;
     // none before i: the factors from i on decide
@@ -139,7 +95,7 @@ fn some_upper_zero(factors: &[&[u8]], uppers: &[u64]) -> bool
 
 // 14: an upper power is 0, or the total degree exceeds 4,096.
 pub fn upper_powers_out_of_range(factors: &[&[u8]], uppers: &[u64]) -> bool
-    ensures { λ r. ⌜ r ≡ upperPowersOutOfRange (named (contents (now (factors .entry)))
+    ensures { λ r. ⌜ r ≡ upperPowersOutOfRange (named (listsOf (now (factors .entry)))
         (now (uppers .entry))) ⌝ }
 {
     if some_upper_zero(factors, uppers) {

@@ -7,7 +7,7 @@ use irreducible::is_irreducible;
 ghost use mathlib.Core.Path.{_≡_};
 ghost use Rattle.meaning.specs.Search.{holdsForSome};
 ghost use Rattle.meaning.specs.Conditions.{isReducible};
-ghost use Rattle.conditions.specs.factors.Contents.{contents};
+ghost use Rattle.meaning.specs.Slices.{listsOf};
 
 // 12, of one factor.
 pub fn reducible(p: u64, factor: &[u8]) -> bool
@@ -27,7 +27,7 @@ pub fn reducible(p: u64, factor: &[u8]) -> bool
 
 // 12, of several factors.
 pub fn some_reducible(p: u64, factors: &[&[u8]]) -> bool
-    ensures { λ r. ⌜ r ≡ holdsForSome (isReducible p) (contents (now (factors .entry))) ⌝ }
+    ensures { λ r. ⌜ r ≡ holdsForSome (isReducible p) (listsOf (now (factors .entry))) ⌝ }
 {
     let mut i = 0;
     // none before i: the factors from i on decide

@@ -1,1 +1,1 @@
-pub mod ToldFree
+pub mod FreeStatus

@@ -1,1 +1,1 @@
-pub mod ToldPower
+pub mod PowerStatus

@@ -1,2 +1,2 @@
 pub mod Nine
-pub mod ToldSet
+pub mod SetStatus

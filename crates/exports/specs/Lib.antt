@@ -1,5 +1,5 @@
-pub mod results
-pub mod numbers
+pub mod Status
+pub mod byte_order
 pub mod questions
 pub mod one_factor
 pub mod set

@@ -1,6 +1,6 @@
 // The continuation for programs in other languages.
 use meaning::Filling;
-use refusals::numbers::number_of;
+use refusals::numbering::refusal_number;
 ghost use Rattle.meaning.specs.Continuation.{continueSequence};
 ghost use Rattle.exports.specs.continuation.Filled.{Filled};
 
@@ -19,6 +19,6 @@ pub extern "C" fn rater_continue_sequence(
 {
     match rater::continue_sequence(p, polynomial, start, buffer, place) {
         Filling::Filled => 0,
-        Filling::Refused(r) => number_of(r),
+        Filling::Refused(r) => refusal_number(r),
     }
 }

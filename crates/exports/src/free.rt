@@ -1,6 +1,6 @@
 // The free way for programs in other languages.
 use meaning::FreeRating;
-use refusals::numbers::number_of;
+use refusals::numbering::refusal_number;
 ghost use Rattle.massey.specs.Shortest.{freeChoice};
 ghost use Rattle.exports.specs.free.FreeExported.{FreeExported};
 
@@ -29,6 +29,6 @@ pub extern "C" fn rater_rate_free(
             *unique = 0;
             0
         }
-        FreeRating::Refused(r) => number_of(r),
+        FreeRating::Refused(r) => refusal_number(r),
     }
 }

@@ -1,6 +1,6 @@
 // The ratings with one factor for programs in other languages: the period way and the portion way.
 use meaning::PowerRating;
-use refusals::numbers::number_of;
+use refusals::numbering::refusal_number;
 ghost use lib.ListN.{length};
 ghost use Rattle.meaning.specs.Period.{ratePeriod};
 ghost use Rattle.meaning.specs.Portion.{ratePortion};
@@ -24,7 +24,7 @@ fn tell(rating: PowerRating, power: &mut u64, degree: &mut u64, bound: &mut u64)
             *bound = b;
             0
         }
-        PowerRating::Refused(r) => number_of(r),
+        PowerRating::Refused(r) => refusal_number(r),
     }
 }
 

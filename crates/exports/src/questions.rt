@@ -1,7 +1,7 @@
 // The questions for programs in other languages: whether a number is a prime in range, and whether a
 // polynomial is irreducible.
 use meaning::Irreducibility;
-use refusals::numbers::number_of;
+use refusals::numbering::refusal_number;
 ghost use Rattle.meaning.specs.Calls.{PrimeCall};
 ghost use Rattle.meaning.specs.Irreducibility.{askIrreducible};
 ghost use Rattle.exports.specs.questions.Question.{Question};
@@ -29,6 +29,6 @@ pub extern "C" fn rater_is_irreducible(p: u64, coefficients: &[u8], yes: &mut u8
             *yes = 0;
             0
         }
-        Irreducibility::Refused(r) => number_of(r),
+        Irreducibility::Refused(r) => refusal_number(r),
     }
 }

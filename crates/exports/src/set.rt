@@ -1,17 +1,17 @@
 // The set way for programs in other languages.
-use crate::numbers::first_nine;
-use crate::numbers::number_count;
-use crate::numbers::write_eight;
+use crate::byte_order::first_nine;
+use crate::byte_order::number_count;
+use crate::byte_order::write_eight;
 use meaning::SetOutcome;
 use meaning::SetRating;
-use rate_set::joined::at_most_nine;
-use rate_set::joined::rate_joined_set;
-use refusals::numbers::number_of;
+use rate_set::concatenated::at_most_nine;
+use rate_set::concatenated::rate_concatenated;
+use refusals::numbering::refusal_number;
 ghost use lib.ListN.{length};
 ghost use Rattle.meaning.specs.Portion.{rateSet};
 ghost use Rattle.meaning.specs.Calls.{SetCall};
-ghost use Rattle.rate_set.specs.joined.Joined.{split};
-ghost use Rattle.exports.specs.numbers.Numbers.{numbersOf};
+ghost use Rattle.rate_set.specs.concatenated.Concatenated.{split};
+ghost use Rattle.exports.specs.byte_order.LittleEndian.{numbersOf};
 ghost use Rattle.exports.specs.set.SetExported.{SetExported};
 
 // The set way with the lengths of the joined factors and their upper powers as numbers in bytes. Nine factors
@@ -32,7 +32,7 @@ fn rate_numbered_set(
     let parts = first_nine(lengths);
     let powers = first_nine(uppers);
     let count = at_most_nine(number_count(lengths));
-    rate_joined_set(p, factors, &parts[0..count], &powers, terms, answer, work)
+    rate_concatenated(p, factors, &parts[0..count], &powers, terms, answer, work)
 }
 
 // Rates a portion with one to eight factors: leaves the powers in the order of the factors, then zeros, and
@@ -71,6 +71,6 @@ pub extern "C" fn rater_rate_set(
             *degree = d;
             0
         }
-        SetOutcome::Refused(r) => number_of(r),
+        SetOutcome::Refused(r) => refusal_number(r),
     }
 }

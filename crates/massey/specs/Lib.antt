@@ -1,3 +1,2 @@
 pub mod Shortest
-pub mod updates
-pub mod recurrence
+pub mod step

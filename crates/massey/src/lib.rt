@@ -3,9 +3,7 @@
 // far, stands in one without its leading 1, and g, an earlier f, in the other with it; zeros come after both,
 // and updates are in place. Assumes a well-formed field, at most 4,096 terms, and as many lent bytes as each
 // function says.
-mod bytes;
-pub mod recurrence;
 mod shortest;
-pub mod updates;
+pub mod step;
 
 pub use shortest::shortest_recurrence;

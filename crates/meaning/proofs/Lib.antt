@@ -11,3 +11,4 @@ pub mod Lent
 pub mod Determined
 pub mod CallRows
 pub mod Stretches
+pub mod Slices

@@ -15,3 +15,4 @@ pub mod File
 pub mod Print
 pub mod Answers
 pub mod Calls
+pub mod Slices

@@ -3,7 +3,7 @@
 ghost use Prim.Native.Nat.{_≤_};
 ghost use lib.ListN.{length};
 ghost use Rattle.arith.specs.Represented.{fieldOf, WellFormed};
-ghost use Rattle.conditions.specs.factors.Contents.{contents};
+ghost use Rattle.meaning.specs.Slices.{listsOf};
 ghost use Rattle.powers.specs.product.Writing.{ProductInput, ProductWritten};
 ghost use Rattle.powers.specs.product.Writing.{PowerInput, PowerWritten};
 use arith::GaloisField;
@@ -19,8 +19,8 @@ pub fn write_product(
 ) -> u64
     requires { ⌜ WellFormed field ⌝ }
     requires { ⌜ 4097 ≤ length (now answer) ⌝ }
-    requires { ⌜ ProductInput (fieldOf field) (contents (now factors)) (now powers) ⌝ }
-    ensures { λ n. ⌜ ProductWritten (fieldOf field) (contents (now (factors .entry))) (now (powers .entry))
+    requires { ⌜ ProductInput (fieldOf field) (listsOf (now factors)) (now powers) ⌝ }
+    ensures { λ n. ⌜ ProductWritten (fieldOf field) (listsOf (now (factors .entry))) (now (powers .entry))
         (now (answer .entry)) (now (answer .exit)) n ⌝ }
 {
     answer[0] = 1;

@@ -7,7 +7,7 @@ use crate::result_line::put_word_line;
 use crate::words::put_word;
 use meaning::FileOutcome;
 use meaning::FileRating;
-use refusals::numbers::number_of;
+use refusals::numbering::refusal_number;
 ghost use mathlib.Core.List.{[]};
 ghost use Prim.Native.Nat.{_+_, _≤_};
 ghost use lib.ListN.{length};
@@ -46,7 +46,7 @@ fn put_result(
         FileOutcome::Several { degree, terms } => {
             put_word_line(sender, degree, terms, b"some", out, at)
         }
-        FileOutcome::Refused(reason) => put_refused(sender, number_of(reason), out, at),
+        FileOutcome::Refused(reason) => put_refused(sender, refusal_number(reason), out, at),
     }
 }
 

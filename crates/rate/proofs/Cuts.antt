@@ -14,7 +14,7 @@ use Rattle.meaning.specs.Free.{Choice}
 use Rattle.meaning.specs.Route.{records, boxOf}
 use Rattle.meaning.specs.File.{rateFile, FileChosenFits}
 use Rattle.meaning.specs.Print.{report, printed}
-use Rattle.route.proofs.contents.Numbers.{box-long}
+use Rattle.route.proofs.payload.Numbers.{box-long}
 use Rattle.route.proofs.framing.Records.{records-long}
 
 module _ (k : ℕ) (file : List ℕ) (long : 16384 < k) where

@@ -13,7 +13,7 @@ use Rattle.meaning.specs.Route.{RouteRecord, bodies, records}
 use Rattle.route.specs.framing.Framing.{bodyLength, recordsFrom}
 use Rattle.route.specs.walk.Walking.{verdictOf}
 use Rattle.route.proofs.walk.Walks.{Whole, AnswersWhole}
-use Rattle.route.proofs.file_verdict.Verdicts.{records-whole, records-known}
+use Rattle.route.proofs.acceptance.Accepting.{records-whole, records-known}
 
 module _ (k : ℕ) where
   abbrev AllWhole : List (List ℕ) → Type 0

@@ -16,10 +16,10 @@ use Rattle.route.specs.framing.Framing.{recordsFrom}
 use Rattle.route.proofs.framing.Records.{records-suited}
 use Rattle.massey.specs.Shortest.{freeChoice}
 use Rattle.massey.proofs.FreeWay.{free-chosen}
-use Rattle.rate_file.specs.telling.Ratings.{RatedFile}
-use Rattle.rate_file.specs.ways.Accepted.{AcceptedRecords}
+use Rattle.rate_file.specs.outcomes.Outcomes.{RatedFile}
+use Rattle.rate_file.specs.records.Accepted.{AcceptedRecords}
 use Rattle.route.specs.walk.Walking.{verdictOf}
-use Rattle.route.proofs.file_verdict.Verdicts.{records-whole, records-known}
+use Rattle.route.proofs.acceptance.Accepting.{records-whole, records-known}
 use Rattle.rate_file.proofs.Accepted.{records-accepted, bodies-accepted}
 
 module _ (file : List ℕ) where

@@ -1,3 +1,3 @@
 pub mod factors
-pub mod telling
-pub mod ways
+pub mod outcomes
+pub mod records

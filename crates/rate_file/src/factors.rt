@@ -4,9 +4,9 @@ use conditions::files::file_degree_out_of_range;
 use conditions::files::file_not_monic;
 use meaning::Refusal;
 use refusals::Verdict;
-use route::contents::lay_factor;
-use route::contents::upper_power;
 use route::framing::body_of;
+use route::payload::lay_factor;
+use route::payload::upper_power;
 ghost use mathlib.Core.Path.{_≡_};
 ghost use mathlib.Core.List.{map, flatten};
 ghost use Prim.Native.Nat.{_≤_};
@@ -51,7 +51,7 @@ fn some_not_monic(p: u64, file: &[u8], count: usize) -> bool
 }
 
 // What a file's own part of 10 and 11 decides.
-pub fn factors_verdict(p: u64, file: &[u8], count: usize) -> Verdict
+pub fn written_factors_verdict(p: u64, file: &[u8], count: usize) -> Verdict
     requires { ⌜ count ≡ length (factorsIn (now file)) ⌝ }
     ensures { λ r. ⌜ numberIn r ≡ firstOf (writtenTable p (factorsIn (now (file .entry)))) ⌝ }
 {

@@ -2,17 +2,17 @@
 // any length.
 pub mod factors;
 pub mod modes;
-pub mod telling;
-pub mod ways;
+pub mod outcomes;
+pub mod records;
 
-use crate::telling::of_refusal;
-use crate::ways::rate_records;
+use crate::outcomes::of_refusal;
+use crate::records::rate_records;
 use meaning::FileRating;
 use refusals::Verdict;
-use route::contents::box_of;
-use route::contents::gather_terms;
-use route::file_verdict::verdict;
+use route::acceptance::file_verdict;
 use route::framing::part;
+use route::payload::box_of;
+use route::payload::gather_terms;
 ghost use Rattle.meaning.specs.Calls.{FileCall};
 ghost use Rattle.massey.specs.Shortest.{freeChoice};
 
@@ -25,7 +25,7 @@ pub fn rate_file(file: &[u8], answer: &mut [u8], work: &mut [u8]) -> FileRating
         (now (answer .exit)) (now (work .exit)) ⌝ }
 {
     let sender = box_of(file);
-    match verdict(file) {
+    match file_verdict(file) {
         Verdict::Refused(r) => of_refusal(sender, r),
         Verdict::Accepted => {
             // one more than 7 allows: further terms change nothing

@@ -1,16 +1,16 @@
 // The way of each mode on the terms and the factors of a file.
 use crate::factors::gather_uppers;
 use crate::factors::pack_factors;
-use crate::telling::of_free;
-use crate::telling::of_power;
-use crate::telling::of_set;
+use crate::outcomes::of_free;
+use crate::outcomes::of_power;
+use crate::outcomes::of_set;
 use meaning::FileRating;
 use rate_free::rate_free;
 use rate_period::rate_period;
-use rate_set::joined::rate_joined_set;
-use route::contents::lay_factor;
+use rate_set::concatenated::rate_concatenated;
 use route::framing::body_of;
 use route::framing::part;
+use route::payload::lay_factor;
 ghost use Prim.Native.Nat.{_≤_};
 ghost use mathlib.Core.Path.{_≡_};
 ghost use mathlib.Core.List.{[], map, flatten};
@@ -21,7 +21,7 @@ ghost use Rattle.meaning.specs.Free.{rateFree};
 ghost use Rattle.meaning.specs.File.{ofPeriod, ofSet, ofFree};
 ghost use Rattle.massey.specs.Shortest.{freeChoice};
 ghost use Rattle.rate_file.specs.factors.Written.{factorsIn, polynomialsIn};
-ghost use Rattle.rate_file.specs.telling.Ratings.{RatedFile};
+ghost use Rattle.rate_file.specs.outcomes.Outcomes.{RatedFile};
 
 // The free way on the terms.
 pub fn rate_free_file(
@@ -85,7 +85,7 @@ pub fn rate_set_file(
     let mut packed = [0u8; 264];
     let lengths = pack_factors(file, count, &mut packed);
     let uppers = gather_uppers(file, count);
-    let rating = rate_joined_set(
+    let rating = rate_concatenated(
         p,
         &packed,
         &lengths[0..count],

@@ -1,1 +1,1 @@
-pub mod joined
+pub mod concatenated

@@ -1,5 +1,5 @@
 // The rating of a portion with one to eight factors.
-pub mod joined;
+pub mod concatenated;
 
 use arith::GaloisField;
 use meaning::Refusal;
@@ -13,7 +13,7 @@ ghost use mathlib.Core.Path.{_≡_};
 ghost use lib.ListN.{replicate};
 ghost use Rattle.meaning.specs.declared.SetOutcome.{SetOutcome};
 ghost use Rattle.meaning.specs.Calls.{SetCall};
-ghost use Rattle.conditions.specs.factors.Contents.{contents};
+ghost use Rattle.meaning.specs.Slices.{listsOf};
 
 // A refusal, which has no powers.
 fn refused(r: Refusal) -> SetRating
@@ -47,7 +47,7 @@ pub fn rate_set(
     answer: &mut [u8],
     work: &mut [u8],
 ) -> SetRating
-    ensures { λ r. ⌜ SetCall p (contents (now (factors .entry))) (now (uppers .entry)) (now (terms .entry))
+    ensures { λ r. ⌜ SetCall p (listsOf (now (factors .entry))) (now (uppers .entry)) (now (terms .entry))
         (now (answer .entry)) (now (work .entry)) r (now (answer .exit)) (now (work .exit)) ⌝ }
 {
     match set_verdict(p, factors, uppers, terms, answer.len(), work.len()) {

@@ -11,7 +11,7 @@ use conditions::reducibility::some_reducible;
 use meaning::Refusal;
 ghost use mathlib.Core.Path.{_≡_};
 ghost use Rattle.meaning.specs.Result.{firstOf};
-ghost use Rattle.conditions.specs.factors.Contents.{contents};
+ghost use Rattle.meaning.specs.Slices.{listsOf};
 ghost use Rattle.refusals.specs.Verdicts.{numberIn, oneFactorTable, factorsTable};
 
 // One factor: 10, 11, 12.
@@ -32,7 +32,7 @@ pub fn factor_verdict(p: u64, factor: &[u8]) -> Verdict
 
 // Several factors: 9 to 13.
 pub fn factors_verdict(p: u64, factors: &[&[u8]]) -> Verdict
-    ensures { λ r. ⌜ numberIn r ≡ firstOf (factorsTable p (contents (now (factors .entry)))) ⌝ }
+    ensures { λ r. ⌜ numberIn r ≡ firstOf (factorsTable p (listsOf (now (factors .entry)))) ⌝ }
 {
     if factor_count_out_of_range(factors.len()) {
         return Verdict::Refused(Refusal::FactorCount);

@@ -1,7 +1,7 @@
 // The conditions of the numbered list of refusals in their order, one function for each call: the first that
 // holds, up to 16. Each answers for any numbers and slices of any length, and changes no lent byte.
 pub mod factors;
-pub mod numbers;
+pub mod numbering;
 pub mod ratings;
 
 use conditions::lists::continuation_degree_out_of_range;

@@ -3,15 +3,15 @@ use crate::Verdict;
 use crate::factors::factor_verdict;
 use crate::factors::factors_verdict;
 use crate::terms_verdict;
-use conditions::factors::total_degree;
 use conditions::factors::upper_powers_out_of_range;
 use conditions::lists::fewer_terms_than;
 use conditions::numbers::lent_too_short;
 use meaning::Refusal;
+use poly::factors::total_degree;
 ghost use mathlib.Core.Path.{_≡_};
 ghost use Rattle.meaning.specs.Result.{firstOf};
 ghost use Rattle.meaning.specs.Conditions.{named};
-ghost use Rattle.conditions.specs.factors.Contents.{contents};
+ghost use Rattle.meaning.specs.Slices.{listsOf};
 ghost use Rattle.refusals.specs.Verdicts.{numberIn, powersTable, periodChecks, portionChecks};
 ghost use Rattle.refusals.specs.Verdicts.{setChecks};
 
@@ -24,7 +24,7 @@ fn powers_verdict(
     work: usize,
 ) -> Verdict
     ensures { λ r. ⌜ numberIn r
-        ≡ firstOf (powersTable (named (contents (now (factors .entry))) (now (uppers .entry)))
+        ≡ firstOf (powersTable (named (listsOf (now (factors .entry))) (now (uppers .entry)))
         (now (terms .entry)) answer work) ⌝ }
 {
     if upper_powers_out_of_range(factors, uppers) {
@@ -90,7 +90,7 @@ pub fn set_verdict(
     work: usize,
 ) -> Verdict
     ensures { λ r. ⌜ numberIn r
-        ≡ firstOf (setChecks p (contents (now (factors .entry))) (now (uppers .entry)) (now (terms .entry))
+        ≡ firstOf (setChecks p (listsOf (now (factors .entry))) (now (uppers .entry)) (now (terms .entry))
         answer work) ⌝ }
 {
     match terms_verdict(p, terms) {

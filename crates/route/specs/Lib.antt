@@ -1,3 +1,3 @@
 pub mod framing
-pub mod contents
+pub mod payload
 pub mod walk

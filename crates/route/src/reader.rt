@@ -1,6 +1,6 @@
 // The reader of a route file by record number. Every function answers for every file of any length and every
 // number, and changes no lent byte.
-use crate::file_verdict::verdict;
+use crate::acceptance::file_verdict;
 use crate::framing::body_at;
 use crate::framing::kind_at;
 use crate::framing::place_of;
@@ -18,7 +18,7 @@ ghost use Rattle.meaning.specs.Route.{readRecord};
 pub fn record_outcome(file: &[u8], n: usize) -> RecordOutcome
     ensures { λ r. ⌜ toldRecord r ≡ mapResult (λ a. a .kind) (readRecord (now (file .entry)) n) ⌝ }
 {
-    match verdict(file) {
+    match file_verdict(file) {
         Verdict::Refused(r) => RecordOutcome::Refused(r),
         Verdict::Accepted => RecordOutcome::Found {
             kind: kind_at(file, place_of(file, n)),
@@ -31,7 +31,7 @@ pub fn record_outcome(file: &[u8], n: usize) -> RecordOutcome
 pub fn record_body(file: &[u8], n: usize) -> &[u8]
     ensures { λ r. ⌜ now r ≡ bodyAfter (readRecord (now (file .entry)) n) ⌝ }
 {
-    match verdict(file) {
+    match file_verdict(file) {
         Verdict::Refused(_) => &file[0..0],
         Verdict::Accepted => body_at(file, place_of(file, n)),
     }

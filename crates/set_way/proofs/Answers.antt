@@ -29,7 +29,7 @@ use Rattle.bridge.proofs.Interpretation.{IsField}
 use Rattle.bridge.proofs.Products.{Nonempties, monics-nonempty}
 use Rattle.bridge.proofs.Continuations.{take-elements}
 use Rattle.bridge.proofs.Portions.{setPowers-exists}
-use Rattle.conditions.proofs.factors.Uppers.{total-known}
+use Rattle.poly.proofs.factors.Totals.{total-known}
 use Rattle.lent.proofs.halves.Bytes.{kept-trans, cleared-kept}
 use Rattle.set_way.specs.declared.SetPowers.{SetPowers}
 use Rattle.set_way.specs.actions.SetActions.{SetInput, SetDecided}

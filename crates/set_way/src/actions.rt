@@ -8,7 +8,7 @@ use lent::halves::load;
 ghost use Prim.Native.Nat.{_≤_};
 ghost use lib.ListN.{length};
 ghost use Rattle.arith.specs.Represented.{fieldOf, WellFormed};
-ghost use Rattle.conditions.specs.factors.Contents.{contents};
+ghost use Rattle.meaning.specs.Slices.{listsOf};
 ghost use Rattle.lent.specs.halves.Halves.{Halves, half};
 ghost use Rattle.set_way.specs.actions.SetActions.{SetInput, OthersActed, SetDecided};
 
@@ -24,8 +24,8 @@ pub fn act_others(
 ) -> Place
     requires { ⌜ WellFormed field ⌝ }
     requires { ⌜ Halves (now work) 0 n ⌝ }
-    requires { ⌜ SetInput (fieldOf field) (contents (now factors)) (now uppers) (half (now work) 0 n) ⌝ }
-    ensures { λ r. ⌜ OthersActed (fieldOf field) (contents (now (factors .entry))) (now (uppers .entry))
+    requires { ⌜ SetInput (fieldOf field) (listsOf (now factors)) (now uppers) (half (now work) 0 n) ⌝ }
+    ensures { λ r. ⌜ OthersActed (fieldOf field) (listsOf (now (factors .entry))) (now (uppers .entry))
         skip n (now (work .entry)) (now (work .exit)) r ⌝ }
 {
     let mut at = 0;
@@ -54,8 +54,8 @@ pub fn annihilates(
 ) -> bool
     requires { ⌜ WellFormed field ⌝ }
     requires { ⌜ 8192 ≤ length (now work) ⌝ }
-    requires { ⌜ SetInput (fieldOf field) (contents (now factors)) (now uppers) (now terms) ⌝ }
-    ensures { λ r. ⌜ SetDecided (fieldOf field) (contents (now (factors .entry))) (now (uppers .entry))
+    requires { ⌜ SetInput (fieldOf field) (listsOf (now factors)) (now uppers) (now terms) ⌝ }
+    ensures { λ r. ⌜ SetDecided (fieldOf field) (listsOf (now (factors .entry))) (now (uppers .entry))
         (now (terms .entry)) (now (work .entry)) (now (work .exit)) r ⌝ }
 {
     load(work, 0, terms);

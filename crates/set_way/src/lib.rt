@@ -8,12 +8,12 @@ pub mod search;
 use crate::actions::annihilates;
 use crate::search::least_powers;
 use arith::GaloisField;
-use conditions::factors::total_degree;
 use lent::clear;
+use poly::factors::total_degree;
 ghost use Prim.Native.Nat.{_≤_};
 ghost use lib.ListN.{length};
 ghost use Rattle.arith.specs.Represented.{fieldOf, WellFormed};
-ghost use Rattle.conditions.specs.factors.Contents.{contents};
+ghost use Rattle.meaning.specs.Slices.{listsOf};
 ghost use Rattle.set_way.specs.actions.SetActions.{SetInput};
 ghost use Rattle.set_way.specs.SetWay.{SetSearched, SetFound};
 
@@ -34,8 +34,8 @@ fn search_set(
 ) -> SetPowers
     requires { ⌜ WellFormed field ⌝ }
     requires { ⌜ 8192 ≤ length (now work) ⌝ }
-    requires { ⌜ SetInput (fieldOf field) (contents (now factors)) (now uppers) (now terms) ⌝ }
-    ensures { λ r. ⌜ SetSearched (fieldOf field) (contents (now (factors .entry))) (now (uppers .entry))
+    requires { ⌜ SetInput (fieldOf field) (listsOf (now factors)) (now uppers) (now terms) ⌝ }
+    ensures { λ r. ⌜ SetSearched (fieldOf field) (listsOf (now (factors .entry))) (now (uppers .entry))
         (now (terms .entry)) (now (work .entry)) (now (work .exit)) r ⌝ }
 {
     if annihilates(field, work, factors, uppers, terms) {
@@ -66,8 +66,8 @@ pub fn set_powers(
 ) -> SetPowers
     requires { ⌜ WellFormed field ⌝ }
     requires { ⌜ 8192 ≤ length (now work) ⌝ }
-    requires { ⌜ SetInput (fieldOf field) (contents (now factors)) (now uppers) (now terms) ⌝ }
-    ensures { λ r. ⌜ SetFound (fieldOf field) (contents (now (factors .entry))) (now (uppers .entry))
+    requires { ⌜ SetInput (fieldOf field) (listsOf (now factors)) (now uppers) (now terms) ⌝ }
+    ensures { λ r. ⌜ SetFound (fieldOf field) (listsOf (now (factors .entry))) (now (uppers .entry))
         (now (terms .entry)) (now (work .entry)) (now (work .exit)) r ⌝ }
 {
     let found = search_set(field, work, factors, uppers, terms);

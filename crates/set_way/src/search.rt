@@ -10,7 +10,7 @@ ghost use Prim.Native.Nat.{_≤_, _<_};
 ghost use lib.ListN.{length};
 ghost use Rattle.meaning.specs.Conditions.{named, totalDegree};
 ghost use Rattle.arith.specs.Represented.{fieldOf, WellFormed};
-ghost use Rattle.conditions.specs.factors.Contents.{contents};
+ghost use Rattle.meaning.specs.Slices.{listsOf};
 ghost use Rattle.set_way.specs.actions.SetActions.{SetInput};
 ghost use Rattle.set_way.specs.search.SetSearch.{PowerFoundAt, PowersSearched};
 
@@ -27,10 +27,10 @@ fn power_at(
 ) -> u64
     requires { ⌜ WellFormed field ⌝ }
     requires { ⌜ 8192 ≤ length (now work) ⌝ }
-    requires { ⌜ SetInput (fieldOf field) (contents (now factors)) (now uppers) (now first) ⌝ }
-    requires { ⌜ length (now first) ≡ totalDegree (named (contents (now factors)) (now uppers)) ⌝ }
+    requires { ⌜ SetInput (fieldOf field) (listsOf (now factors)) (now uppers) (now first) ⌝ }
+    requires { ⌜ length (now first) ≡ totalDegree (named (listsOf (now factors)) (now uppers)) ⌝ }
     requires { ⌜ i < length (now factors) ⌝ }
-    ensures { λ r. ⌜ PowerFoundAt (fieldOf field) (contents (now (factors .entry))) (now (uppers .entry))
+    ensures { λ r. ⌜ PowerFoundAt (fieldOf field) (listsOf (now (factors .entry))) (now (uppers .entry))
         (now (first .entry)) i (now (work .entry)) (now (work .exit)) r ⌝ }
 {
     load(work, 0, first);
@@ -50,9 +50,9 @@ pub fn least_powers(
 ) -> [u64; 8]
     requires { ⌜ WellFormed field ⌝ }
     requires { ⌜ 8192 ≤ length (now work) ⌝ }
-    requires { ⌜ SetInput (fieldOf field) (contents (now factors)) (now uppers) (now first) ⌝ }
-    requires { ⌜ length (now first) ≡ totalDegree (named (contents (now factors)) (now uppers)) ⌝ }
-    ensures { λ r. ⌜ PowersSearched (fieldOf field) (contents (now (factors .entry))) (now (uppers .entry))
+    requires { ⌜ SetInput (fieldOf field) (listsOf (now factors)) (now uppers) (now first) ⌝ }
+    requires { ⌜ length (now first) ≡ totalDegree (named (listsOf (now factors)) (now uppers)) ⌝ }
+    ensures { λ r. ⌜ PowersSearched (fieldOf field) (listsOf (now (factors .entry))) (now (uppers .entry))
         (now (first .entry)) (now (work .entry)) (now (work .exit)) r ⌝ }
 {
     let mut powers = [0u64; 8];

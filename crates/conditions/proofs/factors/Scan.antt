@@ -11,9 +11,12 @@ use mathlib.Core.Bool.{Bool, true, false, _||_}
 use mathlib.Core.List.{List, [], _∷_}
 use lib.ListN.{length, getD, drop, drop-of-length-le}
 use lib.Seq.{drop-cons}
+use denote.Ref.{RefT, now}
 use Rattle.meaning.specs.Search.{holdsForSome}
-use Rattle.meaning.specs.Polynomial.{same}
+use Rattle.meaning.specs.Polynomial.{Polynomial, same}
 use Rattle.meaning.specs.Conditions.{twoEqual}
+use Rattle.meaning.specs.Slices.{listsOf}
+use Rattle.meaning.proofs.Slices.{nowhere, lists-length, lists-at}
 use Rattle.conditions.proofs.numbers.Tests.{either}
 
 pub record Scan {A : Type 0} (R : List A → Bool) (t : A → List A → Bool) : Type 0 where
@@ -42,3 +45,17 @@ module _ {A : Type 0} {R : List A → Bool} {t : A → List A → Bool} (scan : 
 
   pub scan-over : length l ≤ i → false ≡ x
   scan-over h = sym (scan .nil) ∙ ap R (sym (drop-of-length-le l h)) ∙ e
+
+-- The same for the factors in a slice of slices
+module _ {R : List Polynomial → Bool} {t : Polynomial → List Polynomial → Bool} (scan : Scan R t)
+    (fs : List (RefT (List ℕ))) (i : ℕ) {x : Bool} (e : R (drop i (listsOf fs)) ≡ x) where
+  pub factor-found : i < length fs → t (now (getD fs i nowhere)) (drop (i + 1) (listsOf fs)) ≡ true
+      → true ≡ x
+  factor-found h q = scan-found scan [] (listsOf fs) i e (rw lists-length h) (rw lists-at q)
+
+  pub factor-next : i < length fs → t (now (getD fs i nowhere)) (drop (i + 1) (listsOf fs)) ≡ false
+      → R (drop (i + 1) (listsOf fs)) ≡ x
+  factor-next h q = scan-next scan [] (listsOf fs) i e (rw lists-length h) (rw lists-at q)
+
+  pub factors-over : length fs ≤ i → false ≡ x
+  factors-over h = scan-over scan [] (listsOf fs) i e (rw lists-length h)

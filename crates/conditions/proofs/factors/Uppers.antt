@@ -1,106 +1,42 @@
--- Factors with their upper powers: the total degree as far as its limit, and refusal 14.
---
---   total-known      == where 14 passes, the total degree is at most 4,096, and its cap is itself
+-- Refusal 14: an upper power of 0, looked for from the front, or a total degree beyond its limit.
 -- Assumes nothing.
-use Prim.Native.Nat.{ℕ, zero, suc, _+_, _*_, min, _≤_, _<_}
-use native.Mathlib.Numerals.{add-one}
-use native.Mathlib.Omega.{arith}
-use mathlib.Core.Path.{_≡_, refl, sym, ap, _∙_}
+use Prim.Native.Nat.{ℕ, _+_, min, _≤_, _<_}
+use mathlib.Core.Path.{_≡_}
 use mathlib.Core.Bool.{Bool, true, false}
-use mathlib.Core.List.{List, [], _∷_}
+use mathlib.Core.List.{List, []}
 use lib.Dec.{ltb, eqb}
-use lib.ListN.{length, getD, drop, drop-of-length-le}
-use lib.Seq.{drop-cons}
-use denote.Ref.{RefT, now}
+use lib.ListN.{length, getD, drop}
+use denote.Ref.{RefT}
 use borrow.Author.Tests.{eq-eqb, ne-eqb}
 use Rattle.meaning.specs.Search.{holdsForSome}
-use Rattle.meaning.specs.Polynomial.{Polynomial, degree}
+use Rattle.meaning.specs.Polynomial.{Polynomial}
 use Rattle.meaning.specs.Conditions.{named, totalDegree, upperPowersOutOfRange}
-use Rattle.bridge.proofs.Products.{length-named}
-use Rattle.bridge.proofs.Accepted.{total-accepted}
-use Rattle.conditions.specs.factors.Contents.{contents}
+use Rattle.meaning.specs.Slices.{listsOf}
+use Rattle.poly.proofs.factors.Capped.{capped-test}
+use Rattle.poly.proofs.factors.Totals.{factors-length, factor-at}
 use Rattle.conditions.proofs.factors.Scan.{Scan, some-scan, scan-found, scan-next, scan-over}
-use Rattle.conditions.proofs.factors.Contents.{nowhere, contents-length, contents-at}
-use Rattle.conditions.proofs.factors.Capped.{capped-within, capped-beyond, capped-test}
-use Rattle.conditions.proofs.factors.Capped.{sum-beyond, sum-within}
-
-named-at : (fs : List Polynomial) (us : List ℕ) (i : ℕ) → i < length fs
-    → getD (named fs us) i ([], 0) ≡ (getD fs i [], getD us i 0)
-unfolding named
-named-at [] us i h = absurd (omega arith)
-named-at (f ∷ fs) [] zero h = refl
-named-at (f ∷ fs) [] (suc i) h = named-at fs [] i (omega arith)
-named-at (f ∷ fs) (u ∷ us) zero h = refl
-named-at (f ∷ fs) (u ∷ us) (suc i) h = named-at fs us i (omega arith)
-
--- The factors of a slice of slices with their upper powers.
-pub factors-length : (fs : List (RefT (List ℕ))) (us : List ℕ) → length (named (contents fs) us) ≡ length fs
-factors-length fs us = length-named (contents fs) us ∙ contents-length fs
-
-pub factor-at : (fs : List (RefT (List ℕ))) (us : List ℕ) (i : ℕ) → i < length fs
-    → getD (named (contents fs) us) i ([], 0) ≡ (now (getD fs i nowhere), getD us i 0)
-factor-at fs us i h =
-    named-at (contents fs) us i (rw contents-length h)
-    ∙ ap (λ (f : Polynomial). (f, getD us i 0)) (contents-at fs i)
-
--- The total degree along the factors.
-total-cons : (l : List (Polynomial × ℕ)) (i : ℕ) → i < length l
-    → totalDegree (drop i l)
-    ≡ (getD l i ([], 0)) .1 * degree ((getD l i ([], 0)) .0) + totalDegree (drop (i + 1) l)
-unfolding totalDegree
-total-cons l i h = rw (add-one, drop-cons l i ([], 0) h)
-
-total-at : (fs : List (RefT (List ℕ))) (us : List ℕ) (i : ℕ) → i < length fs
-    → totalDegree (drop i (named (contents fs) us))
-    ≡ getD us i 0 * degree (now (getD fs i nowhere)) + totalDegree (drop (i + 1) (named (contents fs) us))
-total-at fs us i h =
-    rw (factor-at fs us i h) at (total-cons (named (contents fs) us) i (rw factors-length h))
-
-total-past : (fs : List (RefT (List ℕ))) (us : List ℕ) (i : ℕ) → length fs ≤ i
-    → totalDegree (drop i (named (contents fs) us)) ≡ 0
-unfolding totalDegree
-total-past fs us i h =
-    ap totalDegree (drop-of-length-le (named (contents fs) us) {i = i} (rw factors-length h))
-
--- s, at most 4,096, and the total degree from factor i on are D.
-module _ (fs : List (RefT (List ℕ))) (us : List ℕ) (i s : ℕ) {D : ℕ}
-    (e : s + totalDegree (drop i (named (contents fs) us)) ≡ D) where
-  pub total-over : length fs ≤ i → s ≤ 4096 → s ≡ min D 4097
-  total-over h b = capped-within s b ∙ ap (λ (n : ℕ). min n 4097) (omega (arith, total-past fs us i h))
-
-  -- the product r of factor i, as far as the limit, of its upper power and its degree
-  module _ (h : i < length fs) {r u d : ℕ} (er : r ≡ min (u * d) 4097) (eu : u ≡ getD us i 0)
-      (ed : d ≡ degree (now (getD fs i nowhere))) where
-    split : s + (u * d + totalDegree (drop (i + 1) (named (contents fs) us))) ≡ D
-    split = rw (eu, ed, ← total-at fs us i h) e
-
-    pub total-beyond : 4096 < s + r → 4097 ≡ min D 4097
-    total-beyond b = capped-beyond D (omega (arith, split, sum-beyond s (u * d) (rw er at b)))
-
-    pub total-next : s + r ≤ 4096 → s + r + totalDegree (drop (i + 1) (named (contents fs) us)) ≡ D
-    total-next b = omega (arith, split, er, sum-within s (u * d) (rw er at b))
 
 -- No upper power before i is 0: the factors from i on decide.
 module _ (fs : List (RefT (List ℕ))) (us : List ℕ) (i : ℕ) {x : Bool}
-    (e : holdsForSome (λ f. eqb (f .1) 0) (drop i (named (contents fs) us)) ≡ x) where
+    (e : holdsForSome (λ f. eqb (f .1) 0) (drop i (named (listsOf fs) us)) ≡ x) where
   abbrev scan : Scan (holdsForSome {A = Polynomial × ℕ} (λ f. eqb (f .1) 0)) (λ f l. eqb (f .1) 0)
   scan = some-scan (λ f. eqb (f .1) 0)
 
   pub zero-found : i < length fs → getD us i 0 ≡ 0 → true ≡ x
   zero-found h q =
-      scan-found scan ([], 0) (named (contents fs) us) i e
+      scan-found scan ([], 0) (named (listsOf fs) us) i e
       (rw factors-length h)
       (rw (factor-at fs us i h) (eq-eqb _ _ q))
 
   pub zero-next : i < length fs → (getD us i 0 ≡ 0 → ⊥)
-      → holdsForSome (λ f. eqb (f .1) 0) (drop (i + 1) (named (contents fs) us)) ≡ x
+      → holdsForSome (λ f. eqb (f .1) 0) (drop (i + 1) (named (listsOf fs) us)) ≡ x
   zero-next h q =
-      scan-next scan ([], 0) (named (contents fs) us) i e
+      scan-next scan ([], 0) (named (listsOf fs) us) i e
       (rw factors-length h)
       (rw (factor-at fs us i h) (ne-eqb _ _ q))
 
   pub zeros-over : length fs ≤ i → false ≡ x
-  zeros-over h = scan-over scan ([], 0) (named (contents fs) us) i e (rw factors-length h)
+  zeros-over h = scan-over scan ([], 0) (named (listsOf fs) us) i e (rw factors-length h)
 
 -- The two grounds of refusal 14.
 module _ (l : List (Polynomial × ℕ)) where
@@ -112,7 +48,3 @@ module _ (l : List (Polynomial × ℕ)) where
       → ltb 4096 d ≡ upperPowersOutOfRange l
   unfolding upperPowersOutOfRange
   large-total h e = rw (h, e) (capped-test (totalDegree l))
-
-  pub total-known : upperPowersOutOfRange l ≡ false
-      → (totalDegree l ≤ 4096) × (min (totalDegree l) 4097 ≡ totalDegree l)
-  total-known h = let k = total-accepted l h in (k, sym (capped-within (totalDegree l) k))

@@ -18,9 +18,9 @@ use Rattle.meaning.specs.Field.{prime}
 use Rattle.meaning.specs.Conditions.{named, factorDegreeOutOfRange, notMonic}
 use Rattle.meaning.specs.Portion.{setAnswer, rateSet}
 use Rattle.meaning.specs.Calls.{SetCall}
-use Rattle.rate_set.specs.joined.Joined.{split}
-use Rattle.rate_set.proofs.joined.Nine.{call-same, call-nine}
-use Rattle.exports.specs.numbers.Numbers.{FirstNine}
+use Rattle.rate_set.specs.concatenated.Concatenated.{split}
+use Rattle.rate_set.proofs.concatenated.Nine.{call-same, call-nine}
+use Rattle.exports.specs.byte_order.LittleEndian.{FirstNine}
 
 nine-lengths : {ns ms : List ℕ} {k : ℕ} → FirstNine ns ms → k ≡ min (length ns) 9 → take k ms ≡ take 9 ns
 nine-lengths {ns} {ms} {k} f e =

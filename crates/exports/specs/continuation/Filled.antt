@@ -7,7 +7,7 @@ use mathlib.Core.Path.{_≡_}
 use mathlib.Core.List.{List}
 use Rattle.meaning.specs.Result.{Result}
 use Rattle.meaning.specs.Calls.{bufferAfter}
-use Rattle.exports.specs.results.Exported.{statusOf}
+use Rattle.exports.specs.Status.{statusOf}
 
 pub record Filled (result : Result (List ℕ)) (buffer : List ℕ) (status : ℕ) (buffer′ : List ℕ) : Type 0 where
   pub told : status ≡ statusOf result

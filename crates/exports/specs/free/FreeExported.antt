@@ -12,7 +12,7 @@ use lib.ListN.{length}
 use Rattle.meaning.specs.Result.{figuresOf}
 use Rattle.meaning.specs.Free.{Choice, FreeFigures, rateFree, ChosenFits}
 use Rattle.meaning.specs.Calls.{LentAfter}
-use Rattle.exports.specs.results.Exported.{statusOf, numberAfter}
+use Rattle.exports.specs.Status.{statusOf, numberAfter}
 
 unfoldable pub wordNumber : Bool → ℕ
 wordNumber true = 1

@@ -10,7 +10,7 @@ use mathlib.Core.List.{List}
 use Rattle.meaning.specs.Result.{Result, Rated, figuresOf}
 use Rattle.meaning.specs.Power.{PowerFigures}
 use Rattle.meaning.specs.Calls.{LentAfter}
-use Rattle.exports.specs.results.Exported.{statusOf, numberAfter}
+use Rattle.exports.specs.Status.{statusOf, numberAfter}
 
 pub record PowerTold (result : Result PowerFigures) (power degree bound status power′ degree′ bound′ : ℕ)
     : Type 0 where

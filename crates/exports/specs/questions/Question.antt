@@ -7,7 +7,7 @@ use Prim.Native.Nat.{ℕ}
 use mathlib.Core.Path.{_≡_}
 use mathlib.Core.Bool.{Bool, true, false}
 use Rattle.meaning.specs.Result.{Result, refused, answered}
-use Rattle.exports.specs.results.Exported.{statusOf}
+use Rattle.exports.specs.Status.{statusOf}
 
 unfoldable pub yesAfter : Result Bool → ℕ → ℕ
 yesAfter (refused k) n = n

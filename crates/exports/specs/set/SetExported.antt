@@ -17,8 +17,8 @@ use Rattle.meaning.specs.Result.{Result, refused, answered, Rated, figuresOf}
 use Rattle.meaning.specs.Portion.{SetFigures}
 use Rattle.meaning.specs.Answers.{padded}
 use Rattle.meaning.specs.Calls.{LentAfter}
-use Rattle.exports.specs.numbers.Numbers.{bytesOfAll}
-use Rattle.exports.specs.results.Exported.{statusOf, numberAfter}
+use Rattle.exports.specs.byte_order.LittleEndian.{bytesOfAll}
+use Rattle.exports.specs.Status.{statusOf, numberAfter}
 
 unfoldable pub PowersAfter : Result SetFigures → List ℕ → List ℕ → Type 0
 PowersAfter (refused n) powers powers′ = powers′ ≡ powers

@@ -16,8 +16,8 @@ use Rattle.meaning.specs.Route.{bodies}
 use Rattle.meaning.specs.File.{WrittenFactor, fileFactor, polynomialOf}
 use Rattle.bridge.proofs.Monics.{getD-mapped}
 use Rattle.route.specs.framing.Framing.{recordsFrom}
-use Rattle.route.specs.contents.Contents.{LaidFactor}
-use Rattle.route.proofs.contents.Stores.{sets-append}
+use Rattle.route.specs.payload.Payload.{LaidFactor}
+use Rattle.route.proofs.payload.Stores.{sets-append}
 use Rattle.conditions.proofs.factors.Scan.{some-scan, scan-found, scan-next, scan-over}
 use Rattle.rate_file.specs.factors.Written.{factorsIn, polynomialsIn, noFactor, Packed}
 

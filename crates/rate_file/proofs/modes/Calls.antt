@@ -22,7 +22,7 @@ use Rattle.meaning.specs.Answers.{toldPower, toldFree, setFiguresTold, setPadde
 use Rattle.meaning.specs.Answers.{labelTold, fileFiguresTold, labelPowers, filePadded}
 use Rattle.meaning.specs.Calls.{LentAfter, PeriodCall, SetCall, FreeCall}
 use Rattle.refusals.proofs.Lent.{lent-refused}
-use Rattle.rate_file.specs.telling.Ratings.{powerFigures, freeFigures, Tells, TellsSet, RatedFile}
+use Rattle.rate_file.specs.outcomes.Outcomes.{powerFigures, freeFigures, Tells, TellsSet, RatedFile}
 
 -- the lent bytes are left alike where refusals and polynomials are the same
 module _ {answer work answer′ work′ : List ℕ} where

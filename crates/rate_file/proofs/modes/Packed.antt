@@ -8,10 +8,10 @@ use lib.ListN.{length, take, drop}
 use lib.Seq.{take-all, take-append-seam, drop-append-seam, sets-eq}
 use Rattle.meaning.specs.Polynomial.{Polynomial}
 use Rattle.meaning.specs.File.{fileFactor, polynomialOf}
-use Rattle.route.specs.contents.Contents.{LaidFactor}
-use Rattle.route.proofs.contents.Stores.{sets-front}
+use Rattle.route.specs.payload.Payload.{LaidFactor}
+use Rattle.route.proofs.payload.Stores.{sets-front}
 use Rattle.rate_file.specs.factors.Written.{Packed}
-use Rattle.rate_set.specs.joined.Joined.{split}
+use Rattle.rate_set.specs.concatenated.Concatenated.{split}
 
 -- one factor, from the front on
 pub front-factor : {body to to′ part : List ℕ} {n : ℕ} → LaidFactor body 0 to n to′

@@ -2,7 +2,7 @@
 -- Assumes nothing.
 use mathlib.Core.Path.{sym, refl, ap, _∙_}
 use borrow.Author.Needs.{needs}
-use Rattle.rate_file.proofs.ways.Terms.{gathered-cut}
+use Rattle.rate_file.proofs.records.Terms.{gathered-cut}
 use Rattle.rate_file.proofs.modes.Calls.{rated-as, refused-rated}
 use Rattle.route.specs.walk.Walking.{toldVerdict}
 use Rattle.rate_file.proofs.Ratings.{file-accepted, file-rated, file-refused, file-number, file-call}
@@ -12,8 +12,8 @@ use Rattle.rate_file.proofs.rate_file.Tie as tie
 box-of-requires : tie.Need-box-of-requires
 box-of-requires c κs = search needs
 
-verdict-requires : tie.Need-verdict-requires
-verdict-requires c κs = search needs
+file-verdict-requires : tie.Need-file-verdict-requires
+file-verdict-requires c κs = search needs
 
 enum-known-r : tie.Need-enum-known-r
 enum-known-r c = search needs
@@ -43,7 +43,7 @@ rate-records-requires c κs =
     let g = q .before .before .before in
     let t = g .before .before in
     let v = t .before .before in (
-      file-accepted _ (sym (ap toldVerdict (t .enum-told .given .1)) ∙ v .verdict .ensures),
+      file-accepted _ (sym (ap toldVerdict (t .enum-told .given .1)) ∙ v .file-verdict .ensures),
       gathered-cut (g .gather-terms .ensures) refl (q .part .ensures),
     )
 
@@ -51,7 +51,7 @@ returns : tie.Need-returns
 unfolding toldVerdict
 returns c =
     let v = c .before .before .before .before in
-    let e = sym (ap toldVerdict (c .before .before .r .given .1)) ∙ v .verdict .ensures in
+    let e = sym (ap toldVerdict (c .before .before .r .given .1)) ∙ v .file-verdict .ensures in
     file-call _ (v .before .box-of .ensures)
     (refused-rated (file-refused _ _ _ _ e) (file-number _ e) (c .of-refusal .ensures))
 
@@ -67,7 +67,7 @@ returns-2 c =
     let f = c .before .before .before .before in
     let t = f .before .before .before .before .before .before .before .before in
     let v = t .before .before in
-    let e = sym (ap toldVerdict (t .enum-told .given .1)) ∙ v .verdict .ensures in
+    let e = sym (ap toldVerdict (t .enum-told .given .1)) ∙ v .file-verdict .ensures in
     file-call _ (v .before .box-of .ensures) (rated-as (file-rated _ _ _ _ e) (f .rate-records .ensures))
 
 pub rate-file-spec : {M : Type 1} → statement M
@@ -75,7 +75,7 @@ rate-file-spec =
     tie.close
     (tie.spec
     box-of-requires
-    verdict-requires
+    file-verdict-requires
     enum-known-r
     of-refusal-requires
     enum-told

@@ -3,7 +3,7 @@
 use mathlib.Core.Path.{sym}
 use borrow.Author.Needs.{needs}
 use Rattle.arith.proofs.Represented.{field-isField}
-use Rattle.conditions.proofs.factors.Contents.{contents-length}
+use Rattle.meaning.proofs.Slices.{lists-length}
 use Rattle.rate_set.proofs.SetWay.{set-refused, set-prime, set-lent, set-input, set-seventeen}
 use Rattle.rate_set.proofs.SetWay.{set-powers-input, set-rated}
 use Rattle.rate_set.proofs.rate_set.Statement.{statement}
@@ -82,7 +82,7 @@ returns-2 c =
     set-rated _ _ _ _ _ _ (a .before .before .set-verdict .ensures) (a .enum-told .given .1)
     (f .of-prime .ensures .isField) (field-isField (f .of-prime .ensures .wellFormed)) (y .set-powers .ensures)
     (t .if1 .taken)
-    (sym (contents-length _))
+    (sym (lists-length _))
     (w .write-product .ensures)
     (c .rated .ensures)
 

@@ -10,7 +10,7 @@ use Rattle.meaning.specs.Result.{Result, refused, answered, mapResult}
 use Rattle.meaning.specs.Route.{records, endRecord, readRecord}
 use Rattle.route.specs.framing.Framing.{recordsFrom}
 use Rattle.route.specs.walk.Walking.{verdictOf}
-use Rattle.route.proofs.file_verdict.Verdicts.{records-known}
+use Rattle.route.proofs.acceptance.Accepting.{records-known}
 
 -- where v is the verdict
 module _ (file : List ℕ) (n : ℕ) {v : Result (Unit {0})} (told : v ≡ verdictOf (records file)) where

@@ -7,15 +7,15 @@ use lib.ListN.{length, drop}
 use borrow.Author.Needs.{needs}
 use Rattle.meaning.specs.Search.{holdsForSome}
 use Rattle.meaning.specs.Polynomial.{same}
-use Rattle.conditions.specs.factors.Contents.{contents}
+use Rattle.meaning.specs.Slices.{listsOf}
 use Rattle.conditions.proofs.factors.Scan.{some-scan}
-use Rattle.conditions.proofs.factors.Contents.{factor-found, factor-next, factors-over}
+use Rattle.conditions.proofs.factors.Scan.{factor-found, factor-next, factors-over}
 use Rattle.conditions.proofs.factors.occurs_from.Statement.{statement}
 use Rattle.conditions.proofs.factors.occurs_from.Tie as tie
 
 abbrev Inv-loop : tie.InvT-loop
 Inv-loop f factors from i₀ i =
-    holdsForSome (same f) (drop i (contents factors)) ≡ holdsForSome (same f) (drop from (contents factors))
+    holdsForSome (same f) (drop i (listsOf factors)) ≡ holdsForSome (same f) (drop from (listsOf factors))
 
 abbrev μ-loop : tie.MeasureT-loop
 μ-loop f factors from i₀ i = length factors - i

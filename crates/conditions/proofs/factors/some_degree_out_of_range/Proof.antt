@@ -8,16 +8,16 @@ use borrow.Author.Needs.{needs}
 use Rattle.meaning.specs.Search.{holdsForSome}
 use Rattle.meaning.specs.Field.{prime}
 use Rattle.meaning.specs.Conditions.{factorDegreeOutOfRange}
-use Rattle.conditions.specs.factors.Contents.{contents}
+use Rattle.meaning.specs.Slices.{listsOf}
 use Rattle.conditions.proofs.factors.Scan.{some-scan}
-use Rattle.conditions.proofs.factors.Contents.{factor-found, factor-next, factors-over}
+use Rattle.conditions.proofs.factors.Scan.{factor-found, factor-next, factors-over}
 use Rattle.conditions.proofs.factors.some_degree_out_of_range.Statement.{statement}
 use Rattle.conditions.proofs.factors.some_degree_out_of_range.Tie as tie
 
 abbrev Inv-loop : tie.InvT-loop
 Inv-loop p factors i₀ i =
-    holdsForSome (factorDegreeOutOfRange (prime p)) (drop i (contents factors))
-    ≡ holdsForSome (factorDegreeOutOfRange (prime p)) (contents factors)
+    holdsForSome (factorDegreeOutOfRange (prime p)) (drop i (listsOf factors))
+    ≡ holdsForSome (factorDegreeOutOfRange (prime p)) (listsOf factors)
 
 abbrev μ-loop : tie.MeasureT-loop
 μ-loop p factors i₀ i = length factors - i

@@ -8,15 +8,15 @@ use lib.Dec.{eqb}
 use borrow.Author.Needs.{needs}
 use Rattle.meaning.specs.Search.{holdsForSome}
 use Rattle.meaning.specs.Conditions.{named}
-use Rattle.conditions.specs.factors.Contents.{contents}
+use Rattle.meaning.specs.Slices.{listsOf}
 use Rattle.conditions.proofs.factors.Uppers.{zero-found, zero-next, zeros-over}
 use Rattle.conditions.proofs.factors.some_upper_zero.Statement.{statement}
 use Rattle.conditions.proofs.factors.some_upper_zero.Tie as tie
 
 abbrev Inv-loop : tie.InvT-loop
 Inv-loop factors uppers i₀ i =
-    holdsForSome (λ f. eqb (f .1) 0) (drop i (named (contents factors) uppers))
-    ≡ holdsForSome (λ f. eqb (f .1) 0) (named (contents factors) uppers)
+    holdsForSome (λ f. eqb (f .1) 0) (drop i (named (listsOf factors) uppers))
+    ≡ holdsForSome (λ f. eqb (f .1) 0) (named (listsOf factors) uppers)
 
 abbrev μ-loop : tie.MeasureT-loop
 μ-loop factors uppers i₀ i = length factors - i

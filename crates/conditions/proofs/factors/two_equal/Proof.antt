@@ -6,14 +6,14 @@ use mathlib.Core.Path.{_≡_, refl, sym, _∙_}
 use lib.ListN.{length, drop}
 use borrow.Author.Needs.{needs}
 use Rattle.meaning.specs.Conditions.{twoEqual}
-use Rattle.conditions.specs.factors.Contents.{contents}
+use Rattle.meaning.specs.Slices.{listsOf}
 use Rattle.conditions.proofs.factors.Scan.{equal-scan}
-use Rattle.conditions.proofs.factors.Contents.{factor-found, factor-next, factors-over}
+use Rattle.conditions.proofs.factors.Scan.{factor-found, factor-next, factors-over}
 use Rattle.conditions.proofs.factors.two_equal.Statement.{statement}
 use Rattle.conditions.proofs.factors.two_equal.Tie as tie
 
 abbrev Inv-loop : tie.InvT-loop
-Inv-loop factors i₀ i = twoEqual (drop i (contents factors)) ≡ twoEqual (contents factors)
+Inv-loop factors i₀ i = twoEqual (drop i (listsOf factors)) ≡ twoEqual (listsOf factors)
 
 abbrev μ-loop : tie.MeasureT-loop
 μ-loop factors i₀ i = length factors - i

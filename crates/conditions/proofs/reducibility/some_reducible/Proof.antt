@@ -7,16 +7,16 @@ use lib.ListN.{length, drop}
 use borrow.Author.Needs.{needs}
 use Rattle.meaning.specs.Search.{holdsForSome}
 use Rattle.meaning.specs.Conditions.{isReducible}
-use Rattle.conditions.specs.factors.Contents.{contents}
+use Rattle.meaning.specs.Slices.{listsOf}
 use Rattle.conditions.proofs.factors.Scan.{some-scan}
-use Rattle.conditions.proofs.factors.Contents.{factor-found, factor-next, factors-over}
+use Rattle.conditions.proofs.factors.Scan.{factor-found, factor-next, factors-over}
 use Rattle.conditions.proofs.reducibility.some_reducible.Statement.{statement}
 use Rattle.conditions.proofs.reducibility.some_reducible.Tie as tie
 
 abbrev Inv-loop : tie.InvT-loop
 Inv-loop p factors i₀ i =
-    holdsForSome (isReducible p) (drop i (contents factors))
-    ≡ holdsForSome (isReducible p) (contents factors)
+    holdsForSome (isReducible p) (drop i (listsOf factors))
+    ≡ holdsForSome (isReducible p) (listsOf factors)
 
 abbrev μ-loop : tie.MeasureT-loop
 μ-loop p factors i₀ i = length factors - i

@@ -1,7 +1,7 @@
 -- `rater_continue_sequence` meets its contract: at each arm the answer tells what the arm names.
 -- Assumes nothing.
 use borrow.Author.Needs.{needs}
-use Rattle.exports.proofs.continuation.Told.{told-filled, told-unfilled}
+use Rattle.exports.proofs.continuation.FillingStatus.{told-filled, told-unfilled}
 use Rattle.exports.proofs.continuation.rater_continue_sequence.Statement.{statement}
 use Rattle.exports.proofs.continuation.rater_continue_sequence.Tie as tie
 
@@ -14,8 +14,8 @@ enum-told c = search needs
 enum-known-r : tie.Need-enum-known-r
 enum-known-r c = search needs
 
-number-of-requires : tie.Need-number-of-requires
-number-of-requires c κs = search needs
+refusal-number-requires : tie.Need-refusal-number-requires
+refusal-number-requires c κs = search needs
 
 same-length : tie.Need-same-length
 same-length c = search needs
@@ -31,7 +31,7 @@ returns-2 : tie.Need-returns-2
 returns-2 c =
     let v = c .before .before in
     told-unfilled (v .before .before .before .before .continue-sequence .ensures) (v .r .given .1)
-    (c .number-of .ensures)
+    (c .refusal-number .ensures)
 
 pub rater-continue-sequence-spec : {M : Type 1} → statement M
 rater-continue-sequence-spec =
@@ -40,7 +40,7 @@ rater-continue-sequence-spec =
     continue-sequence-requires
     enum-told
     enum-known-r
-    number-of-requires
+    refusal-number-requires
     same-length
     returns
     same-length-2

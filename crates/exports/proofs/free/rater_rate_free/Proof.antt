@@ -1,7 +1,7 @@
 -- `rater_rate_free` meets its contract: at each arm the answer tells what the arm names.
 -- Assumes nothing.
 use borrow.Author.Needs.{needs}
-use Rattle.exports.proofs.free.ToldFree.{told-unique, told-several, told-unrated}
+use Rattle.exports.proofs.free.FreeStatus.{told-unique, told-several, told-unrated}
 use Rattle.exports.proofs.free.rater_rate_free.Statement.{statement}
 use Rattle.exports.proofs.free.rater_rate_free.Tie as tie
 
@@ -17,8 +17,8 @@ enum-known-l-2 c = search needs
 enum-known-r : tie.Need-enum-known-r
 enum-known-r c = search needs
 
-number-of-requires : tie.Need-number-of-requires
-number-of-requires c κs = search needs
+refusal-number-requires : tie.Need-refusal-number-requires
+refusal-number-requires c κs = search needs
 
 same-length : tie.Need-same-length
 same-length c = search needs
@@ -52,7 +52,7 @@ returns-3 : tie.Need-returns-3
 returns-3 c =
     let v = c .before .before in
     told-unrated (v .before .before .before .before .before .before .rate-free .ensures) (v .r .given .1)
-    (c .number-of .ensures)
+    (c .refusal-number .ensures)
 
 pub rater-rate-free-spec : {M : Type 1} → statement M
 rater-rate-free-spec =
@@ -62,7 +62,7 @@ rater-rate-free-spec =
     enum-known-l
     enum-known-l-2
     enum-known-r
-    number-of-requires
+    refusal-number-requires
     same-length
     same-length-2
     returns

@@ -1,7 +1,7 @@
 -- `rater_rate_period` meets its contract: it tells what the call that it wraps answers.
 -- Assumes nothing.
 use borrow.Author.Needs.{needs}
-use Rattle.exports.proofs.one_factor.ToldPower.{period-exported}
+use Rattle.exports.proofs.one_factor.PowerStatus.{period-exported}
 use Rattle.exports.proofs.one_factor.rater_rate_period.Statement.{statement}
 use Rattle.exports.proofs.one_factor.rater_rate_period.Tie as tie
 

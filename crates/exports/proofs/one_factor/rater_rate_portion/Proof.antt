@@ -1,7 +1,7 @@
 -- `rater_rate_portion` meets its contract: it tells what the call that it wraps answers.
 -- Assumes nothing.
 use borrow.Author.Needs.{needs}
-use Rattle.exports.proofs.one_factor.ToldPower.{portion-exported}
+use Rattle.exports.proofs.one_factor.PowerStatus.{portion-exported}
 use Rattle.exports.proofs.one_factor.rater_rate_portion.Statement.{statement}
 use Rattle.exports.proofs.one_factor.rater_rate_portion.Tie as tie
 

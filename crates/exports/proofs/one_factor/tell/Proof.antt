@@ -1,7 +1,7 @@
 -- `tell` meets its contract: at each arm the rating tells what the arm names.
 -- Assumes nothing.
 use borrow.Author.Needs.{needs}
-use Rattle.exports.proofs.one_factor.ToldPower.{power-told, power-untold}
+use Rattle.exports.proofs.one_factor.PowerStatus.{power-told, power-untold}
 use Rattle.exports.proofs.one_factor.tell.Statement.{statement}
 use Rattle.exports.proofs.one_factor.tell.Tie as tie
 
@@ -11,14 +11,14 @@ enum-known-rating c = search needs
 enum-known-rating-2 : tie.Need-enum-known-rating-2
 enum-known-rating-2 c = search needs
 
-number-of-requires : tie.Need-number-of-requires
-number-of-requires c κs = search needs
+refusal-number-requires : tie.Need-refusal-number-requires
+refusal-number-requires c κs = search needs
 
 returns : tie.Need-returns
 returns c = power-told (c .before .rating .given .1)
 
 returns-2 : tie.Need-returns-2
-returns-2 c = power-untold (c .before .before .rating2 .given .1) (c .number-of .ensures)
+returns-2 c = power-untold (c .before .before .rating2 .given .1) (c .refusal-number .ensures)
 
 pub tell-spec : {M : Type 1} → statement M
 tell-spec =
@@ -26,6 +26,6 @@ tell-spec =
     (tie.spec
     enum-known-rating
     enum-known-rating-2
-    number-of-requires
+    refusal-number-requires
     returns
     returns-2)

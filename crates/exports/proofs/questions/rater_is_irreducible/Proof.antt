@@ -1,7 +1,7 @@
 -- `rater_is_irreducible` meets its contract: at each arm the answer tells what the arm names.
 -- Assumes nothing.
 use borrow.Author.Needs.{needs}
-use Rattle.exports.proofs.questions.Told.{told-yes, told-no, told-refused}
+use Rattle.exports.proofs.questions.AnswerStatus.{told-yes, told-no, told-refused}
 use Rattle.exports.proofs.questions.rater_is_irreducible.Statement.{statement}
 use Rattle.exports.proofs.questions.rater_is_irreducible.Tie as tie
 
@@ -17,8 +17,8 @@ enum-told-2 c = search needs
 enum-known-r : tie.Need-enum-known-r
 enum-known-r c = search needs
 
-number-of-requires : tie.Need-number-of-requires
-number-of-requires c κs = search needs
+refusal-number-requires : tie.Need-refusal-number-requires
+refusal-number-requires c κs = search needs
 
 returns : tie.Need-returns
 returns c = told-yes _ (c .before .before .is-irreducible .ensures .answer) (c .enum-told .given .1)
@@ -30,7 +30,7 @@ returns-3 : tie.Need-returns-3
 returns-3 c =
     let v = c .before .before in
     told-refused _ (v .before .before .is-irreducible .ensures .answer) (v .r .given .1)
-    (c .number-of .ensures)
+    (c .refusal-number .ensures)
 
 pub rater-is-irreducible-spec : {M : Type 1} → statement M
 rater-is-irreducible-spec =
@@ -40,7 +40,7 @@ rater-is-irreducible-spec =
     enum-told
     enum-told-2
     enum-known-r
-    number-of-requires
+    refusal-number-requires
     returns
     returns-2
     returns-3)

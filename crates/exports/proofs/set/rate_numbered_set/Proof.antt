@@ -20,20 +20,20 @@ number-count-requires c κs = search needs
 at-most-nine-requires : tie.Need-at-most-nine-requires
 at-most-nine-requires c κs = search needs
 
-sub-rate-joined-set : tie.Need-sub-rate-joined-set
-sub-rate-joined-set c = search needs
+sub-rate-concatenated : tie.Need-sub-rate-concatenated
+sub-rate-concatenated c = search needs
 
-part-rate-joined-set-start : tie.Need-part-rate-joined-set-start
-part-rate-joined-set-start c = search needs
+part-rate-concatenated-start : tie.Need-part-rate-concatenated-start
+part-rate-concatenated-start c = search needs
 
-part-rate-joined-set-end : tie.Need-part-rate-joined-set-end
-part-rate-joined-set-end c = search needs
+part-rate-concatenated-end : tie.Need-part-rate-concatenated-end
+part-rate-concatenated-end c = search needs
 
-slice-aggregate-rate-joined-set : tie.Need-slice-aggregate-rate-joined-set
-slice-aggregate-rate-joined-set c = search needs
+slice-aggregate-rate-concatenated : tie.Need-slice-aggregate-rate-concatenated
+slice-aggregate-rate-concatenated c = search needs
 
-rate-joined-set-requires : tie.Need-rate-joined-set-requires
-rate-joined-set-requires c κs = search needs
+rate-concatenated-requires : tie.Need-rate-concatenated-requires
+rate-concatenated-requires c κs = search needs
 
 same-length : tie.Need-same-length
 same-length c = search needs
@@ -51,7 +51,7 @@ returns c =
     let s = f .before .before .before .before .before .before .before in
     numbered-call (now (s .args .factors)) (f .first-nine .ensures) (u .first-nine2 .ensures)
     (n .at-most-nine .ensures ∙ ap (λ m. min m 9) (k .number-count .ensures))
-    (r .rate-joined-set .ensures)
+    (r .rate-concatenated .ensures)
 
 pub rate-numbered-set-spec : {M : Type 1} → statement M
 rate-numbered-set-spec =
@@ -61,11 +61,11 @@ rate-numbered-set-spec =
     first-nine-requires-2
     number-count-requires
     at-most-nine-requires
-    sub-rate-joined-set
-    part-rate-joined-set-start
-    part-rate-joined-set-end
-    slice-aggregate-rate-joined-set
-    rate-joined-set-requires
+    sub-rate-concatenated
+    part-rate-concatenated-start
+    part-rate-concatenated-end
+    slice-aggregate-rate-concatenated
+    rate-concatenated-requires
     same-length
     same-length-2
     returns)

@@ -2,7 +2,7 @@
 -- Assumes nothing.
 use denote.Ref.{now}
 use borrow.Author.Needs.{needs}
-use Rattle.exports.proofs.set.ToldSet.{set-told, set-untold}
+use Rattle.exports.proofs.set.SetStatus.{set-told, set-untold}
 use Rattle.exports.proofs.set.rater_rate_set.Statement.{statement}
 use Rattle.exports.proofs.set.rater_rate_set.Tie as tie
 
@@ -18,8 +18,8 @@ write-eight-requires c κs = search needs
 enum-known-outcome-2 : tie.Need-enum-known-outcome-2
 enum-known-outcome-2 c = search needs
 
-number-of-requires : tie.Need-number-of-requires
-number-of-requires c κs = search needs
+refusal-number-requires : tie.Need-refusal-number-requires
+refusal-number-requires c κs = search needs
 
 same-length : tie.Need-same-length
 same-length c = search needs
@@ -48,7 +48,7 @@ returns-2 : tie.Need-returns-2
 returns-2 c =
     let v = c .before .before in
     let j = v .before .before .before .before .before .before .before in
-    set-untold (j .rate-numbered-set .ensures) (v .outcome2 .given .1) (c .number-of .ensures)
+    set-untold (j .rate-numbered-set .ensures) (v .outcome2 .given .1) (c .refusal-number .ensures)
 
 pub rater-rate-set-spec : {M : Type 1} → statement M
 rater-rate-set-spec =
@@ -58,7 +58,7 @@ rater-rate-set-spec =
     enum-known-outcome
     write-eight-requires
     enum-known-outcome-2
-    number-of-requires
+    refusal-number-requires
     same-length
     same-length-2
     same-length-3

@@ -1,7 +1,7 @@
 -- `product::write_power` meets its contract. Assumes nothing.
 use borrow.Author.Needs.{needs}
 use Rattle.arith.proofs.Represented.{field-isField}
-use Rattle.conditions.specs.factors.Contents.{contents}
+use Rattle.meaning.specs.Slices.{listsOf}
 use Rattle.powers.proofs.product.Products.{one-input, one-written}
 use Rattle.powers.proofs.product.write_power.Statement.{statement}
 use Rattle.powers.proofs.product.write_power.Tie as tie
@@ -13,7 +13,7 @@ slice-aggregate-write-product-2 : tie.Need-slice-aggregate-write-product-2
 slice-aggregate-write-product-2 c = search needs
 
 write-product-requires : tie.Need-write-product-requires
-unfolding contents
+unfolding listsOf
 write-product-requires c κs =
     let s = c .before .before .before .before .before in (s .pre .0, (s .pre .1 .0, one-input (s .pre .1 .1)))
 
@@ -21,7 +21,7 @@ same-length : tie.Need-same-length
 same-length c = search needs
 
 returns : tie.Need-returns
-unfolding contents
+unfolding listsOf
 returns c =
     let s = c .before .before .before .before .before .before .before .before in
     one-written (field-isField (s .pre .0)) (s .pre .1 .1) (c .before .before .write-product .ensures)

@@ -9,8 +9,8 @@ use borrow.Author.Needs.{needs}
 use Rattle.meaning.specs.Polynomial.{power}
 use Rattle.arith.specs.Represented.{fieldOf}
 use Rattle.arith.proofs.Represented.{field-isField}
-use Rattle.conditions.specs.factors.Contents.{contents}
-use Rattle.conditions.proofs.factors.Contents.{contents-length, contents-at}
+use Rattle.meaning.specs.Slices.{listsOf}
+use Rattle.meaning.proofs.Slices.{lists-length, lists-at}
 use Rattle.poly.specs.products.Product.{Multiplied}
 use Rattle.poly.specs.raising.Raising.{Raising}
 use Rattle.powers.proofs.product.Products.{Multiplying, multiplying-start, multiplying-end}
@@ -20,7 +20,7 @@ use Rattle.powers.proofs.product.write_product.Tie as tie
 
 abbrev Inv-loop : tie.InvT-loop
 Inv-loop field answer₀ factors powers n₀ i₀ answer n i =
-    Multiplying (fieldOf field) (contents factors) powers answer₀ answer i n
+    Multiplying (fieldOf field) (listsOf factors) powers answer₀ answer i n
     × (length answer ≡ length answer₀)
 
 abbrev μ-loop : tie.MeasureT-loop
@@ -28,8 +28,8 @@ abbrev μ-loop : tie.MeasureT-loop
 
 -- there is a factor at i, and a power
 at-factor : (c : tie.In-loop Inv-loop μ-loop)
-    → c .before .loop .i < length (contents (c .before .before .before .before .args .factors .now))
-at-factor c = rw contents-length (c .loop-test .taken)
+    → c .before .loop .i < length (listsOf (c .before .before .before .before .args .factors .now))
+at-factor c = rw lists-length (c .loop-test .taken)
 
 at-power : (c : tie.In-loop Inv-loop μ-loop)
     → c .before .loop .i < length (c .before .before .before .before .args .powers .now)
@@ -41,7 +41,7 @@ slice-write-answer c = omega arith
 loop-holds : tie.Need-loop-holds Inv-loop μ-loop
 loop-holds c =
     let s = c .before .before in (
-      multiplying-start (fieldOf (s .args .field)) (contents (s .args .factors .now)) (s .args .powers .now)
+      multiplying-start (fieldOf (s .args .field)) (listsOf (s .args .factors .now)) (s .args .powers .now)
           (s .args .answer .now) (s .pre .1 .0),
       refl,
     )
@@ -69,7 +69,7 @@ times-power-requires c κs =
       subst
           (λ f.
           Raising (fieldOf (s .args .field)) f (getD (s .args .powers .now) (l .i) 0) (l .answer) (l .n))
-          (contents-at (s .args .factors .now) (l .i))
+          (lists-at (s .args .factors .now) (l .i))
           (multiplying-raising (field-isField (s .pre .0)) (s .pre .1 .1) (l .inv .0) (at-factor i)
           (omega (arith, s .pre .1 .0, length-set (s .args .answer .now) 0 1))),
     )
@@ -92,7 +92,7 @@ loop-again c =
           Multiplied (fieldOf (s .args .field))
           (power (fieldOf (s .args .field)) f (getD (s .args .powers .now) (l .i) 0))
           (l .answer) (l .n) (t .last .1 .1 .1 .0) (t .result))
-          (sym (contents-at (s .args .factors .now) (l .i))) (t .ensures)),
+          (sym (lists-at (s .args .factors .now) (l .i))) (t .ensures)),
       t .kept .1 .1 .1 .0 ∙ l .inv .1,
     )
 
@@ -104,7 +104,7 @@ returns : tie.Need-returns Inv-loop μ-loop
 returns c =
     let s = c .before .before .before .before in
     multiplying-end (field-isField (s .pre .0)) (s .pre .1 .1) (c .before .loop .inv .0)
-    (s .args .answer .now) (s .pre .1 .0) refl (rw contents-length (c .loop-test .left))
+    (s .args .answer .now) (s .pre .1 .0) refl (rw lists-length (c .loop-test .left))
 
 pub write-product-spec : {M : Type 1} → statement M
 write-product-spec =

@@ -38,8 +38,8 @@ put-word-line-requires-2 c κs = search needs
 enum-known-outcome-4 : tie.Need-enum-known-outcome-4
 enum-known-outcome-4 c = search needs
 
-number-of-requires : tie.Need-number-of-requires
-number-of-requires c κs = search needs
+refusal-number-requires : tie.Need-refusal-number-requires
+refusal-number-requires c κs = search needs
 
 put-refused-requires : tie.Need-put-refused-requires
 put-refused-requires c κs = search needs
@@ -90,7 +90,7 @@ returns-4 c =
     let n = y .before .before in
     let o = n .before .before in
     let a = o .before .before .before .args in
-    within-as (result-refused (a .sender) (a .t3) (o .outcome4 .given .1) (n .number-of .ensures))
+    within-as (result-refused (a .sender) (a .t3) (o .outcome4 .given .1) (n .refusal-number .ensures))
     (search needs)
     (y .put-refused .ensures)
 
@@ -108,7 +108,7 @@ put-result-spec =
     slice-aggregate-put-word-line-2
     put-word-line-requires-2
     enum-known-outcome-4
-    number-of-requires
+    refusal-number-requires
     put-refused-requires
     same-length
     returns

@@ -19,29 +19,29 @@ pack-factors-requires c κs = search needs
 gather-uppers-requires : tie.Need-gather-uppers-requires
 gather-uppers-requires c κs = search needs
 
-slice-aggregate-rate-joined-set : tie.Need-slice-aggregate-rate-joined-set
-slice-aggregate-rate-joined-set c = search needs
+slice-aggregate-rate-concatenated : tie.Need-slice-aggregate-rate-concatenated
+slice-aggregate-rate-concatenated c = search needs
 
-sub-rate-joined-set : tie.Need-sub-rate-joined-set
-sub-rate-joined-set c = search needs
+sub-rate-concatenated : tie.Need-sub-rate-concatenated
+sub-rate-concatenated c = search needs
 
-part-rate-joined-set-start : tie.Need-part-rate-joined-set-start
-part-rate-joined-set-start c = search needs
+part-rate-concatenated-start : tie.Need-part-rate-concatenated-start
+part-rate-concatenated-start c = search needs
 
-part-rate-joined-set-end : tie.Need-part-rate-joined-set-end
-part-rate-joined-set-end c = search needs
+part-rate-concatenated-end : tie.Need-part-rate-concatenated-end
+part-rate-concatenated-end c = search needs
 
-sub-rate-joined-set-2 : tie.Need-sub-rate-joined-set-2
-sub-rate-joined-set-2 c = search needs
+sub-rate-concatenated-2 : tie.Need-sub-rate-concatenated-2
+sub-rate-concatenated-2 c = search needs
 
-part-rate-joined-set-start-2 : tie.Need-part-rate-joined-set-start-2
-part-rate-joined-set-start-2 c = search needs
+part-rate-concatenated-start-2 : tie.Need-part-rate-concatenated-start-2
+part-rate-concatenated-start-2 c = search needs
 
-part-rate-joined-set-end-2 : tie.Need-part-rate-joined-set-end-2
-part-rate-joined-set-end-2 c = search needs
+part-rate-concatenated-end-2 : tie.Need-part-rate-concatenated-end-2
+part-rate-concatenated-end-2 c = search needs
 
-rate-joined-set-requires : tie.Need-rate-joined-set-requires
-rate-joined-set-requires c κs = search needs
+rate-concatenated-requires : tie.Need-rate-concatenated-requires
+rate-concatenated-requires c κs = search needs
 
 of-set-requires : tie.Need-of-set-requires
 of-set-requires c κs = search needs
@@ -60,7 +60,7 @@ returns c =
     let s = f .before .before .before .before .before .before in
     let e = split-packed (f .pack-factors .ensures) (s .pre .2) in
     let u = ap (λ (n : ℕ). take n (g .gather-uppers .result)) (sub-zero (s .args .count)) in
-    let h = set-same e (u ∙ g .gather-uppers .ensures) (r .rate-joined-set .ensures) in
+    let h = set-same e (u ∙ g .gather-uppers .ensures) (r .rate-concatenated .ensures) in
     set-rated _ h (c .of-set .ensures)
 
 pub rate-set-file-spec : {M : Type 1} → statement M
@@ -70,14 +70,14 @@ rate-set-file-spec =
     slice-aggregate-pack-factors
     pack-factors-requires
     gather-uppers-requires
-    slice-aggregate-rate-joined-set
-    sub-rate-joined-set
-    part-rate-joined-set-start
-    part-rate-joined-set-end
-    sub-rate-joined-set-2
-    part-rate-joined-set-start-2
-    part-rate-joined-set-end-2
-    rate-joined-set-requires
+    slice-aggregate-rate-concatenated
+    sub-rate-concatenated
+    part-rate-concatenated-start
+    part-rate-concatenated-end
+    sub-rate-concatenated-2
+    part-rate-concatenated-start-2
+    part-rate-concatenated-end-2
+    rate-concatenated-requires
     of-set-requires
     same-length
     same-length-2

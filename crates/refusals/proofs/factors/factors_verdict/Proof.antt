@@ -9,22 +9,22 @@ use borrow.Author.Needs.{needs}
 use Rattle.meaning.specs.Result.{Check}
 use Rattle.meaning.specs.Answers.{numberOf}
 use Rattle.meaning.specs.Conditions.{factorCountOutOfRange}
-use Rattle.conditions.specs.factors.Contents.{contents}
-use Rattle.conditions.proofs.factors.Contents.{contents-length}
+use Rattle.meaning.specs.Slices.{listsOf}
+use Rattle.meaning.proofs.Slices.{lists-length}
 use Rattle.refusals.specs.Verdicts.{numberIn, factorsTable}
 use Rattle.refusals.proofs.Order.{Passed, first-here, first-skip, first-nowhere}
 use Rattle.refusals.proofs.factors.factors_verdict.Statement.{statement}
 use Rattle.refusals.proofs.factors.factors_verdict.Tie as tie
 
 abbrev table : tie.Start → List Check
-table s = factorsTable (s .args .p) (contents (now (s .args .factors)))
+table s = factorsTable (s .args .p) (listsOf (now (s .args .factors)))
 
 counted : (c : tie.After-factor-count-out-of-range)
     → c .factor-count-out-of-range .result
-    ≡ factorCountOutOfRange (length (contents (now (c .before .args .factors))))
+    ≡ factorCountOutOfRange (length (listsOf (now (c .before .args .factors))))
 counted c =
     c .factor-count-out-of-range .ensures
-    ∙ ap factorCountOutOfRange (sym (contents-length (now (c .before .args .factors))))
+    ∙ ap factorCountOutOfRange (sym (lists-length (now (c .before .args .factors))))
 
 abbrev at-1 : tie.Else1 → tie.Start
 at-1 c = c .before .before

@@ -6,7 +6,7 @@ use denote.Ref.{now}
 use borrow.Author.Needs.{needs}
 use Rattle.meaning.specs.Result.{Check, firstOf}
 use Rattle.meaning.specs.Conditions.{named}
-use Rattle.conditions.specs.factors.Contents.{contents}
+use Rattle.meaning.specs.Slices.{listsOf}
 use Rattle.refusals.specs.Verdicts.{termsTable, oneFactorTable, powersTable}
 use Rattle.refusals.proofs.Ways.{portion-parts}
 use Rattle.refusals.proofs.Order.{refused-before, refused-second, accepted-both}
@@ -75,7 +75,7 @@ returns-2 c =
 
 -- the rest decides
 returns-3 : tie.Need-returns-3
-unfolding contents named
+unfolding listsOf named
 returns-3 c =
     let t = c .before .before .before in
     let v = t .before .before in

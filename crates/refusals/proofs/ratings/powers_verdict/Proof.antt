@@ -9,7 +9,7 @@ use Rattle.meaning.specs.Result.{Check}
 use Rattle.meaning.specs.Answers.{numberOf}
 use Rattle.meaning.specs.Polynomial.{Polynomial}
 use Rattle.meaning.specs.Conditions.{named, totalDegree, fewerTermsThan}
-use Rattle.conditions.specs.factors.Contents.{contents}
+use Rattle.meaning.specs.Slices.{listsOf}
 use Rattle.conditions.proofs.factors.Uppers.{total-known}
 use Rattle.refusals.specs.Verdicts.{numberIn, powersTable}
 use Rattle.refusals.proofs.Order.{Passed, first-here, first-skip, first-nowhere}
@@ -17,7 +17,7 @@ use Rattle.refusals.proofs.ratings.powers_verdict.Statement.{statement}
 use Rattle.refusals.proofs.ratings.powers_verdict.Tie as tie
 
 abbrev pairs : tie.Start → List (Polynomial × ℕ)
-pairs s = named (contents (now (s .args .factors))) (now (s .args .uppers))
+pairs s = named (listsOf (now (s .args .factors))) (now (s .args .uppers))
 
 abbrev table : tie.Start → List Check
 table s = powersTable (pairs s) (now (s .args .terms)) (s .args .answer) (s .args .work)

@@ -6,7 +6,7 @@ use denote.Ref.{now}
 use borrow.Author.Needs.{needs}
 use Rattle.meaning.specs.Result.{Check, firstOf}
 use Rattle.meaning.specs.Conditions.{named}
-use Rattle.conditions.specs.factors.Contents.{contents}
+use Rattle.meaning.specs.Slices.{listsOf}
 use Rattle.refusals.specs.Verdicts.{termsTable, factorsTable, powersTable}
 use Rattle.refusals.proofs.Ways.{set-parts}
 use Rattle.refusals.proofs.Order.{refused-before, refused-second, accepted-both}
@@ -20,11 +20,11 @@ abbrev terms : tie.Start → List Check
 terms s = termsTable (s .args .p) (now (s .args .terms))
 
 abbrev factors : tie.Start → List Check
-factors s = factorsTable (s .args .p) (contents (now (s .args .factors)))
+factors s = factorsTable (s .args .p) (listsOf (now (s .args .factors)))
 
 abbrev rest : tie.Start → List Check
 rest s =
-    powersTable (named (contents (now (s .args .factors))) (now (s .args .uppers))) (now (s .args .terms))
+    powersTable (named (listsOf (now (s .args .factors))) (now (s .args .uppers))) (now (s .args .terms))
     (s .args .answer)
     (s .args .work)
 

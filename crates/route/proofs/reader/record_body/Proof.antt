@@ -8,8 +8,8 @@ use Rattle.route.proofs.reader.Readings.{read-refused, read-found}
 use Rattle.route.proofs.reader.record_body.Statement.{statement}
 use Rattle.route.proofs.reader.record_body.Tie as tie
 
-verdict-requires : tie.Need-verdict-requires
-verdict-requires c κs = search needs
+file-verdict-requires : tie.Need-file-verdict-requires
+file-verdict-requires c κs = search needs
 
 enum-told : tie.Need-enum-told
 enum-told c = search needs
@@ -35,13 +35,13 @@ body-at-requires c κs = search needs
 returns : tie.Need-returns
 unfolding bodyAfter toldVerdict
 returns c =
-    let v = c .before .before .before .verdict .ensures in
+    let v = c .before .before .before .file-verdict .ensures in
     rw (read-refused _ _ v (ap toldVerdict (c .before .enum-told .given .1)))
 
 returns-2 : tie.Need-returns-2
 unfolding bodyAfter toldVerdict
 returns-2 c =
-    let v = c .before .before .before .before .verdict .ensures in
+    let v = c .before .before .before .before .file-verdict .ensures in
     let e = ap toldVerdict (c .before .before .enum-told2 .given .1) in
     rw (read-found _ _ v e _ (c .before .place-of .ensures)) (c .body-at .ensures)
 
@@ -49,7 +49,7 @@ pub record-body-spec : {M : Type 1} → statement M
 record-body-spec =
     tie.close
     (tie.spec
-    verdict-requires
+    file-verdict-requires
     enum-told
     sub-result
     part-result-start

@@ -9,8 +9,8 @@ use Rattle.route.proofs.reader.Readings.{read-refused, read-found}
 use Rattle.route.proofs.reader.record_outcome.Statement.{statement}
 use Rattle.route.proofs.reader.record_outcome.Tie as tie
 
-verdict-requires : tie.Need-verdict-requires
-verdict-requires c κs = search needs
+file-verdict-requires : tie.Need-file-verdict-requires
+file-verdict-requires c κs = search needs
 
 enum-known-r : tie.Need-enum-known-r
 enum-known-r c = search needs
@@ -27,13 +27,13 @@ kind-at-requires c κs = search needs
 returns : tie.Need-returns
 unfolding toldRecord toldVerdict mapResult
 returns c =
-    let v = c .before .before .before .verdict .ensures in
+    let v = c .before .before .before .file-verdict .ensures in
     rw (read-refused _ _ v (ap toldVerdict (c .before .r .given .1)))
 
 returns-2 : tie.Need-returns-2
 unfolding toldRecord toldVerdict mapResult
 returns-2 c =
-    let v = c .before .before .before .before .verdict .ensures in
+    let v = c .before .before .before .before .file-verdict .ensures in
     let e = ap toldVerdict (c .before .before .enum-told .given .1) in
     rw (read-found _ _ v e _ (c .before .place-of .ensures), c .kind-at .ensures)
 
@@ -41,7 +41,7 @@ pub record-outcome-spec : {M : Type 1} → statement M
 record-outcome-spec =
     tie.close
     (tie.spec
-    verdict-requires
+    file-verdict-requires
     enum-known-r
     enum-told
     place-of-requires

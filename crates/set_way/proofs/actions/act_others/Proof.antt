@@ -7,8 +7,8 @@ use mathlib.Core.Logic.{⊎-elim}
 use native.Mathlib.Omega.{arith}
 use lib.ListN.{length, getD}
 use borrow.Author.Needs.{needs}
-use Rattle.conditions.specs.factors.Contents.{contents}
-use Rattle.conditions.proofs.factors.Contents.{contents-length, contents-at}
+use Rattle.meaning.specs.Slices.{listsOf}
+use Rattle.meaning.proofs.Slices.{lists-length, lists-at}
 use Rattle.lent.specs.halves.Halves.{half}
 use Rattle.action.specs.power_action.Acting.{Actable, PowerActed}
 use Rattle.lent.proofs.halves.Bytes.{half-length}
@@ -20,15 +20,15 @@ use Rattle.set_way.proofs.actions.act_others.Tie as tie
 
 abbrev Inv-loop : tie.InvT-loop
 Inv-loop field work₀ n factors uppers skip at₀ count₀ j₀ work at count j =
-    Passing field (contents factors) uppers skip (half work₀ 0 n) work₀ work at count j
+    Passing field (listsOf factors) uppers skip (half work₀ 0 n) work₀ work at count j
 
 abbrev μ-loop : tie.MeasureT-loop
 μ-loop field work₀ n factors uppers skip at₀ count₀ j₀ work at count j = length factors - j
 
 -- there is a factor at j
 at-factor : (c : tie.In-loop Inv-loop μ-loop)
-    → c .before .loop .j < length (contents (c .before .before .before .before .args .factors .now))
-at-factor c = rw contents-length (c .loop-test .taken)
+    → c .before .loop .j < length (listsOf (c .before .before .before .before .args .factors .now))
+at-factor c = rw lists-length (c .loop-test .taken)
 
 loop-holds : tie.Need-loop-holds Inv-loop μ-loop
 loop-holds c =
@@ -64,7 +64,7 @@ act-power-requires c κs =
         subst
             (λ f.
             Actable (s .args .field) (l .work) (l .at) (l .count) f (getD (s .args .uppers .now) (l .j) 0))
-            (contents-at (s .args .factors .now) (l .j))
+            (lists-at (s .args .factors .now) (l .j))
             (passing-actable (s .pre .0) (s .pre .1 .1) (s .args .skip) (l .inv) (at-factor i)
             (c .before .before .before .if1 .taken)),
       ),
@@ -89,7 +89,7 @@ loop-again c =
     (λ f.
     PowerActed (s .args .field) (l .work) (l .at) (l .count) f (getD (s .args .uppers .now) (l .j) 0)
     (w .4 .last .1 .0) (w .4 .result))
-    (sym (contents-at (s .args .factors .now) (l .j))) (w .4 .ensures))))
+    (sym (lists-at (s .args .factors .now) (l .j))) (w .4 .ensures))))
     (λ w.
     rw (w .1, w .2, w .3)
     (passing-own (s .pre .0) (s .pre .1 .1) (s .args .skip) (l .inv) (at-factor i) (w .0 .left)))
@@ -102,7 +102,7 @@ returns : tie.Need-returns Inv-loop μ-loop
 returns c =
     let s = c .before .before .before .before in
     passing-end (s .pre .0) (s .pre .1 .1) (s .args .skip) (c .before .loop .inv)
-    (rw contents-length (c .loop-test .left)) refl (half-length (s .pre .1 .0))
+    (rw lists-length (c .loop-test .left)) refl (half-length (s .pre .1 .0))
 
 pub act-others-spec : {M : Type 1} → statement M
 act-others-spec =

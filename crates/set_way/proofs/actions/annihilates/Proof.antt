@@ -4,7 +4,7 @@ use native.Mathlib.Nat as ℕ
 use native.Mathlib.Omega.{arith}
 use borrow.Author.Needs.{needs}
 use Rattle.lent.specs.halves.Halves.{Halves}
-use Rattle.conditions.proofs.factors.Contents.{contents-length}
+use Rattle.meaning.proofs.Slices.{lists-length}
 use Rattle.set_way.proofs.actions.Loaded.{set-halves, loaded-halves, loaded-set, left-halves, decided-set}
 use Rattle.set_way.proofs.actions.annihilates.Statement.{statement}
 use Rattle.set_way.proofs.actions.annihilates.Tie as tie
@@ -54,7 +54,7 @@ returns c =
     let o = c .before .before .before .before .before .before in
     let s = o .before .before .before .before .before .before .before .before .before in
     decided-set (s .pre .1 .1) (s .pre .1 .0) (o .before .before .before .before .load .ensures)
-    (o .act-others .ensures) (ℕ.le-of-eq (contents-length (s .args .factors .now))) (c .all-zero .ensures)
+    (o .act-others .ensures) (ℕ.le-of-eq (lists-length (s .args .factors .now))) (c .all-zero .ensures)
 
 pub annihilates-spec : {M : Type 1} → statement M
 annihilates-spec =

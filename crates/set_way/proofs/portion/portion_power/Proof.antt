@@ -1,7 +1,7 @@
 -- `portion::portion_power` meets its contract. Assumes nothing.
 use borrow.Author.Needs.{needs}
 use Rattle.arith.proofs.Represented.{field-isField}
-use Rattle.conditions.specs.factors.Contents.{contents}
+use Rattle.meaning.specs.Slices.{listsOf}
 use Rattle.set_way.proofs.portion.Portions.{portion-some, portion-none}
 use Rattle.set_way.proofs.portion.portion_power.Statement.{statement}
 use Rattle.set_way.proofs.portion.portion_power.Tie as tie
@@ -13,7 +13,7 @@ slice-aggregate-set-powers-2 : tie.Need-slice-aggregate-set-powers-2
 slice-aggregate-set-powers-2 c = search needs
 
 set-powers-requires : tie.Need-set-powers-requires
-unfolding contents
+unfolding listsOf
 set-powers-requires c κs =
     let s = c .before .before .before .before .before .before in
     (s .pre .0, (s .pre .1 .0, s .pre .1 .1))
@@ -25,7 +25,7 @@ same-length : tie.Need-same-length
 same-length c = c .before .before .before .before .set-powers .kept .1 .0
 
 returns : tie.Need-returns
-unfolding contents
+unfolding listsOf
 returns c =
     let s = c .before .before .before .before .before .before .before .before .before .before .before in
     portion-some (field-isField (s .pre .0)) (s .pre .1 .1)
@@ -35,7 +35,7 @@ same-length-2 : tie.Need-same-length-2
 same-length-2 c = c .before .before .before .set-powers .kept .1 .0
 
 returns-2 : tie.Need-returns-2
-unfolding contents
+unfolding listsOf
 returns-2 c =
     let s = c .before .before .before .before .before .before .before .before .before .before in
     portion-none (field-isField (s .pre .0)) (s .pre .1 .1) (c .before .before .before .set-powers .ensures)

@@ -5,15 +5,15 @@ use native.Mathlib.Omega.{arith}
 use lib.ListN.{length}
 use Rattle.arith.specs.Represented.{fieldOf}
 use Rattle.arith.proofs.Represented.{field-isField}
-use Rattle.conditions.specs.factors.Contents.{contents}
-use Rattle.conditions.proofs.factors.Contents.{contents-length}
+use Rattle.meaning.specs.Slices.{listsOf}
+use Rattle.meaning.proofs.Slices.{lists-length}
 use Rattle.set_way.proofs.search.Least.{Gathering, gathering-start, gathering-more, gathering-end}
 use Rattle.set_way.proofs.search.least_powers.Statement.{statement}
 use Rattle.set_way.proofs.search.least_powers.Tie as tie
 
 abbrev Inv-loop : tie.InvT-loop
 Inv-loop field work₀ factors uppers first powers₀ i₀ work powers i =
-    Gathering (fieldOf field) (contents factors) uppers first work₀ work powers i
+    Gathering (fieldOf field) (listsOf factors) uppers first work₀ work powers i
 
 abbrev μ-loop : tie.MeasureT-loop
 μ-loop field work₀ factors uppers first powers₀ i₀ work powers i = length factors - i
@@ -21,7 +21,7 @@ abbrev μ-loop : tie.MeasureT-loop
 loop-holds : tie.Need-loop-holds Inv-loop μ-loop
 loop-holds c =
     let s = c .before .before .before in
-    gathering-start (fieldOf (s .args .field)) (contents (s .args .factors .now)) (s .args .uppers .now)
+    gathering-start (fieldOf (s .args .field)) (listsOf (s .args .factors .now)) (s .args .uppers .now)
     (s .args .first .now) (s .args .work .now) (s .pre .1 .0)
 
 power-at-requires : tie.Need-power-at-requires Inv-loop μ-loop
@@ -37,7 +37,7 @@ eight : (c : tie.After-slice-known2 Inv-loop μ-loop) → c .before .before .bef
 eight c =
     let i = c .before .before .before .before in
     let s = i .before .before .before .before .before in
-    omega (arith, i .loop-test .taken, s .pre .1 .1 .0 .eight, contents-length (s .args .factors .now))
+    omega (arith, i .loop-test .taken, s .pre .1 .1 .0 .eight, lists-length (s .args .factors .now))
 
 mul-powers : tie.Need-mul-powers Inv-loop μ-loop
 mul-powers c = omega (arith, eight c)
@@ -55,7 +55,7 @@ loop-again : tie.Need-loop-again Inv-loop μ-loop
 loop-again c =
     let i = c .before .before .before .before in
     let s = i .before .before .before .before .before in
-    gathering-more (s .pre .1 .1 .0) (i .before .loop .inv) (rw contents-length (i .loop-test .taken))
+    gathering-more (s .pre .1 .1 .0) (i .before .loop .inv) (rw lists-length (i .loop-test .taken))
     (c .before .before .power-at .ensures)
 
 same-length : tie.Need-same-length Inv-loop μ-loop
@@ -65,7 +65,7 @@ returns : tie.Need-returns Inv-loop μ-loop
 returns c =
     let s = c .before .before .before .before .before in
     gathering-end (s .pre .1 .1 .0) (c .before .loop .inv) (field-isField (s .pre .0))
-    (rw contents-length (c .loop-test .left))
+    (rw lists-length (c .loop-test .left))
 
 pub least-powers-spec : {M : Type 1} → statement M
 least-powers-spec =

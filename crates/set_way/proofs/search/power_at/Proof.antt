@@ -6,8 +6,8 @@ use lib.ListN.{length}
 use borrow.Author.Needs.{needs}
 use Rattle.powers.proofs.levels.Bounds.{size-base}
 use Rattle.powers.specs.digit_search.Searching.{Searchable, Searched}
-use Rattle.conditions.specs.factors.Contents.{contents}
-use Rattle.conditions.proofs.factors.Contents.{contents-length, contents-at}
+use Rattle.meaning.specs.Slices.{listsOf}
+use Rattle.meaning.proofs.Slices.{lists-length, lists-at}
 use Rattle.set_way.proofs.actions.Inputs.{input-index, input-few}
 use Rattle.set_way.proofs.actions.Loaded.{set-halves, loaded-halves, loaded-set, left-halves}
 use Rattle.set_way.proofs.search.Least.{factor-searchable, power-found}
@@ -15,8 +15,8 @@ use Rattle.set_way.proofs.search.power_at.Statement.{statement}
 use Rattle.set_way.proofs.search.power_at.Tie as tie
 
 -- there is a factor at i, and an upper power
-at-factor : (s : tie.Start) → s .args .i < length (contents (s .args .factors .now))
-at-factor s = rw contents-length (s .pre .1 .1 .1 .1)
+at-factor : (s : tie.Start) → s .args .i < length (listsOf (s .args .factors .now))
+at-factor s = rw lists-length (s .pre .1 .1 .1 .1)
 
 at-upper : (s : tie.Start) → s .args .i < length (s .args .uppers .now)
 at-upper s = input-index (s .pre .1 .1 .0) (s .args .i) (at-factor s)
@@ -69,7 +69,7 @@ least-power-requires c κs =
         left-halves (s .pre .1 .1 .0) (s .pre .1 .0) (o .before .before .before .before .load .ensures)
             (o .act-others .ensures),
         subst (λ f. Searchable (s .args .field) f (l .level-reaching .result))
-            (contents-at (s .args .factors .now) (s .args .i))
+            (lists-at (s .args .factors .now) (s .args .i))
             (factor-searchable (s .pre .0) (s .pre .1 .1 .0) (s .args .i) (at-factor s)
             (l .level-reaching .result) (l .level-reaching .ensures)),
       ),
@@ -96,7 +96,7 @@ returns c =
     (λ f.
     Searched (s .args .field) (o .last .1 .0) (o .result .half) (o .result .count) f
     (l .level-reaching .result) (y .last .1 .0) (y .result))
-    (sym (contents-at (s .args .factors .now) (s .args .i))) (y .ensures))
+    (sym (lists-at (s .args .factors .now) (s .args .i))) (y .ensures))
 
 pub power-at-spec : {M : Type 1} → statement M
 power-at-spec =

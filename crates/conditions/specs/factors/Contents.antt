@@ -1,9 +1,0 @@
--- Factors as the calls take them: a slice of slices.
---
---   contents fs        == the lists that the slices of fs hold, in order
-use Prim.Native.Nat.{ℕ}
-use mathlib.Core.List.{List, map}
-use denote.Ref.{RefT, now}
-
-unfoldable pub contents : List (RefT (List ℕ)) → List (List ℕ)
-contents fs = map now fs

@@ -1,0 +1,13 @@
+use Rattle.exports.proofs.byte_order.LittleEndian.{count-of}
+use native.Mathlib.Omega.{arith}
+use Rattle.exports.proofs.byte_order.number_count.Statement.{statement}
+use Rattle.exports.proofs.byte_order.number_count.Tie as tie
+use Rattle.exports.proofs.byte_order.number_count.Reads as reads
+use Rattle.exports.proofs.byte_order.number_count.Lts as lts
+
+-- src/numbers.rt:23:1
+returns : tie.Need-returns
+returns c = count-of _
+
+pub number-count-spec : {M : Type 1} → statement M
+number-count-spec = tie.close (tie.spec returns)

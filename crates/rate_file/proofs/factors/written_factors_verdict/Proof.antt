@@ -1,0 +1,53 @@
+-- `written_factors_verdict` meets its contract: each condition that does not hold is passed over.
+-- Assumes nothing.
+use mathlib.Core.Path.{sym, _∙_}
+use mathlib.Core.List.{List}
+use denote.Ref.{now}
+use borrow.Author.Needs.{needs}
+use Rattle.meaning.specs.Result.{Check}
+use Rattle.meaning.specs.Answers.{numberOf}
+use Rattle.refusals.specs.Verdicts.{numberIn}
+use Rattle.refusals.proofs.Order.{Passed, first-here, first-skip, first-nowhere}
+use Rattle.rate_file.specs.factors.Written.{factorsIn, writtenTable}
+use Rattle.rate_file.proofs.factors.written_factors_verdict.Statement.{statement}
+use Rattle.rate_file.proofs.factors.written_factors_verdict.Tie as tie
+
+abbrev table : tie.Start → List Check
+table s = writtenTable (s .args .p) (factorsIn (now (s .args .file)))
+
+passed-1 : (c : tie.Else1) → Passed 1 (table (c .before .before .before))
+unfolding writtenTable
+passed-1 c = first-skip _ _ (c .before .some-degree-out-of-range .ensures) (c .if1 .left)
+
+some-degree-out-of-range-requires : tie.Need-some-degree-out-of-range-requires
+some-degree-out-of-range-requires c κs = search needs
+
+returns : tie.Need-returns
+unfolding numberIn numberOf writtenTable
+returns c = first-here _ _ (c .before .some-degree-out-of-range .ensures) (c .if1 .taken)
+
+some-not-monic-requires : tie.Need-some-not-monic-requires
+some-not-monic-requires c κs = search needs
+
+returns-2 : tie.Need-returns-2
+unfolding numberIn numberOf writtenTable
+returns-2 c =
+    first-here _ _ (c .before .some-not-monic .ensures) (c .if2 .taken)
+    ∙ sym (passed-1 (c .before .before))
+
+returns-3 : tie.Need-returns-3
+unfolding numberIn writtenTable
+returns-3 c =
+    first-nowhere
+    ∙ sym
+    (passed-1 (c .before .before) ∙ first-skip _ _ (c .before .some-not-monic .ensures) (c .if2 .left))
+
+pub written-factors-verdict-spec : {M : Type 1} → statement M
+written-factors-verdict-spec =
+    tie.close
+    (tie.spec
+    some-degree-out-of-range-requires
+    returns
+    some-not-monic-requires
+    returns-2
+    returns-3)

@@ -1,0 +1,74 @@
+// The rating of what an accepted file holds: the refusals from 6 on, and the way that its mode names.
+use crate::factors::written_factors_verdict;
+use crate::modes::rate_free_file;
+use crate::modes::rate_period_file;
+use crate::modes::rate_set_file;
+use crate::outcomes::of_refusal;
+use meaning::FileRating;
+use refusals::Verdict;
+use refusals::terms_verdict;
+use route::framing::count_of;
+use route::payload::byte_of;
+ghost use mathlib.Core.Path.{_≡_};
+ghost use lib.ListN.{length, take};
+ghost use Rattle.meaning.specs.File.{termsOf, rateRecords};
+ghost use Rattle.route.specs.framing.Framing.{recordsFrom};
+ghost use Rattle.massey.specs.Shortest.{freeChoice};
+ghost use Rattle.rate_file.specs.outcomes.Outcomes.{RatedFile};
+ghost use Rattle.rate_file.specs.records.Accepted.{AcceptedRecords, Rateable};
+
+// The rating of an accepted file, once 6, 7 and 8 accept p and the terms: a file's own part of 10 and 11, and
+// then the way of the mode.
+fn rate_accepted(
+    sender: u64,
+    p: u64,
+    file: &[u8],
+    terms: &[u8],
+    answer: &mut [u8],
+    work: &mut [u8],
+) -> FileRating
+    requires { ⌜ Rateable p (now file) (now terms) ⌝ }
+    ensures { λ r. ⌜ RatedFile sender
+        (rateRecords freeChoice (recordsFrom (now (file .entry)) 0) (length (now (answer .entry)))
+        (length (now (work .entry))))
+        (now (answer .entry)) (now (work .entry)) r (now (answer .exit)) (now (work .exit)) ⌝ }
+{
+    let mode = byte_of(file, 3);
+    let count = count_of(file, 4);
+    if mode == 3 {
+        return rate_free_file(sender, p, terms, answer, work);
+    }
+    match written_factors_verdict(p, file, count) {
+        Verdict::Refused(r) => of_refusal(sender, r),
+        Verdict::Accepted => {
+            if mode == 1 {
+                rate_period_file(sender, p, file, terms, answer, work)
+            } else {
+                rate_set_file(sender, p, file, count, terms, answer, work)
+            }
+        }
+    }
+}
+
+// The rating of an accepted file, whose terms are given, at most the first 4,097 of them: 6, 7 and 8, and
+// then the rest.
+pub fn rate_records(
+    sender: u64,
+    file: &[u8],
+    terms: &[u8],
+    answer: &mut [u8],
+    work: &mut [u8],
+) -> FileRating
+    requires { ⌜ AcceptedRecords (recordsFrom (now file) 0)
+        × (now terms ≡ take 4097 (termsOf (recordsFrom (now file) 0))) ⌝ }
+    ensures { λ r. ⌜ RatedFile sender
+        (rateRecords freeChoice (recordsFrom (now (file .entry)) 0) (length (now (answer .entry)))
+        (length (now (work .entry))))
+        (now (answer .entry)) (now (work .entry)) r (now (answer .exit)) (now (work .exit)) ⌝ }
+{
+    let p = byte_of(file, 2) as u64;
+    match terms_verdict(p, terms) {
+        Verdict::Refused(r) => of_refusal(sender, r),
+        Verdict::Accepted => rate_accepted(sender, p, file, terms, answer, work),
+    }
+}

@@ -1,0 +1,161 @@
+-- Joined bytes part by part.
+--
+--   PartFrom b ns i from j == part i of the bytes b, cut by the lengths ns, is part i − j of the bytes from the
+--                     place `from` on, cut by the lengths from j on
+--   split-length     == there are as many parts as lengths
+--   reads d l i k    == k elements of a list from the place i on, as they are read one by one: d beyond its end
+--   reads-take       == as many of them as there are, are the first k elements
+--   Each l i rs      == the slices rs hold the elements of l from the place i on
+--   rated-parts      == nine slices that hold the parts, cut to the number of parts, are the first nine parts
+-- Assumes nothing.
+use Prim.Native.Nat.{ℕ, zero, suc, _+_, _-_, _≤_, _<_, min}
+use mathlib.Core.Path.{_≡_, refl, sym, ap, subst, _∙_}
+use mathlib.Core.List.{List, [], _∷_}
+use native.Mathlib.Nat as ℕ
+use native.Mathlib.Numerals.{add-one}
+use native.Mathlib.Decide.{decLt}
+use native.Mathlib.Omega.{arith}
+use lib.ListN.{length, getD, take, drop, length-drop, drop-of-length-le, List·getD-eq-default}
+use lib.Seq.{drop-cons, drop-drop, take-all, take-nil}
+use denote.Ref.{RefT, now}
+use Rattle.meaning.specs.Slices.{listsOf}
+use Rattle.rate_set.specs.concatenated.Concatenated.{split, PartEnd}
+
+pub split-length : (b ns : List ℕ) → length (split b ns) ≡ length ns
+unfolding split
+split-length b [] = refl
+split-length b (n ∷ ns) = ap suc (split-length (drop n b) ns)
+
+-- The end of a part
+module _ (b : List ℕ) {from n end : ℕ} (e : PartEnd (length b) from n end) where
+  part-taken : take (end - from) (drop from b) ≡ take n (drop from b)
+  part-taken = elim (decLt (from + n) (length b)) [
+    | yes h ↦ let k : end - from ≡ n = omega (arith, e .isEnd) in ap (λ m. take m (drop from b)) k
+    | no h ↦
+        take-all (end - from) (drop from b) (omega (arith, e .isEnd, length-drop from b))
+        ∙ sym (take-all n (drop from b) (omega (arith, length-drop from b)))
+  ]
+
+  part-dropped : drop n (drop from b) ≡ drop end b
+  part-dropped = elim (decLt (from + n) (length b)) [
+    | yes h ↦
+        let k : from + n ≡ end = omega (arith, e .isEnd) in drop-drop n from b ∙ ap (λ m. drop m b) k
+    | no h ↦
+        drop-drop n from b
+        ∙ drop-of-length-le b {i = from + n} (omega arith)
+        ∙ sym (drop-of-length-le b {i = end} (omega (arith, e .isEnd)))
+  ]
+
+-- One part, and the parts after it
+module _ (b ns : List ℕ) (j : ℕ) where
+  split-here : getD (split b (drop j ns)) 0 [] ≡ take (getD ns j 0) b
+  unfolding split
+  split-here = elim (decLt j (length ns)) [
+    | yes h ↦ ap (λ l. getD (split b l) 0 []) (drop-cons ns j 0 h)
+    | no h ↦
+        ap (λ l. getD (split b l) 0 []) (drop-of-length-le ns {i = j} (omega arith))
+        ∙ ap (λ k. take k b) (sym (List·getD-eq-default ns 0 (omega arith)))
+  ]
+
+  split-later :
+      (k : ℕ) → getD (split b (drop j ns)) (suc k) [] ≡ getD (split (drop (getD ns j 0) b) (drop (suc j) ns)) k []
+  unfolding split
+  split-later k = elim (decLt j (length ns)) [
+    | yes h ↦ ap (λ l. getD (split b l) (suc k) []) (drop-cons ns j 0 h)
+    | no h ↦
+        ap (λ l. getD (split b l) (suc k) []) (drop-of-length-le ns {i = j} (omega arith))
+        ∙ sym (ap (λ l. getD (split (drop (getD ns j 0) b) l) k [])
+        (drop-of-length-le ns {i = suc j} (omega arith)))
+  ]
+
+pub record PartFrom (b ns : List ℕ) (i from j : ℕ) : Type 0 where
+  pub inside : from ≤ length b
+  pub before : j ≤ i
+  pub same : getD (split (drop from b) (drop j ns)) (i - j) [] ≡ getD (split b ns) i []
+
+pub part-start : (b ns : List ℕ) (i : ℕ) → PartFrom b ns i 0 0
+part-start b ns i =
+    record {
+      inside = omega arith;
+      before = omega arith;
+      same = ap (λ k. getD (split b ns) k []) (ℕ.sub-zero i);
+    }
+
+module _ {b ns : List ℕ} {i from j end : ℕ} (x : PartFrom b ns i from j) where
+  pub part-next : PartEnd (length b) from (getD ns j 0) end → j < i → PartFrom b ns i end (j + 1)
+  part-next e h =
+      let k : suc (i - suc j) ≡ i - j = omega arith in
+      subst (PartFrom b ns i end) (sym (add-one j))
+      (record {
+        inside = e .inside;
+        before = h;
+        same =
+            ap (λ l. getD (split l (drop (suc j) ns)) (i - suc j) []) (sym (part-dropped b e))
+            ∙ sym (split-later (drop from b) ns j (i - suc j))
+            ∙ ap (λ m. getD (split (drop from b) (drop j ns)) m []) k
+            ∙ x .same;
+      })
+
+  pub part-found :
+      PartEnd (length b) from (getD ns i 0) end
+      → i ≤ j
+      → take (end - from) (drop from b) ≡ getD (split b ns) i []
+  part-found e h =
+      let k : i ≡ j = omega (arith, x .before) in
+      let z : 0 ≡ i - j = omega arith in
+      part-taken b e
+      ∙ sym (split-here (drop from b) ns i)
+      ∙ ap (λ m. getD (split (drop from b) (drop m ns)) 0 []) k
+      ∙ ap (λ m. getD (split (drop from b) (drop j ns)) m []) z
+      ∙ x .same
+
+-- The parts read one by one
+module _ {A : Type 0} (d : A) where
+  abbrev pub reads : List A → ℕ → ℕ → List A
+  reads l i zero = []
+  reads l i (suc k) = getD l i d ∷ reads l (suc i) k
+
+  pub reads-take : (l : List A) (i k : ℕ) → take (min (length l - i) k) (reads l i k) ≡ take k (drop i l)
+  reads-take l i zero = take-nil (min (length l - i) 0)
+  reads-take l i (suc k) = elim (decLt i (length l)) [
+    | yes h ↦
+        let e : min (length l - i) (suc k) ≡ suc (min (length l - suc i) k) = omega arith in
+        ap (λ n. take n (reads l i (suc k))) e
+        ∙ ap (λ r. getD l i d ∷ r) (reads-take l (suc i) k)
+        ∙ ap (take (suc k)) (sym (drop-cons l i d h))
+    | no h ↦
+        let e : min (length l - i) (suc k) ≡ 0 = omega arith in
+        ap (λ n. take n (reads l i (suc k))) e
+        ∙ ap (take (suc k)) (sym (drop-of-length-le l {i = i} (omega arith)))
+  ]
+
+abbrev pub Each : List (List ℕ) → ℕ → List (RefT (List ℕ)) → Type 0
+Each l i [] = Unit {0}
+Each l i (r ∷ rs) = (now r ≡ getD l i []) × Each l (suc i) rs
+
+each-reads : (l : List (List ℕ)) (i : ℕ) (rs : List (RefT (List ℕ))) → Each l i rs
+    → listsOf rs ≡ reads [] l i (length rs)
+unfolding listsOf
+each-reads l i [] h = refl
+each-reads l i (r ∷ rs) (e, h) =
+    ap (λ f. f ∷ listsOf rs) e ∙ ap (λ fs. getD l i [] ∷ fs) (each-reads l (suc i) rs h)
+
+lists-take : (k : ℕ) (rs : List (RefT (List ℕ))) → listsOf (take k rs) ≡ take k (listsOf rs)
+unfolding listsOf
+lists-take zero rs = refl
+lists-take (suc k) [] = refl
+lists-take (suc k) (r ∷ rs) = ap (λ fs. now r ∷ fs) (lists-take k rs)
+
+pub rated-parts :
+    (b ns : List ℕ) (rs : List (RefT (List ℕ))) {k : ℕ}
+    → length rs ≡ 9
+    → Each (split b ns) 0 rs
+    → k ≡ min (length ns) 9
+    → listsOf (take (k - 0) (drop 0 rs)) ≡ take 9 (split b ns)
+rated-parts b ns rs {k} nine h e =
+    let l = split b ns in
+    let m : k - 0 ≡ min (length l - 0) 9 = omega (arith, split-length b ns) in
+    lists-take (k - 0) rs
+    ∙ ap (take (k - 0)) (each-reads l 0 rs h ∙ ap (reads [] l 0) nine)
+    ∙ ap (λ n. take n (reads [] l 0 9)) m
+    ∙ reads-take [] l 0 9

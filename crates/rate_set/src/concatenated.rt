@@ -1,0 +1,79 @@
+// The set way with its factors joined in one slice of bytes, one after another without gaps, and their
+// lengths apart. Nothing is copied: the factors that are rated are parts of that slice.
+use crate::rate_set;
+use meaning::SetRating;
+ghost use mathlib.Core.Path.{_≡_};
+ghost use mathlib.Core.List.{[]};
+ghost use Prim.Native.Nat.{_≤_, min};
+ghost use lib.ListN.{getD};
+ghost use Rattle.meaning.specs.Calls.{SetCall};
+ghost use Rattle.rate_set.specs.concatenated.Concatenated.{split, PartEnd};
+
+// Where the part with the length at the place i ends that begins at `from`, in `size` bytes.
+fn part_end(size: usize, from: usize, lengths: &[u64], i: usize) -> usize
+    requires { ⌜ from ≤ size ⌝ }
+    ensures { λ r. ⌜ PartEnd size from (getD (now (lengths .entry)) i 0) r ⌝ }
+{
+    if i < lengths.len() {
+        let length = lengths[i];
+        if length < (size - from) as u64 {
+            from + length as usize
+        } else {
+            size
+        }
+    } else {
+        from
+    }
+}
+
+// Factor i of the joined bytes; the empty part where there is no length for it.
+fn factor_at<'a>(joined: &'a [u8], lengths: &[u64], i: usize) -> &'a [u8]
+    ensures { λ r. ⌜ now r ≡ getD (split (now (joined .entry)) (now (lengths .entry))) i [] ⌝ }
+{
+    let size = joined.len();
+    let mut from = 0;
+    // part i is part i − j of the bytes from `from` on, cut by the lengths from j on
+    let mut j = 0;
+    while j < i {
+        from = part_end(size, from, lengths, j);
+        j += 1;
+    }
+    let end = part_end(size, from, lengths, i);
+    &joined[from..end]
+}
+
+// The number of parts that are rated: nine factors are turned down like any greater number of them.
+pub fn at_most_nine(n: usize) -> usize
+    ensures { λ r. ⌜ r ≡ min n 9 ⌝ }
+{
+    if n < 9 { n } else { 9 }
+}
+
+// The call `rate_set` with the factors that are joined, for any number of lengths and any lengths. It leaves
+// all lent bytes as that call does.
+pub fn rate_concatenated(
+    p: u64,
+    joined: &[u8],
+    lengths: &[u64],
+    uppers: &[u64],
+    terms: &[u8],
+    answer: &mut [u8],
+    work: &mut [u8],
+) -> SetRating
+    ensures { λ r. ⌜ SetCall p (split (now (joined .entry)) (now (lengths .entry))) (now (uppers .entry))
+        (now (terms .entry)) (now (answer .entry)) (now (work .entry)) r (now (answer .exit))
+        (now (work .exit)) ⌝ }
+{
+    let a = factor_at(joined, lengths, 0);
+    let b = factor_at(joined, lengths, 1);
+    let c = factor_at(joined, lengths, 2);
+    let d = factor_at(joined, lengths, 3);
+    let e = factor_at(joined, lengths, 4);
+    let f = factor_at(joined, lengths, 5);
+    let g = factor_at(joined, lengths, 6);
+    let h = factor_at(joined, lengths, 7);
+    let i = factor_at(joined, lengths, 8);
+    let parts = [a, b, c, d, e, f, g, h, i];
+    let count = at_most_nine(lengths.len());
+    rate_set(p, &parts[0..count], uppers, terms, answer, work)
+}
