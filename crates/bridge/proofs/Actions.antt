@@ -4,16 +4,13 @@
 --   element-actAt, element-act == the value of an action stands for that of `algebra`
 --   actAt-below    == it is an element of the field; no condition
 --   actAt-zero, zero-actAt == it is 0 exactly where the action of the polynomial is
---   actAt-times    == a product acts as its factors one after the other; no condition. So do powers, by
---                     `actAt-power-add` and `actAt-power-mul`
---   actAt-plus, actAt-scale, actAt-sequence-add, actAt-sequence-scale == additive, in both arguments
+--   actAt-times    == a product acts as its factors one after the other; no condition
+--   actAt-scale, actAt-sequence-add, actAt-sequence-scale == of multiples, and of sums and multiples of sequences
 --   actAt-local    == the action at place k depends on the terms from k on alone, as many as the list has
---   actAt-equal    == lists with the same polynomial act alike
 --   actStride F g q s k == c0·s(k) + c1·s(k+q) + c2·s(k+2q) + …, the action with the stride q; it is that of
 --                     the list spread q places apart by `actAt-spread`
 --   actAt-power-stride, prime-actAt-power == the power p^w of a list acts with the stride p^w
 --   endless-kills, kills-endless == annihilation of an endless sequence is that of `algebra`
---   endless-times, endless-power == multiples and higher powers of what annihilates annihilate too
 --   known-places, places-known == annihilation of known terms is that each place is 0; for a stretch of a
 --                     sequence `known-stretch`, `stretch-known`
 --   known-fits, fits-known == and that the polynomial fits them
@@ -31,14 +28,11 @@ use lib.ListN.{length, getD, take, drop}
 use lib.Seq.{ext-getD}
 use lib.Dec.{T, eqb, eqb→eq, eqb-refl}
 use Rattle.meaning.specs.Field.{Field, prime, areElements}
-use Rattle.meaning.specs.Polynomial.{Polynomial, degree, isMonicOver, plus, scale, times, power, product}
-use Rattle.meaning.specs.Portion.{withPower}
+use Rattle.meaning.specs.Polynomial.{Polynomial, degree, isMonicOver, scale, times, power}
 use Rattle.meaning.specs.Sequence.{Sequence, InField, actAt, known, periodic, AnnihilatesEndless}
 use Rattle.meaning.specs.Sequence.{annihilatesKnown, annihilatesPeriod, cut, Period}
 use Rattle.algebra.proofs.Ring.{Ring}
-use Rattle.algebra.proofs.Power.{power as algebra-power, power-power}
-use Rattle.algebra.proofs.Power.{power-add as algebra-power-add}
-use Rattle.algebra.proofs.Action.{list-act, act, act-fromList, act-add, act-scale, act-mul}
+use Rattle.algebra.proofs.Action.{list-act, act, act-fromList, act-scale, act-mul}
 use Rattle.algebra.proofs.Action.{act-sequence-add, act-sequence-scale, act-one, Kills}
 use Rattle.algebra.proofs.Massey.{Fits}
 use Rattle.algebra.proofs.Cut.{Periodic, periodic-all, periodic-remainder}
@@ -46,9 +40,8 @@ use Rattle.bridge.proofs.Searches.{all-first, first-all}
 use Rattle.bridge.proofs.Interpretation.{IsField, element-injective, element-zero-only, element-add}
 use Rattle.bridge.proofs.Interpretation.{element-mul, add-below, mul-below, size-positive}
 use Rattle.bridge.proofs.Interpretation.{number-zero-mul, number-zero-add, prime-characteristic-number}
-use Rattle.bridge.proofs.Polynomials.{poly, polyRing, poly-plus, poly-scale, poly-times, poly-one}
+use Rattle.bridge.proofs.Polynomials.{poly, poly-scale, poly-times, poly-one}
 use Rattle.bridge.proofs.Polynomials.{monic-poly, getD-below, getD-elements}
-use Rattle.bridge.proofs.Products.{poly-power, factorAt, Nonempties, product-split}
 use Rattle.bridge.proofs.Spread.{gap, spread, spread-nil, spread-cons, raise, power-spread}
 use Rattle.bridge.proofs.Spread.{characteristic-power-pos, prime-power-spread}
 
@@ -136,10 +129,6 @@ module _ {F : Field} (I : IsField F) where
       element-injective I (actAt-below f s j) (actAt-below g t k)
       (element-act f s j ∙ e ∙ sym (element-act g t k))
 
-  pub actAt-equal :
-      (f g : Polynomial) → poly I f ≡ poly I g → (s : Sequence) (k : ℕ) → actAt F f s k ≡ actAt F g s k
-  actAt-equal f g e s k = actAt-law f g s s k k (ap (λ h. act h (sequence s) k) e)
-
   -- Products and powers
   pub actAt-times :
       (f g : Polynomial) (s : Sequence) (k : ℕ)
@@ -150,58 +139,12 @@ module _ {F : Field} (I : IsField F) where
       ∙ act-mul (poly I f) (poly I g) (sequence s) k
       ∙ ap (λ t. act (poly I f) t k) (sym (sequence-act g s)))
 
-  pub actAt-comm :
-      (f g : Polynomial) (s : Sequence) (k : ℕ)
-      → actAt F f (λ i. actAt F g s i) k ≡ actAt F g (λ i. actAt F f s i) k
-  actAt-comm f g s k =
-      sym (actAt-times f g s k)
-      ∙ actAt-equal (times F f g) (times F g f)
-      (poly-times I f g ∙ polyRing I .mul-comm (poly I f) (poly I g) ∙ sym (poly-times I g f)) s k
-      ∙ actAt-times g f s k
-
   pub actAt-one : (s : Sequence) (k : ℕ) → s k < F .size → actAt F (1 ∷ []) s k ≡ s k
   actAt-one s k l =
       element-injective I (actAt-below (1 ∷ []) s k) l
       (element-act (1 ∷ []) s k
       ∙ ap (λ h. act h (sequence s) k) (poly-one I)
       ∙ act-one ring (field .discrete) (sequence s) k)
-
-  pub actAt-power-add :
-      (f : Polynomial) (m n : ℕ) (s : Sequence) (k : ℕ)
-      → actAt F (power F f (m + n)) s k ≡ actAt F (power F f m) (λ i. actAt F (power F f n) s i) k
-  actAt-power-add f m n s k =
-      actAt-equal (power F f (m + n)) (times F (power F f m) (power F f n)) exponents s k
-      ∙ actAt-times (power F f m) (power F f n) s k
-    where
-      exponents : poly I (power F f (m + n)) ≡ poly I (times F (power F f m) (power F f n))
-      exponents =
-          poly-power I f (m + n)
-          ∙ algebra-power-add (polyRing I) (poly I f) m n
-          ∙ sym (ap₂ (polyRing I ._⊗_) (poly-power I f m) (poly-power I f n))
-          ∙ sym (poly-times I (power F f m) (power F f n))
-
-  pub actAt-power-mul :
-      (f : Polynomial) (m n : ℕ) (s : Sequence) (k : ℕ)
-      → actAt F (power F f (m * n)) s k ≡ actAt F (power F (power F f m) n) s k
-  actAt-power-mul f m n = actAt-equal (power F f (m * n)) (power F (power F f m) n) exponents
-    where
-      exponents : poly I (power F f (m * n)) ≡ poly I (power F (power F f m) n)
-      exponents =
-          poly-power I f (m * n)
-          ∙ sym (power-power (polyRing I) (poly I f) m n)
-          ∙ ap (λ h. algebra-power (polyRing I) h n) (sym (poly-power I f m))
-          ∙ sym (poly-power I (power F f m) n)
-
-  -- Additive in the list and in the sequence
-  pub actAt-plus :
-      (f g : Polynomial) (s : Sequence) (k : ℕ)
-      → actAt F (plus F f g) s k ≡ (F .add) (actAt F f s k) (actAt F g s k)
-  actAt-plus f g s k =
-      element-injective I (actAt-below (plus F f g) s k) (add-below I _ _)
-      (element-act (plus F f g) s k
-      ∙ ap (λ h. act h (sequence s) k) (poly-plus I f g)
-      ∙ act-add (poly I f) (poly I g) (sequence s) k
-      ∙ sym (element-add I _ _ ∙ ap₂ _⊕_ (element-act f s k) (element-act g s k)))
 
   pub actAt-scale :
       (c : ℕ) (f : Polynomial) (s : Sequence) (k : ℕ)
@@ -350,45 +293,6 @@ module _ {F : Field} (I : IsField F) where
   pub kills-endless :
       (g : Polynomial) (s : Sequence) → Kills (sequence I s) (poly I g) → AnnihilatesEndless F g s
   kills-endless g s z k = zero-actAt I g s k (z .vanishes k)
-
-  -- multiples and higher powers of what annihilates annihilate too
-  pub endless-act :
-      (f g : Polynomial) (s : Sequence)
-      → AnnihilatesEndless F (times F f g) s
-      → AnnihilatesEndless F f (λ i. actAt F g s i)
-  endless-act f g s h k = sym (actAt-times I f g s k) ∙ h k
-
-  pub act-endless :
-      (f g : Polynomial) (s : Sequence)
-      → AnnihilatesEndless F f (λ i. actAt F g s i)
-      → AnnihilatesEndless F (times F f g) s
-  act-endless f g s h k = actAt-times I f g s k ∙ h k
-
-  pub endless-times :
-      (f g : Polynomial) (s : Sequence) → AnnihilatesEndless F g s → AnnihilatesEndless F (times F f g) s
-  endless-times f g s h = act-endless f g s (λ k. actAt-zeros I f (actAt F g s) k (λ i _. h (k + i)))
-
-  pub endless-power :
-      (f : Polynomial) (m n : ℕ) (s : Sequence)
-      → m ≤ n
-      → AnnihilatesEndless F (power F f m) s
-      → AnnihilatesEndless F (power F f n) s
-  endless-power f m n s l h k =
-      ap (λ e. actAt F (power F f e) s k) (sym (ℕ.sub-add-cancel l))
-      ∙ actAt-power-add I f (n - m) m s k
-      ∙ actAt-zeros I (power F f (n - m)) (actAt F (power F f m) s) k (λ i _. h (k + i))
-
-  -- with the power r in place i: that power of the factor after the rest
-  pub actAt-split :
-      (l : List (Polynomial × ℕ)) (i r : ℕ)
-      → i < length l
-      → Nonempties l
-      → (s : Sequence) (k : ℕ)
-      → actAt F (product F (withPower i r l)) s k
-      ≡ actAt F (power F (factorAt l i) r) (λ j. actAt F (product F (withPower i 0 l)) s j) k
-  actAt-split l i r b h s k =
-      ap (λ g. actAt F g s k) (product-split I l i r b h)
-      ∙ actAt-times I (power F (factorAt l i) r) (product F (withPower i 0 l)) s k
 
 -- Stretches and known terms
 pub length-cut : (s : Sequence) (k m : ℕ) → length (cut s k m) ≡ m

@@ -2,46 +2,42 @@
 --
 --   fits-algebra, algebra-fits == `Fits` of `meaning` is that of `algebra`; `fits-list` gives for each
 --                     polynomial of `algebra` that fits its list
---   fits-extended  == the extension: what fits the first n terms with degree L fits all of them, where
---                     something of degree e does and L + e ≤ n
 --   fits-long      == a monic list fits where its degree is at least the number of terms: it has no places
 --   fits-degree, degree-fits == the search `fitsDegree` says that some list fits
 --   leastDegree-some == there always is a least degree
 --   leastDegree-least, least-leastDegree == it is that of the words `IsLeastDegree`
 --   least-bound    == it is at most the number of terms
 --   least-fit, fit-least == the words are those of `LeastFit` of `algebra`
---   least-equal    == there is only one least degree
 --   fits-only      == where twice the least degree is at most the number of terms, only one list fits with it
 --   isUnique-le, le-isUnique, gt-isUnique == the word `one` in words
 --   polynomial-one, polynomial-some == the polynomial of the free way: under `one` the list that fits, under
 --                     `some` the choice
 --   free-accepts, accepts-free == what no refusal of the free way means, and what suffices for it
 --   free-answer    == the answer of the free way, from the least degree and a list that fits with it
---   free-rated, free-figures == what an answer of the free way says
+--   free-rated     == what an answer of the free way says
 --   stretch-fits, stretch-least == where a list with a constant term other than 0 annihilates an endless
 --                     sequence: on every stretch of at least twice the degree of its minimal polynomial that
 --                     degree is the least one, and the minimal polynomial fits; `stretch-answer` is the
 --                     answer of the free way
 --
 -- Assumes nothing.
-use Prim.Native.Nat.{ℕ, _+_, _*_, _≤_, _<_}
+use Prim.Native.Nat.{ℕ, _*_, _≤_, _<_}
 use mathlib.Core.Path.{_≡_, refl, sym, ap, subst, _∙_}
 use mathlib.Core.Logic.{_≢_}
 use mathlib.Core.Bool.{Bool, true, false, _||_}
 use mathlib.Core.List.{List, _∷_, List·Memᴰ, List·Memᴰ·head, List·Memᴰ·tail}
-use mathlib.Core.Option.{Option, some, Option·some-injective}
+use mathlib.Core.Option.{Option, some}
 use native.Mathlib.Nat as ℕ
 use native.Mathlib.Decide.{decLt}
 use native.Mathlib.Omega.{arith}
-use lib.ListN.{length, getD, take}
-use lib.Seq.{getD-take, length-take-le}
+use lib.ListN.{length, getD}
 use lib.Dec.{T, eqb, leb→le, le→leb, ltb→lt, eqb→eq, T-not}
 use Rattle.meaning.specs.Search.{firstThat}
 use Rattle.meaning.specs.Field.{Field, prime, primeInRange, areElements}
 use Rattle.meaning.specs.Polynomial.{Polynomial, degree, isMonicOver, monics}
 use Rattle.meaning.specs.Sequence.{Sequence, known, annihilatesKnown, cut, AnnihilatesEndless}
 use Rattle.meaning.specs.Sequence.{MinimalPolynomial}
-use Rattle.meaning.specs.Result.{Result, refused, answered, mapResult, Rated, figuresOf}
+use Rattle.meaning.specs.Result.{Result, answered, Rated}
 use Rattle.meaning.specs.Conditions.{notPrime, countOutOfRange, termOutOfField, lentTooShort, acceptedLent}
 use Rattle.meaning.specs.Free.{fitsDegree, leastDegree, Fits, IsLeastDegree, isUnique, FreeFigures, Choice}
 use Rattle.meaning.specs.Free.{freePolynomial, freeRating, freeTable, rateFree}
@@ -50,7 +46,6 @@ use Rattle.algebra.proofs.Polynomial.{coefficient}
 use Rattle.algebra.proofs.Action.{Agree}
 use Rattle.algebra.proofs.Cut.{cut as algebra-cut, coprime-x}
 use Rattle.algebra.proofs.Massey.{Fits as AlgebraFits, LeastFit, least-fit-unique, stretch-least-fit}
-use Rattle.algebra.proofs.Massey.{fits-agree, fits-extension}
 use Rattle.bridge.proofs.Searches.{T-true, true-T, T-false, false-T, T-decided, not-false, T-not-false}
 use Rattle.bridge.proofs.Searches.{least-some, least-found, least-exists, bind-some, some-bind}
 use Rattle.bridge.proofs.Searches.{mapOption-some, some-mapOption, answered-settle, settle-answered}
@@ -60,7 +55,7 @@ use Rattle.bridge.proofs.Polynomials.{monic-equal}
 use Rattle.bridge.proofs.Monics.{monicAt, monicAt-monic, degree-monicAt, some-monics, monics-some}
 use Rattle.bridge.proofs.Monics.{monic-monics, monics-monic}
 use Rattle.bridge.proofs.Actions.{sequence, known-fits, fits-known, places-known, length-cut}
-use Rattle.bridge.proofs.Actions.{known-cut, known-getD, endless-kills, endless-known}
+use Rattle.bridge.proofs.Actions.{known-cut, endless-kills, endless-known}
 use Rattle.bridge.proofs.Minimal.{minimal-algebra}
 
 -- A list that fits, as a polynomial
@@ -99,24 +94,6 @@ module _ {F : Field} (I : IsField F) where
             (subst (λ h. AlgebraFits h e (length ts) (sequence I (known ts))) (sym p) x),
         p,
       )
-
-  -- what fits the first n terms fits all of them, where something of degree e does and L + e ≤ n
-  pub fits-extended :
-      (ts : List ℕ) {L e n : ℕ} {g h : Polynomial}
-      → n ≤ length ts
-      → Fits F (take n ts) L g
-      → Fits F ts e h
-      → L + e ≤ n
-      → Fits F ts L g
-  fits-extended ts {L} {e} {n} {g} l x y b =
-      algebra-fits g (x .monic) (x .ofDegree) (fits-extension shorter (fits-algebra y) b)
-    where
-      shorter : AlgebraFits (poly I g) L n (sequence I (known ts))
-      shorter =
-          fits-agree
-          (λ i o. ap (I .element) (known-getD (take n ts) i ∙ getD-take n ts i 0 o ∙ sym (known-getD ts i)))
-          (subst (λ m. AlgebraFits (poly I g) L m (sequence I (known (take n ts)))) (length-take-le n ts l)
-          (fits-algebra x))
 
 pub fits-long :
     (F : Field) (ts : List ℕ) (g : Polynomial)
@@ -191,9 +168,6 @@ module _ {F : Field} (I : IsField F) where
       smaller d l h =
           let (g, y) = degree-fits ts d h in
           omega (arith, x .smallest d g (omega (arith, least-bound x)) y)
-
-  pub least-equal : {ts : List ℕ} {L M : ℕ} → IsLeastDegree F ts L → IsLeastDegree F ts M → L ≡ M
-  least-equal {L = L} {M} x y = Option·some-injective L M (sym (least-leastDegree x) ∙ least-leastDegree y)
 
   -- The words of `algebra`
   pub least-fit :
@@ -300,14 +274,6 @@ polynomial-some pick p ts L u = rw (u, freePolynomial)
 neither : {b c : Bool} → b ≡ false → c ≡ false → (b || c) ≡ false
 neither {c = c} e f = ap (λ x. x || c) e ∙ f
 
-pub figures-answered :
-    {A : Type 0} (r : Result (Rated A)) {a : A}
-    → figuresOf r ≡ answered a
-    → (b : Rated A) × (r ≡ answered b) × (b .figures ≡ a)
-unfolding figuresOf mapResult
-figures-answered (refused n) e = absurd (let z : _≡_ {A = ℕ} 0 1 = cc in omega arith)
-figures-answered (answered b) e = (b, refl, cc)
-
 module _ (p : ℕ) (ts : List ℕ) (answer work : ℕ) where
   pub free-accepts :
       NoneHolds (freeTable p ts answer work) → T (primeInRange p) × T (areElements (prime p) ts)
@@ -366,20 +332,6 @@ module _ (p : ℕ) (ts : List ℕ) (answer work : ℕ) where
         h,
         subst (λ b. leastDegree (prime p) ts ≡ some (b .figures .degree)) q l,
         subst (λ b. b .figures .unique ≡ isUnique ts (b .figures .degree)) q refl,
-      )
-
-  pub free-figures :
-      (pick : Choice) {a : FreeFigures}
-      → figuresOf (rateFree pick p ts answer work) ≡ answered a
-      → NoneHolds (freeTable p ts answer work)
-      × (leastDegree (prime p) ts ≡ some (a .degree))
-      × (a .unique ≡ isUnique ts (a .degree))
-  free-figures pick e =
-      let (b, r, f) = figures-answered (rateFree pick p ts answer work) e in
-      let (h, l, u) = free-rated pick r in (
-        h,
-        subst (λ a. leastDegree (prime p) ts ≡ some (a .degree)) f l,
-        subst (λ a. a .unique ≡ isUnique ts (a .degree)) f u,
       )
 
 -- Stretches of an endless sequence

@@ -290,9 +290,6 @@ module _ {F : Field} (I : IsField F) where
   unfolding negative
   negative-below a = multiple-below (F .characteristic - 1) a
 
-  pub negative-value : (a : ℕ) → negative F a ≡ value (⊖ element a)
-  negative-value a = sym (I .value-element (negative F a) (negative-below a)) ∙ ap value (element-negative a)
-
   -- The laws on numbers
   pub number-add-comm : (a b : ℕ) → (F .add) a b ≡ (F .add) b a
   number-add-comm a b =
@@ -324,11 +321,6 @@ module _ {F : Field} (I : IsField F) where
   number-mul-assoc a b c =
       element-injective (mul-below _ _) (mul-below _ _)
       (simp element-mul (ring .mul-assoc (element a) (element b) (element c)))
-
-  pub number-mul-add : (a b c : ℕ) → (F .mul) a ((F .add) b c) ≡ (F .add) ((F .mul) a b) ((F .mul) a c)
-  number-mul-add a b c =
-      element-injective (mul-below _ _) (add-below _ _)
-      (simp (element-mul, element-add) (ring .mul-add (element a) (element b) (element c)))
 
   pub number-one-mul : {a : ℕ} → a < F .size → (F .mul) 1 a ≡ a
   number-one-mul {a} l =
@@ -401,10 +393,6 @@ module _ {F : Field} (I : IsField F) where
       once-on m h n k e =
           ∥∥₁-elim h (ℕ-set m n)
           (λ i. ∥∥₁-elim k (ℕ-set m n) (λ j. element-injective (below i) (below j) e))
-
-  pub elements-all : elements .all ≡ map element (range 0 (F .size))
-  unfolding elements
-  elements-all = refl
 
   -- Raising to the size, and to powers of the characteristic where that is the size
   pub power-size : (c : K) → power ring c (F .size) ≡ c

@@ -2,13 +2,11 @@
 --
 --   Factorisation F f == two monic lists over F of positive degree that have the product f, with these two
 --   Divisor F g f     == g times some monic list is f, with that list
---   TestsDivisors F f t == the test t passes on a monic list of positive degree, at most half that of f,
---                        exactly where it is a divisor of f
 --   reducible-factorisation, factorisation-reducible == f is not irreducible exactly where it has one
 --   irreducible-poly, poly-irreducible == irreducible lists are the irreducible polynomials of `algebra`
 --   irreducible-words, words-irreducible == they are those that are no product in the words of paper 01
 --   irreducible-half, half-irreducible == irreducible: no monic list of positive degree, at most half that of
---                        f, divides f; `irreducible-search` is that with a test for divisors, as an equation
+--                        f, divides f
 --   divisor-constant  == x divides what a divisor with the constant term 0 divides, so that no other
 --                        divisor with the constant term 0 need be tried: `irreducible-trial`,
 --                        `constant-reducible`
@@ -22,16 +20,16 @@
 --
 -- f is monic over F and its degree is at least 1 wherever it is asked.
 -- Assumes nothing.
-use Prim.Native.Nat.{ℕ, zero, suc, _+_, _*_, _-_, _^_, _/_, _≤_, _<_}
-use mathlib.Core.Path.{_≡_, refl, sym, ap, ap₂, subst, fun-ext, _∙_}
+use Prim.Native.Nat.{ℕ, zero, suc, _+_, _*_, _-_, _≤_, _<_}
+use mathlib.Core.Path.{_≡_, refl, sym, ap, ap₂, subst, _∙_}
 use mathlib.Core.Logic.{_≢_}
 use mathlib.Core.Bool.{Bool, true, false, not}
 use mathlib.Core.List.{List, [], _∷_, map}
-use native.Mathlib.Nat.{not-suc-le-zero, le-of-suc-le-suc, mul-div-le, le-div-iff-mul-le}
+use native.Mathlib.Nat.{not-suc-le-zero, le-of-suc-le-suc}
 use native.Mathlib.Decide.{decLe}
 use native.Mathlib.Omega.{arith}
 use lib.ListN.{length, getD, length-map, List·getD-map}
-use lib.Dec.{T, eqb, T-not, not-T, eqb-refl, eqb→eq}
+use lib.Dec.{T, eqb, T-not, eqb-refl, eqb→eq}
 use Rattle.meaning.specs.Search.{range, holdsForSome}
 use Rattle.meaning.specs.Field.{Field, areElements, prime, primeInRange}
 use Rattle.meaning.specs.Polynomial.{Polynomial, degree, isMonicOver, plus, scale, times, monics, same}
@@ -59,7 +57,7 @@ use Rattle.bridge.proofs.Polynomials.{coefficient-poly, degree-length, 
 use Rattle.bridge.proofs.Polynomials.{elements-uncons, poly-nil}
 use Rattle.bridge.proofs.Products.{times-comm, accepted-monic, MonicFactors, factorAt-factorsOf, polys}
 use Rattle.bridge.proofs.Products.{length-factorsOf}
-use Rattle.bridge.proofs.Monics.{monicAt, some-monics, monics-some, monics-some-number}
+use Rattle.bridge.proofs.Monics.{some-monics, monics-some}
 
 module _ (F : Field) where
   pub record Factorisation (f : Polynomial) : Type 0 where
@@ -73,22 +71,6 @@ module _ (F : Field) where
 
   abbrev pub Divisor : Polynomial → Polynomial → Type 0
   Divisor g f = (h : Polynomial) × T (isMonicOver F h) × (times F g h ≡ f)
-
-  pub record TestsDivisors (f : Polynomial) (t : Polynomial → Bool) : Type 0 where
-    pub sound :
-        (g : Polynomial)
-        → T (isMonicOver F g)
-        → 1 ≤ degree g
-        → 2 * degree g ≤ degree f
-        → T (t g)
-        → Divisor g f
-    pub complete :
-        (g : Polynomial)
-        → T (isMonicOver F g)
-        → 1 ≤ degree g
-        → 2 * degree g ≤ degree f
-        → Divisor g f
-        → T (t g)
 
 pub degree-cons : (c : ℕ) (g : Polynomial) → degree (c ∷ g) ≡ length g
 unfolding degree
@@ -338,48 +320,6 @@ module _ {F : Field} (I : IsField F) where
     | no n ↦ let (g, m, l, k, d) = reducible-half f n in absurd (none g m l k d)
   ]
 
-  -- as a search, by any test for divisors
-  module _ (f : Polynomial) (t : Polynomial → Bool) (tests : TestsDivisors F f t) where
-    abbrev tried : ℕ → Bool
-    tried a = holdsForSome t (monics F a)
-
-    tried-divisor : (a : ℕ) → 1 ≤ a → 2 * a ≤ degree f → T (tried a) → ¬ T (irreducible F f)
-    tried-divisor a l k h i =
-        let (g, m, e, p) = some-monics I t a h in
-        let j : 1 ≤ degree g = omega arith in
-        let n : 2 * degree g ≤ degree f = omega arith in
-        irreducible-half f i g m j n (tests .sound g m j n p)
-
-    pub irreducible-search :
-        irreducible F f ≡ not (holdsForSome (λ a. holdsForSome t (monics F a)) (range 1 (degree f / 2)))
-    irreducible-search = T-same search irreducible-by
-      where
-        search : T (irreducible F f) → T (not (holdsForSome tried (range 1 (degree f / 2))))
-        search i =
-            not-T (holdsForSome tried (range 1 (degree f / 2)))
-            (λ h. let (a, l, k, p) = some-range tried 1 (degree f / 2) h in
-            tried-divisor a l (omega (arith, mul-div-le (degree f) 2)) p i)
-
-        irreducible-by : T (not (holdsForSome tried (range 1 (degree f / 2)))) → T (irreducible F f)
-        irreducible-by h =
-            half-irreducible f
-            (λ g m l k d.
-            let n : degree g ≤ degree f / 2 = le-div-iff-mul-le (omega arith) .1 (omega arith) in
-            T-not (holdsForSome tried (range 1 (degree f / 2))) h
-            (range-some tried 1 (degree f / 2) (degree g) l (omega arith)
-            (monics-some I t (degree g) g m refl (tests .complete g m l k d))))
-
-    -- the same by the numbers of the monic lists
-    pub irreducible-search-number :
-        irreducible F f
-        ≡ not (
-        holdsForSome (λ a. holdsForSome (λ n. t (monicAt (F .size) a n)) (range 0 (F .size ^ a)))
-        (range 1 (degree f / 2))
-        )
-    irreducible-search-number =
-        irreducible-search
-        ∙ ap (λ u. not (holdsForSome u (range 1 (degree f / 2)))) (fun-ext (monics-some-number I t))
-
   -- The polynomial x
   pub poly-zero-cons : (g : Polynomial) → poly I (0 ∷ g) ≡ X (I .ring) (I .field .discrete) ⊗ poly I g
   poly-zero-cons g =
@@ -443,9 +383,6 @@ module _ {F : Field} (I : IsField F) where
 
   pub linear-irreducible : (f : Polynomial) → degree f ≡ 1 → T (irreducible F f)
   linear-irreducible f e = half-irreducible f (λ g m l k _. omega arith)
-
-  pub x-irreducible : T (irreducible F (0 ∷ 1 ∷ []))
-  x-irreducible = linear-irreducible (0 ∷ 1 ∷ []) (degree-cons 0 (1 ∷ []))
 
   pub irreducible-constant :
       (f : Polynomial)

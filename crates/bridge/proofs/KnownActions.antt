@@ -1,24 +1,21 @@
 -- The action of a list on known terms and on a period, as lists of numbers.
 --
 --   allZero ts     == every number of the list is 0; true on the empty list
---   length-actOnKnown, getD-actOnKnown == it has m − deg g places; at place k stands the value of the action
+--   length-actOnKnown == it has m − deg g places
 --   actOnKnown-cut == on a stretch of a sequence it is a stretch of the action on the sequence
 --   actOnKnown-take, actOnKnown-short == on the first n terms; where there are too few terms it is empty
 --   actOnKnown-elements, actOnKnown-one, actOnKnown-times == the values are elements of the field; 1 leaves
 --                     elements as they are; a product acts as its factors one after the other
---   actOnKnown-power-add, actOnKnown-power-mul == so do powers
+--   actOnKnown-power-add == so do powers
 --   annihilatesKnown-all == g annihilates the terms exactly where all of its action on them is 0
 --   known-power    == higher powers of what annihilates annihilate too
 --   known-vanish   == terms that a monic list annihilates, the first of them 0 as many as its degree, are 0
 --   known-part     == Lemma 5 of document 001: if h·g annihilates the terms, and g the first deg h + deg g of
 --                     them, then g annihilates them all; `endless-part` is that for an endless sequence
 --   actOnPeriod-…, annihilatesPeriod-all == the same for a period, with as many places as terms
---   period-zeros, zeros-period == the action on a period is all 0 exactly where the list annihilates its
---                     endless repetition
 --   strideOnKnown F g q ts, strideOnPeriod F g q ts == the action with the stride q on known terms, at their
 --                     m − q·deg g places, and on a period
---   actOnKnown-stride, actOnPeriod-stride, prime-actOnKnown, prime-actOnPeriod == the power p^w acts with the
---                     stride p^w; `prime-actOnKnown-add` does so once more after other powers
+--   actOnKnown-stride, prime-actOnKnown, prime-actOnPeriod == the power p^w acts with the stride p^w
 --
 -- Subtraction is truncated, so that lists that are too short are no exception.
 -- Assumes nothing.
@@ -30,7 +27,7 @@ use native.Mathlib.Nat as ℕ
 use native.Mathlib.Decide.{decLe}
 use native.Mathlib.Omega.{arith}
 use lib.ListN.{length, getD, take, replicate, length-take, length-map, length-replicate, getD-replicate}
-use lib.Seq.{ext-getD, getD-take}
+use lib.Seq.{getD-take}
 use lib.Dec.{T, eqb, eqb→eq, eqb-refl}
 use Rattle.meaning.specs.Search.{range, holdsForAll}
 use Rattle.meaning.specs.Field.{Field, prime, areElements}
@@ -40,23 +37,21 @@ use Rattle.meaning.specs.Sequence.{actOnKnown, actOnPeriod, AnnihilatesEndless,
 use Rattle.algebra.proofs.Action.{act, Agree, Kills}
 use Rattle.algebra.proofs.Annihilator.{kills-part}
 use Rattle.algebra.proofs.Continuation.{monic-zeros}
-use Rattle.algebra.proofs.Cut.{Periodic}
 use Rattle.bridge.proofs.Searches.{all-nil, all-cons, all-uncons}
 use Rattle.bridge.proofs.Interpretation.{number-mul-zero, number-add-zero, size-positive, IsField}
 use Rattle.bridge.proofs.Interpretation.{element-zero-only}
 use Rattle.bridge.proofs.Polynomials.{poly-times, poly, monic-poly, monic-nonempty, getD-below}
 use Rattle.bridge.proofs.Polynomials.{degree-times, degree-length, length-degree}
-use Rattle.bridge.proofs.Products.{power-monic, power-nonempty, degree-power, power-add, power-mul}
-use Rattle.bridge.proofs.Products.{times-comm, power-zero-list, power-suc-list}
+use Rattle.bridge.proofs.Products.{power-monic, power-nonempty, degree-power, power-add}
+use Rattle.bridge.proofs.Products.{power-zero-list}
 use Rattle.bridge.proofs.Spread.{raise}
 use Rattle.bridge.proofs.Actions.{endless-kills, kills-endless, known-stretch, actStride-nil}
 use Rattle.bridge.proofs.Actions.{actStride-cons, actStride-below, sequence, actAt-zero, known-places}
 use Rattle.bridge.proofs.Actions.{actAt-below, actAt-local, actAt-times, actAt-one, actAt-zeros}
 use Rattle.bridge.proofs.Actions.{actAt-cut, actStride, actAt-power-stride, prime-actAt-power}
 use Rattle.bridge.proofs.Actions.{actAt-periodic, length-cut, getD-cut, known-getD, cut-equal}
-use Rattle.bridge.proofs.Actions.{cut-known, cut-take, periodic-cut, periodic-getD, periodic-repeats}
-use Rattle.bridge.proofs.Actions.{cut-elements, known-inField, periodic-inField, period-endless}
-use Rattle.bridge.proofs.Actions.{endless-period}
+use Rattle.bridge.proofs.Actions.{cut-known, periodic-cut, periodic-getD, periodic-repeats}
+use Rattle.bridge.proofs.Actions.{cut-elements, known-inField, periodic-inField}
 
 -- Lists of zeros
 unfoldable pub allZero : List ℕ → Bool
@@ -80,11 +75,6 @@ getD-allZero (a ∷ ts) h =
     (subst (λ n. T (eqb n 0)) (sym (h 0 (omega arith))) (eqb-refl 0))
     (getD-allZero ts (λ i l. h (suc i) (omega arith)))
 
-pub allZero-replicate : (ts : List ℕ) → T (allZero ts) → ts ≡ replicate (length ts) 0
-allZero-replicate ts h =
-    ext-getD 0 ts (replicate (length ts) 0) (sym (length-replicate (length ts) 0))
-    (λ i l. allZero-getD ts h i ∙ sym (getD-replicate (length ts) i 0 0 l))
-
 pub replicate-allZero : (n : ℕ) → T (allZero (replicate n 0))
 replicate-allZero n =
     getD-allZero (replicate n 0)
@@ -98,9 +88,6 @@ allZero-take n ts h =
 pub allZero-cut : (s : Sequence) (k m : ℕ) → ((i : ℕ) → i < m → s (k + i) ≡ 0) → T (allZero (cut s k m))
 allZero-cut s k m h =
     getD-allZero (cut s k m) (λ i l. let b : i < m = rw length-cut at l in getD-cut s k m i b ∙ h i b)
-
-pub cut-allZero : (s : Sequence) (k m : ℕ) → T (allZero (cut s k m)) → (i : ℕ) → i < m → s (k + i) ≡ 0
-cut-allZero s k m h i l = sym (getD-cut s k m i l) ∙ allZero-getD (cut s k m) h i
 
 -- a list of values by places is a stretch
 pub map-range : (s : Sequence) (k m : ℕ) → map s (range k m) ≡ cut s k m
@@ -142,21 +129,6 @@ module _ (F : Field) where
 
   pub length-actOnKnown : (g : Polynomial) (ts : List ℕ) → length (actOnKnown F g ts) ≡ length ts - degree g
   length-actOnKnown g ts = ap length (actOnKnown-stretch g ts) ∙ length-cut _ 0 (length ts - degree g)
-
-  pub getD-actOnKnown :
-      (g : Polynomial) (ts : List ℕ) (k : ℕ)
-      → k + degree g < length ts
-      → getD (actOnKnown F g ts) k 0 ≡ actAt F g (known ts) k
-  getD-actOnKnown g ts k l =
-      ap (λ l. getD l k 0) (actOnKnown-stretch g ts)
-      ∙ getD-cut (actAt F g (known ts)) 0 (length ts - degree g) k (omega arith)
-      ∙ ap (actAt F g (known ts)) (ℕ.zero-add k)
-
-  pub known-actOnKnown :
-      (g : Polynomial) (ts : List ℕ) (k : ℕ)
-      → k + degree g < length ts
-      → known (actOnKnown F g ts) k ≡ actAt F g (known ts) k
-  known-actOnKnown g ts k l = known-getD (actOnKnown F g ts) k ∙ getD-actOnKnown g ts k l
 
   pub actOnKnown-cut :
       (g : Polynomial) (s : Sequence) (k m : ℕ)
@@ -253,16 +225,6 @@ module _ {F : Field} (I : IsField F) where
       places : length ts - degree (times F f g) ≡ length ts - degree g - degree f
       places = omega (arith, degree-times I f g a b)
 
-  pub actOnKnown-comm :
-      (f g : Polynomial) (ts : List ℕ)
-      → 0 < length f
-      → 0 < length g
-      → actOnKnown F f (actOnKnown F g ts) ≡ actOnKnown F g (actOnKnown F f ts)
-  actOnKnown-comm f g ts a b =
-      sym (actOnKnown-times f g ts a b)
-      ∙ ap (λ h. actOnKnown F h ts) (times-comm I f g a b)
-      ∙ actOnKnown-times g f ts b a
-
   -- an annihilated part of a product
   pub known-times :
       (f g : Polynomial) (ts : List ℕ)
@@ -296,33 +258,12 @@ module _ {F : Field} (I : IsField F) where
     actOnKnown-power-zero ts h =
         ap (λ g. actOnKnown F g ts) (power-zero-list F f) ∙ actOnKnown-one ts h
 
-    pub actOnKnown-power-suc :
-        (n : ℕ) (ts : List ℕ)
-        → actOnKnown F (power F f (suc n)) ts ≡ actOnKnown F f (actOnKnown F (power F f n) ts)
-    actOnKnown-power-suc n ts =
-        ap (λ g. actOnKnown F g ts) (power-suc-list F f n)
-        ∙ actOnKnown-times f (power F f n) ts nonempty (power-nonempty I f n nonempty)
-
     pub actOnKnown-power-add :
         (m n : ℕ) (ts : List ℕ)
         → actOnKnown F (power F f (m + n)) ts ≡ actOnKnown F (power F f m) (actOnKnown F (power F f n) ts)
     actOnKnown-power-add m n ts =
         ap (λ g. actOnKnown F g ts) (power-add I f m n nonempty)
         ∙ actOnKnown-times (power F f m) (power F f n) ts
-        (power-nonempty I f m nonempty) (power-nonempty I f n nonempty)
-
-    pub actOnKnown-power-mul :
-        (m n : ℕ) (ts : List ℕ)
-        → actOnKnown F (power F f (m * n)) ts ≡ actOnKnown F (power F (power F f m) n) ts
-    actOnKnown-power-mul m n ts = ap (λ g. actOnKnown F g ts) (power-mul I f m n nonempty)
-
-    pub annihilatesKnown-power-add :
-        (m n : ℕ) (ts : List ℕ)
-        → annihilatesKnown F (power F f (m + n)) ts
-        ≡ annihilatesKnown F (power F f m) (actOnKnown F (power F f n) ts)
-    annihilatesKnown-power-add m n ts =
-        ap (λ g. annihilatesKnown F g ts) (power-add I f m n nonempty)
-        ∙ annihilatesKnown-times (power F f m) (power F f n) ts
         (power-nonempty I f m nonempty) (power-nonempty I f n nonempty)
 
     -- higher powers of what annihilates annihilate too
@@ -341,12 +282,6 @@ module _ {F : Field} (I : IsField F) where
     pub short-power :
         (n : ℕ) (ts : List ℕ) → length ts ≤ n * degree f → T (annihilatesKnown F (power F f n) ts)
     short-power n ts l = short-known F (power F f n) ts (omega (arith, degree-power I f n nonempty))
-
-    -- no power but 0 has more places than terms: it annihilates where all terms are 0
-    pub annihilatesKnown-power-zero :
-        (ts : List ℕ) → T (areElements F ts) → annihilatesKnown F (power F f 0) ts ≡ allZero ts
-    annihilatesKnown-power-zero ts h =
-        annihilatesKnown-all F (power F f 0) ts ∙ ap allZero (actOnKnown-power-zero ts h)
 
 -- Lemma 5
 module _ {F : Field} (I : IsField F) where
@@ -448,15 +383,6 @@ module _ (F : Field) where
   pub length-actOnPeriod : (g : Polynomial) (ts : List ℕ) → length (actOnPeriod F g ts) ≡ length ts
   length-actOnPeriod g ts = ap length (actOnPeriod-stretch g ts) ∙ length-cut _ 0 (length ts)
 
-  pub getD-actOnPeriod :
-      (g : Polynomial) (ts : List ℕ) (k : ℕ)
-      → k < length ts
-      → getD (actOnPeriod F g ts) k 0 ≡ actAt F g (periodic ts) k
-  getD-actOnPeriod g ts k l =
-      ap (λ l. getD l k 0) (actOnPeriod-stretch g ts)
-      ∙ getD-cut (actAt F g (periodic ts)) 0 (length ts) k l
-      ∙ ap (actAt F g (periodic ts)) (ℕ.zero-add k)
-
   pub periodic-actOnPeriod :
       (g : Polynomial) (ts : List ℕ) (k : ℕ)
       → 0 < length ts
@@ -467,56 +393,10 @@ module _ (F : Field) where
       (actAt-periodic F g (periodic ts) (length ts) (periodic-repeats ts)) k
       ∙ ap (actAt F g (periodic ts)) (ℕ.zero-add k)
 
-  pub actOnPeriod-cut :
-      (g : Polynomial) (s : Sequence) (k n : ℕ)
-      → 0 < n
-      → Periodic s n
-      → actOnPeriod F g (cut s k n) ≡ cut (actAt F g s) k n
-  actOnPeriod-cut g s k n l h =
-      actOnPeriod-stretch g (cut s k n)
-      ∙ ap (cut (actAt F g (periodic (cut s k n))) 0) (length-cut s k n)
-      ∙ cut-equal (actAt F g (periodic (cut s k n))) (actAt F g s) 0 k n
-      (λ i _.
-      actAt-local F g (periodic (cut s k n)) s (0 + i) (k + i)
-      (λ j _.
-      let e : k + (0 + i + j) ≡ k + i + j = omega arith in
-      periodic-cut s k n l h (0 + i + j) ∙ ap s e))
-
   pub annihilatesPeriod-all :
       (g : Polynomial) (ts : List ℕ) → annihilatesPeriod F g ts ≡ allZero (actOnPeriod F g ts)
   unfolding annihilatesPeriod actOnPeriod
   annihilatesPeriod-all g ts = all-map (actAt F g (periodic ts)) (range 0 (length ts))
-
-  pub period-zeros :
-      (g : Polynomial) (ts : List ℕ)
-      → AnnihilatesEndless F g (periodic ts)
-      → T (allZero (actOnPeriod F g ts))
-  period-zeros g ts h = subst T (annihilatesPeriod-all g ts) (endless-period F g ts h)
-
-  pub zeros-period :
-      (g : Polynomial) (ts : List ℕ)
-      → 0 < length ts
-      → T (allZero (actOnPeriod F g ts))
-      → AnnihilatesEndless F g (periodic ts)
-  zeros-period g ts l h = period-endless F g ts l (subst T (sym (annihilatesPeriod-all g ts)) h)
-
-  -- the first places are those of the action on known terms
-  pub actOnPeriod-known :
-      (g : Polynomial) (ts : List ℕ) → take (length ts - degree g) (actOnPeriod F g ts) ≡ actOnKnown F g ts
-  unfolding degree
-  actOnPeriod-known g ts =
-      ap (take (length ts - degree g)) (actOnPeriod-stretch g ts)
-      ∙ cut-take (actAt F g (periodic ts)) 0 (length ts - degree g) (length ts) (omega arith)
-      ∙ cut-equal (actAt F g (periodic ts)) (actAt F g (known ts)) 0 0 (length ts - degree g) same
-      ∙ sym (actOnKnown-stretch F g ts)
-    where
-      same :
-          (i : ℕ)
-          → i < length ts - degree g
-          → actAt F g (periodic ts) (0 + i) ≡ actAt F g (known ts) (0 + i)
-      same i l =
-          actAt-local F g (periodic ts) (known ts) (0 + i) (0 + i)
-          (λ j b. periodic-getD ts (0 + i + j) (omega arith) ∙ sym (known-getD ts (0 + i + j)))
 
 module _ {F : Field} (I : IsField F) where
   pub actOnPeriod-elements : (g : Polynomial) (ts : List ℕ) → T (areElements F (actOnPeriod F g ts))
@@ -566,12 +446,6 @@ module _ {F : Field} (I : IsField F) where
     actOnPeriod-power-zero ts h =
         ap (λ g. actOnPeriod F g ts) (power-zero-list F f) ∙ actOnPeriod-one ts h
 
-    pub actOnPeriod-power-suc :
-        (n : ℕ) (ts : List ℕ)
-        → actOnPeriod F (power F f (suc n)) ts ≡ actOnPeriod F f (actOnPeriod F (power F f n) ts)
-    actOnPeriod-power-suc n ts =
-        ap (λ g. actOnPeriod F g ts) (power-suc-list F f n) ∙ actOnPeriod-times f (power F f n) ts
-
     pub actOnPeriod-power-add :
         (m n : ℕ) (ts : List ℕ)
         → 0 < length f
@@ -605,15 +479,6 @@ module _ (F : Field) (g : Polynomial) (q : ℕ) (ts : List ℕ) where
   unfolding strideOnKnown
   length-strideOnKnown = length-cut (actStride F g q (known ts)) 0 (length ts - q * degree g)
 
-  pub getD-strideOnKnown :
-      (k : ℕ)
-      → k + q * degree g < length ts
-      → getD (strideOnKnown F g q ts) k 0 ≡ actStride F g q (known ts) k
-  unfolding strideOnKnown
-  getD-strideOnKnown k l =
-      getD-cut (actStride F g q (known ts)) 0 (length ts - q * degree g) k (omega arith)
-      ∙ ap (actStride F g q (known ts)) (ℕ.zero-add k)
-
   pub strideOnKnown-short : length ts ≤ q * degree g → strideOnKnown F g q ts ≡ []
   unfolding strideOnKnown cut
   strideOnKnown-short l =
@@ -623,17 +488,6 @@ module _ (F : Field) (g : Polynomial) (q : ℕ) (ts : List ℕ) where
   -- a try for which there are too few terms leaves nothing
   pub strideOnKnown-none : length ts ≤ q * degree g → T (allZero (strideOnKnown F g q ts))
   strideOnKnown-none l = subst (λ l. T (allZero l)) (sym (strideOnKnown-short l)) allZero-nil
-
-  pub length-strideOnPeriod : length (strideOnPeriod F g q ts) ≡ length ts
-  unfolding strideOnPeriod
-  length-strideOnPeriod = length-cut (actStride F g q (periodic ts)) 0 (length ts)
-
-  pub getD-strideOnPeriod :
-      (k : ℕ) → k < length ts → getD (strideOnPeriod F g q ts) k 0 ≡ actStride F g q (periodic ts) k
-  unfolding strideOnPeriod
-  getD-strideOnPeriod k l =
-      getD-cut (actStride F g q (periodic ts)) 0 (length ts) k l
-      ∙ ap (actStride F g q (periodic ts)) (ℕ.zero-add k)
 
 module _ {F : Field} (I : IsField F) where
   actStride-zeros :
@@ -658,12 +512,6 @@ module _ {F : Field} (I : IsField F) where
       allZero-cut (actStride F g q (known ts)) 0 (length ts - q * degree g)
       (λ i _. actStride-zeros g q (known ts) (0 + i) (λ j. known-getD ts j ∙ allZero-getD ts h j))
 
-  pub strideOnPeriod-elements :
-      (g : Polynomial) (q : ℕ) (ts : List ℕ) → T (areElements F (strideOnPeriod F g q ts))
-  unfolding strideOnPeriod
-  strideOnPeriod-elements g q ts =
-      cut-elements F (actStride F g q (periodic ts)) 0 (length ts) (actStride-below I g q (periodic ts))
-
 module _ {F : Field} (I : IsField F) (w : ℕ) (f : Polynomial) (nonempty : 0 < length f) (ts : List ℕ) where
   abbrev q : ℕ
   q = F .characteristic ^ w
@@ -683,14 +531,6 @@ module _ {F : Field} (I : IsField F) (w : ℕ) (f : Polynomial) (nonempty : 0 < 
 
       places : degree (power F f q) ≡ q * degree (map (raise F q) f)
       places = degree-power I f q nonempty ∙ ap (_*_ q) same-degree
-
-  pub actOnPeriod-stride : actOnPeriod F (power F f q) ts ≡ strideOnPeriod F (map (raise F q) f) q ts
-  unfolding strideOnPeriod
-  actOnPeriod-stride =
-      actOnPeriod-stretch F (power F f q) ts
-      ∙ cut-equal (actAt F (power F f q) (periodic ts)) (actStride F (map (raise F q) f) q (periodic ts)) 0 0
-      (length ts)
-      (λ i _. actAt-power-stride I w f nonempty (periodic ts) (0 + i))
 
 -- the numbers of the list stay in GF(p)
 module _
@@ -717,27 +557,8 @@ module _
         (actStride (prime p) f (p ^ w) (periodic ts)) 0 0 (length ts)
         (λ i _. prime-actAt-power p I w f nonempty elements (periodic ts) (0 + i))
 
-    pub prime-annihilatesKnown :
-        annihilatesKnown (prime p) (power (prime p) f (p ^ w)) ts
-        ≡ allZero (strideOnKnown (prime p) f (p ^ w) ts)
-    prime-annihilatesKnown =
-        annihilatesKnown-all (prime p) (power (prime p) f (p ^ w)) ts ∙ ap allZero prime-actOnKnown
-
     pub prime-annihilatesPeriod :
         annihilatesPeriod (prime p) (power (prime p) f (p ^ w)) ts
         ≡ allZero (strideOnPeriod (prime p) f (p ^ w) ts)
     prime-annihilatesPeriod =
         annihilatesPeriod-all (prime p) (power (prime p) f (p ^ w)) ts ∙ ap allZero prime-actOnPeriod
-
--- one more power p^w after others
-pub prime-actOnKnown-add :
-    (p : ℕ) (I : IsField (prime p)) (w : ℕ) (f : Polynomial)
-    → 0 < length f
-    → T (areElements (prime p) f)
-    → (n : ℕ) (ts : List ℕ)
-    → strideOnKnown (prime p) f (p ^ w) (actOnKnown (prime p) (power (prime p) f n) ts)
-    ≡ actOnKnown (prime p) (power (prime p) f (n + p ^ w)) ts
-prime-actOnKnown-add p I w f l h n ts =
-    sym (prime-actOnKnown p I w f l h (actOnKnown (prime p) (power (prime p) f n) ts))
-    ∙ sym (actOnKnown-power-add I f l (p ^ w) n ts)
-    ∙ ap (λ e. actOnKnown (prime p) (power (prime p) f e) ts) (ℕ.add-comm (p ^ w) n)

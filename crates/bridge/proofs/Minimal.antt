@@ -3,22 +3,20 @@
 --   minimal-algebra, algebra-minimal == `MinimalPolynomial` is `Minimal` of the list's polynomial
 --   minimal-unique  == a sequence has at most one minimal polynomial, as a list
 --   minimal-degree  == no monic list that annihilates the sequence has a smaller degree
---   minimal-one, one-minimal == 1 is the minimal polynomial of the zero sequence, and of no other
+--   minimal-one     == 1 is the minimal polynomial of the zero sequence
 --   leastPower-algebra, algebra-leastPower == `LeastPower` is `Least` among the powers that annihilate
---   leastPower-unique, leastPower-exists == there is at most one, and one where some power annihilates
---   leastPower-minimal, minimal-leastPower == f^r is the minimal polynomial exactly where r is the least
---                      power, for an irreducible f
+--   leastPower-exists == there is one where some power annihilates
+--   leastPower-minimal == f^r is the minimal polynomial for the least power r of an irreducible f
 --
 -- Assumes nothing.
-use Prim.Native.Nat.{ℕ, _*_, _≤_, _<_}
+use Prim.Native.Nat.{ℕ, _≤_, _<_}
 use mathlib.Core.Path.{_≡_, refl, sym, ap, subst, _∙_}
 use mathlib.Core.List.{[], _∷_}
-use native.Mathlib.Nat.{le-of-mul-le-mul-right, le-antisymm}
 use native.Mathlib.Omega.{arith}
 use lib.Dec.{T}
 use Rattle.meaning.specs.Field.{Field}
 use Rattle.meaning.specs.Polynomial.{Polynomial, degree, isMonicOver, power, same, irreducible}
-use Rattle.meaning.specs.Sequence.{Sequence, InField, AnnihilatesEndless, MinimalPolynomial, LeastPower}
+use Rattle.meaning.specs.Sequence.{Sequence, AnnihilatesEndless, MinimalPolynomial, LeastPower}
 use Rattle.algebra.proofs.Number.{Least, least-below}
 use Rattle.algebra.proofs.Power.{power as algebra-power}
 use Rattle.algebra.proofs.Ideal.{Generator}
@@ -31,11 +29,11 @@ use Rattle.algebra.proofs.Annihilator.{minimal-one as algebra-minimal-one}
 use Rattle.bridge.proofs.Searches.{T-decided}
 use Rattle.bridge.proofs.Interpretation.{IsField}
 use Rattle.bridge.proofs.Polynomials.{Poly, polyRing, poly, monic-poly, monic-list, monic-equal}
-use Rattle.bridge.proofs.Polynomials.{same-equal, equal-same, one-monic, monic-nonempty, poly-one}
+use Rattle.bridge.proofs.Polynomials.{same-equal, equal-same, one-monic, poly-one}
 use Rattle.bridge.proofs.Polynomials.{length-degree}
-use Rattle.bridge.proofs.Products.{poly-power, power-monic, degree-power}
+use Rattle.bridge.proofs.Products.{poly-power, power-monic}
 use Rattle.bridge.proofs.Irreducibles.{irreducible-poly}
-use Rattle.bridge.proofs.Actions.{sequence, actAt-one, endless-kills, kills-endless}
+use Rattle.bridge.proofs.Actions.{sequence, endless-kills, kills-endless}
 
 module _ {F : Field} (I : IsField F) where
   -- The minimal polynomial
@@ -102,10 +100,6 @@ module _ {F : Field} (I : IsField F) where
       (subst (Minimal (sequence I s) (polyRing I .1#)) (sym (length-degree (1 ∷ []) refl))
       (algebra-minimal-one (I .ring) (I .field .discrete) (λ i. ap (I .element) (z i) ∙ I .element-zero))))
 
-  pub one-minimal :
-      (s : Sequence) → InField F s → MinimalPolynomial F (1 ∷ []) s → (i : ℕ) → s i ≡ 0
-  one-minimal s h x i = sym (actAt-one I s i (h i)) ∙ x .annihilates i
-
   -- The least power
   module _ (f : Polynomial) (s : Sequence) where
     abbrev KillsPower : ℕ → Type 0
@@ -140,9 +134,6 @@ module _ {F : Field} (I : IsField F) where
               let h : ¬ (e < r) = λ l. x .least e l (power-kills e z) in
               omega arith;
         }
-
-    pub leastPower-unique : {q r : ℕ} → LeastPower F f s q → LeastPower F f s r → q ≡ r
-    leastPower-unique x y = le-antisymm (x .smallest _ (y .annihilates)) (y .smallest _ (x .annihilates))
 
     -- where some power annihilates, the least one is at most that
     pub leastPower-exists :
@@ -181,21 +172,3 @@ module _ {F : Field} (I : IsField F) where
             (power-generator (polyRing I) (kills-ideal (sequence I s))
             (irreducible-atom (I .field) (irreducible-poly I f m l i))
             (leastPower-algebra x))
-
-    pub minimal-leastPower :
-        {r : ℕ}
-        → T (isMonicOver F f)
-        → 1 ≤ degree f
-        → MinimalPolynomial F (power F f r) s
-        → LeastPower F f s r
-    minimal-leastPower {r} m l x =
-        record {
-          annihilates = x .annihilates;
-          smallest =
-              λ e z.
-              le-of-mul-le-mul-right
-              (subst (λ n. n ≤ e * degree f) (degree-power I f r (monic-nonempty F f m))
-              (subst (λ n. degree (power F f r) ≤ n) (degree-power I f e (monic-nonempty F f m))
-              (minimal-degree (power F f r) s x (power F f e) (power-monic I f e m) z)))
-              l;
-        }

@@ -7,24 +7,17 @@
 --                        this order; by places it is `monics-at`
 --   length-monics     == it has size^d members
 --   monics-monic, monic-monics == its members are the monic lists over F of degree d
---   monics-once       == each of them once
---   monic-number      == each monic list is that of a number
 --   some-monics, monics-some == some member passes exactly where some monic list of degree d passes
---   monics-some-number == the same search by the numbers of the members
 --
 -- Assumes nothing.
 use Prim.Native.Nat.{ℕ, zero, suc, _+_, _*_, _^_, _/_, _%_, _<_, zero-le}
 use mathlib.Core.Path.{_≡_, refl, sym, ap, ap₂, subst, _∙_}
-use mathlib.Core.HLevel.{⊥-prop}
-use mathlib.Core.Logic.{_⊎_, inl, inr, ∥∥₁-elim}
 use mathlib.Core.Bool.{Bool}
-use mathlib.Core.List.{List, [], _∷_, _++_, map, List·Mem, List·Memᴰ, List·Memᴰ·head, List·Memᴰ·tail}
-use mathlib.Core.List.{Memᴰ·cast, Memᴰ·append-left, Memᴰ·append-right, List·Memᴰ·append-cases, Memᴰ·map}
-use mathlib.Core.List.{Memᴰ·of-map, List·Memᴰ·not-nil, List·Nodup, Pairwise·nil, Pairwise·cons}
-use mathlib.Core.List.{head-eq-of-cons-eq, tail-eq-of-cons-eq}
-use mathlib.Mathlib.Data.List.Nodup.{append, nodup-singleton, map as nodup-map}
-use native.Mathlib.Nat.{not-suc-le-zero, le-of-suc-le-suc, pow-zero, pow-suc, pow-succ', mod-lt, div-add-mod'}
-use native.Mathlib.Nat.{div-lt-iff-lt-mul, div-div-eq-div-mul, div-one, suc-mul}
+use mathlib.Core.List.{List, [], _∷_, _++_, map, List·Memᴰ, List·Memᴰ·head, List·Memᴰ·tail}
+use mathlib.Core.List.{Memᴰ·cast, Memᴰ·append-left, Memᴰ·append-right, Memᴰ·map}
+use mathlib.Core.List.{Memᴰ·of-map}
+use native.Mathlib.Nat.{not-suc-le-zero, le-of-suc-le-suc, pow-zero, pow-suc, mod-lt, div-add-mod'}
+use native.Mathlib.Nat.{div-lt-iff-lt-mul, suc-mul}
 use native.Mathlib.Omega.{arith}
 use lib.ListN.{length, getD, length-map, length-append, List·getD-append}
 use lib.Seq.{ext-getD, getD-append-add, getD-at}
@@ -32,8 +25,8 @@ use lib.Dec.{T}
 use Rattle.meaning.specs.Search.{range, holdsForSome}
 use Rattle.meaning.specs.Field.{Field, areElements}
 use Rattle.meaning.specs.Polynomial.{Polynomial, degree, isMonicOver, eachHead, monics}
-use Rattle.bridge.proofs.Searches.{some-member, member-some, range-member, member-range, range-once}
-use Rattle.bridge.proofs.Searches.{length-range, getD-range, T-same}
+use Rattle.bridge.proofs.Searches.{some-member, member-some, range-member, member-range}
+use Rattle.bridge.proofs.Searches.{length-range, getD-range}
 use Rattle.bridge.proofs.Interpretation.{IsField, size-positive}
 use Rattle.bridge.proofs.Polynomials.{length-degree, elements-uncons, elements-cons, monic-over}
 use Rattle.bridge.proofs.Polynomials.{monic-elements, monic-length, monic-last, one-elements}
@@ -54,14 +47,6 @@ unfolding digits
 length-digits q zero n = refl
 length-digits q (suc d) n = ap suc (length-digits q d (n / q))
 
-pub getD-digits : (q d n i : ℕ) → i < d → getD (digits q d n) i 0 ≡ digit q n i
-unfolding digits digit
-getD-digits q zero n i l = absurd (not-suc-le-zero l)
-getD-digits q (suc d) n zero l = ap (λ m. m % q) (sym (div-one n) ∙ ap (_/_ n) (sym (pow-zero q)))
-getD-digits q (suc d) n (suc i) l =
-    getD-digits q d (n / q) i (le-of-suc-le-suc l)
-    ∙ ap (λ m. m % q) (div-div-eq-div-mul n q (q ^ i) ∙ ap (_/_ n) (sym (pow-succ' q i)))
-
 pub monicAt-zero : (q n : ℕ) → monicAt q 0 n ≡ 1 ∷ []
 unfolding monicAt digits
 monicAt-zero q n = refl
@@ -74,30 +59,12 @@ pub length-monicAt : (q d n : ℕ) → length (monicAt q d n) ≡ suc d
 unfolding monicAt
 length-monicAt q d n = length-append (digits q d n) (1 ∷ []) ∙ omega (arith, length-digits q d n)
 
-pub getD-monicAt : (q d n i : ℕ) → i < d → getD (monicAt q d n) i 0 ≡ digit q n i
-unfolding monicAt
-getD-monicAt q d n i l =
-    List·getD-append (digits q d n) (1 ∷ []) 0 i (subst (λ k. i < k) (sym (length-digits q d n)) l)
-    ∙ getD-digits q d n i l
-
 pub last-monicAt : (q d n : ℕ) → getD (monicAt q d n) d 0 ≡ 1
 unfolding monicAt
 last-monicAt q d n = getD-at (digits q d n) 1 [] 0 d (length-digits q d n)
 
 pub degree-monicAt : (q d n : ℕ) → degree (monicAt q d n) ≡ d
 degree-monicAt q d n = length-degree (monicAt q d n) (length-monicAt q d n)
-
--- A search in a mapped list
-pub some-map :
-    {A B : Type 0} (t : B → Bool) (f : A → B) (l : List A)
-    → holdsForSome t (map f l) ≡ holdsForSome (λ a. t (f a)) l
-some-map t f l =
-    T-same
-    (λ h. let (b, m, p) = some-member t (map f l) h in
-    let (a, n, e) = Memᴰ·of-map f l m in
-    member-some (λ a. t (f a)) l a n (subst (λ b. T (t b)) (sym e) p))
-    (λ h. let (a, m, p) = some-member (λ a. t (f a)) l h in
-    member-some t (map f l) (f a) (Memᴰ·map f m) p)
 
 -- Each head before each list
 pub getD-mapped :
@@ -118,22 +85,6 @@ module _ (cs : List ℕ) where
   each-member {c} {f} (g ∷ l) m (List·Memᴰ·head e) =
       Memᴰ·append-left (eachHead cs l) (Memᴰ·cast (ap (_∷_ c) e) (Memᴰ·map (λ c. c ∷ g) m))
   each-member (g ∷ l) m (List·Memᴰ·tail n) = Memᴰ·append-right (map (λ c. c ∷ g) cs) (each-member l m n)
-
-  member-each :
-      {g : Polynomial} (l : List Polynomial)
-      → List·Memᴰ g (eachHead cs l)
-      → (c : ℕ) × (f : Polynomial) × (c ∷ f ≡ g) × List·Memᴰ c cs × List·Memᴰ f l
-  unfolding eachHead
-  member-each [] m = absurd (List·Memᴰ·not-nil m)
-  member-each {g} (f ∷ l) m = go (member-each l) (List·Memᴰ·append-cases (map (λ c. c ∷ f) cs) m)
-    where
-      go :
-          (List·Memᴰ g (eachHead cs l)
-          → (c : ℕ) × (f : Polynomial) × (c ∷ f ≡ g) × List·Memᴰ c cs × List·Memᴰ f l)
-          → List·Memᴰ g (map (λ c. c ∷ f) cs) ⊎ List·Memᴰ g (eachHead cs l)
-          → (c : ℕ) × (h : Polynomial) × (c ∷ h ≡ g) × List·Memᴰ c cs × List·Memᴰ h (f ∷ l)
-      go rest (inl m) = let (c, n, e) = Memᴰ·of-map (λ c. c ∷ f) cs m in (c, f, e, n, List·Memᴰ·head refl)
-      go rest (inr m) = let (c, h, e, n, k) = rest m in (c, h, e, n, List·Memᴰ·tail k)
 
   length-each : (l : List Polynomial) → length (eachHead cs l) ≡ length l * length cs
   unfolding eachHead
@@ -163,21 +114,6 @@ module _ (cs : List ℕ) where
       place : suc m * length cs + i ≡ length (map (λ c. c ∷ f) cs) + (m * length cs + i)
       place = rw length-map (omega (arith, suc-mul m (length cs)))
 
-  each-once : List·Nodup cs → (l : List Polynomial) → List·Nodup l → List·Nodup (eachHead cs l)
-  unfolding eachHead
-  each-once o [] n = Pairwise·nil
-  each-once o (f ∷ l) (Pairwise·cons h n) =
-      append (nodup-map (λ _ _ e. head-eq-of-cons-eq e) o) (each-once o l n) apart
-    where
-      apart-data : (g : Polynomial) → List·Memᴰ g (map (λ c. c ∷ f) cs) → List·Memᴰ g (eachHead cs l) → ⊥
-      apart-data g m k =
-          let (c, _, e) = Memᴰ·of-map (λ c. c ∷ f) cs m in
-          let (b, t, u, _, i) = member-each l k in
-          h t (∣_∣₁ i) (tail-eq-of-cons-eq (e ∙ sym u))
-
-      apart : (g : Polynomial) → List·Mem g (map (λ c. c ∷ f) cs) → List·Mem g (eachHead cs l) → ⊥
-      apart g m k = ∥∥₁-elim m ⊥-prop (λ m. ∥∥₁-elim k ⊥-prop (apart-data g m))
-
 module _ (F : Field) where
   pub length-monics : (d : ℕ) → length (monics F d) ≡ F .size ^ d
   unfolding monics
@@ -186,11 +122,6 @@ module _ (F : Field) where
       length-each (range 0 (F .size)) (monics F d)
       ∙ ap₂ _*_ (length-monics d) (length-range 0 (F .size))
       ∙ sym (pow-suc (F .size) d)
-
-  pub monics-once : (d : ℕ) → List·Nodup (monics F d)
-  unfolding monics
-  monics-once zero = nodup-singleton (1 ∷ [])
-  monics-once (suc d) = each-once (range 0 (F .size)) (range-once 0 (F .size)) (monics F d) (monics-once d)
 
   listed :
       (d : ℕ) (f : Polynomial)
@@ -283,13 +214,6 @@ module _ {F : Field} (I : IsField F) where
       let (n, _, e) = monics-number d m in
       subst (λ f. T (isMonicOver F f) × (degree f ≡ d)) e (monicAt-monic d n, degree-monicAt (F .size) d n)
 
-  -- each monic list by its number
-  pub monic-number :
-      (f : Polynomial)
-      → T (isMonicOver F f)
-      → (n : ℕ) × (n < F .size ^ degree f) × (monicAt (F .size) (degree f) n ≡ f)
-  monic-number f h = monics-number (degree f) (monic-monics F (degree f) f h refl)
-
   -- Searches among them
   module _ (t : Polynomial → Bool) where
     pub some-monics :
@@ -308,26 +232,3 @@ module _ {F : Field} (I : IsField F) where
         → T (t f)
         → T (holdsForSome t (monics F d))
     monics-some d f h e p = member-some t (monics F d) f (monic-monics F d f h e) p
-
-    pub none-monics :
-        (d : ℕ)
-        → ¬ T (holdsForSome t (monics F d))
-        → (f : Polynomial)
-        → T (isMonicOver F f)
-        → degree f ≡ d
-        → ¬ T (t f)
-    none-monics d h f o e p = h (monics-some d f o e p)
-
-    pub monics-none :
-        (d : ℕ)
-        → ((f : Polynomial) → T (isMonicOver F f) → degree f ≡ d → ¬ T (t f))
-        → ¬ T (holdsForSome t (monics F d))
-    monics-none d h p = let (f, o, e, q) = some-monics d p in h f o e q
-
-    -- by their numbers
-    pub monics-some-number :
-        (d : ℕ)
-        → holdsForSome t (monics F d)
-        ≡ holdsForSome (λ n. t (monicAt (F .size) d n)) (range 0 (F .size ^ d))
-    monics-some-number d =
-        ap (holdsForSome t) (monics-list d) ∙ some-map t (monicAt (F .size) d) (range 0 (F .size ^ d))

@@ -3,8 +3,7 @@
 -- l is a list of factors with their upper powers, D its total degree, ts the known terms.
 --
 --   actOnKnown-product-… == a product of powers acts as its powers one after the other
---   portionAt F l ts i == what the others' upper powers leave of the first D terms, for factor i; it has as
---                     many terms as factor i to its upper power has for degree (`length-portionAt`)
+--   portionAt F l ts i == what the others' upper powers leave of the first D terms, for factor i
 --   othersActed F l i j ts == what the upper powers of the factors before place j, but for factor i, leave of
 --                     ts: one factor after the other up to `portionAt`
 --   leastAt-portion == `leastAt` is the least power of factor i that annihilates `portionAt`, at most its
@@ -16,8 +15,8 @@
 --                     it annihilates the first D terms (Lemma 5)
 --   setPowers-minimal == the product of the powers that `setPowers` finds is the minimal polynomial
 --   portion-least, portion-minimal == with one factor, its power is the least that annihilates
---   agrees-annihilated, annihilated-agrees == the terms agree with `onward` exactly where the product to the
---                     upper powers annihilates them all
+--   annihilated-agrees == where the product to the upper powers annihilates all terms, they agree with
+--                     `onward`
 --   nothing-continues == where it does not, no sequence that it annihilates begins with them
 --
 -- The factors are not empty, or monic, or irreducible and different (`Factors`), as each law says. The factor
@@ -53,7 +52,7 @@ use Rattle.bridge.proofs.Polynomials.{Poly, polyRing, poly, degree-time
 use Rattle.bridge.proofs.Products.{factorAt, powerAt, Nonempties, MonicFactors, monics-nonempty}
 use Rattle.bridge.proofs.Products.{length-withPower, factorAt-withPower, polys, withPower-self}
 use Rattle.bridge.proofs.Products.{withPower-nonempties, withPower-monics, degree-split, product-nil}
-use Rattle.bridge.proofs.Products.{product-cons, product-nonempty, degree-product, product-monic}
+use Rattle.bridge.proofs.Products.{product-nonempty, degree-product, product-monic}
 use Rattle.bridge.proofs.Products.{product-single, product-append, product-split, poly-product}
 use Rattle.bridge.proofs.Products.{poly-withPower, poly-named, times-comm, power-nonempty, power-monic}
 use Rattle.bridge.proofs.Products.{power-add, named-monics, times-assoc}
@@ -83,16 +82,6 @@ single-nonempties f h (suc i) k = absurd (omega arith)
 module _ {F : Field} (I : IsField F) where
   pub actOnKnown-product-nil : (ts : List ℕ) → T (areElements F ts) → actOnKnown F (product F []) ts ≡ ts
   actOnKnown-product-nil ts h = ap (λ g. actOnKnown F g ts) (product-nil F) ∙ actOnKnown-one I ts h
-
-  pub actOnKnown-product-cons :
-      (f : Polynomial) (n : ℕ) (l : List (Polynomial × ℕ)) (ts : List ℕ)
-      → 0 < length f
-      → Nonempties l
-      → actOnKnown F (product F ((f, n) ∷ l)) ts
-      ≡ actOnKnown F (power F f n) (actOnKnown F (product F l) ts)
-  actOnKnown-product-cons f n l ts k h =
-      ap (λ g. actOnKnown F g ts) (product-cons F f n l)
-      ∙ actOnKnown-times I (power F f n) (product F l) ts (power-nonempty I f n k) (product-nonempty I l h)
 
   -- the first powers, and one more
   pub actOnKnown-product-take :
@@ -196,20 +185,6 @@ module _ {F : Field} (I : IsField F) (l : List (Polynomial × ℕ)) (nonempties 
   portion-short :
       (i : ℕ) → i < length l → length (portionAt F l ts i) ≤ powerAt l i * degree (factorAt l i)
   portion-short i k =
-      omega (
-        arith,
-        length-actOnKnown F (product F (withPower i 0 l)) first,
-        length-take (totalDegree l) ts,
-        others-degree i,
-        degree-others l i k,
-      )
-
-  pub length-portionAt :
-      (i : ℕ)
-      → i < length l
-      → totalDegree l ≤ length ts
-      → length (portionAt F l ts i) ≡ powerAt l i * degree (factorAt l i)
-  length-portionAt i k e =
       omega (
         arith,
         length-actOnKnown F (product F (withPower i 0 l)) first,
@@ -442,11 +417,6 @@ module _ {F : Field} (I : IsField F) (l : List (Polynomial × ℕ)) (monics : Mo
       where
         whole-enough : degree (product F l) ≤ length ts
         whole-enough = omega (arith, whole-degree)
-
-    pub agrees-annihilated : Agrees F l ts → T (annihilatesKnown F (product F l) ts)
-    agrees-annihilated e =
-        subst (λ w. T (annihilatesKnown F (product F l) w)) e
-        (endless-known F (product F l) (onward F l ts) 0 (length ts) (onward-continues .annihilated))
 
 -- where the terms are not annihilated, no sequence that is begins with them
 pub nothing-continues :

@@ -99,19 +99,6 @@ module _ (step : ℕ → List ℕ → List ℕ) where
   unfolding digitLeft
   digitLeft-more c q s h = rw (T-false {b = allZero (step q s)} h, digitLeft)
 
-  -- something is left
-  pub digitLeft-nonzero :
-      (c q : ℕ) (s : List ℕ) → ¬ T (allZero s) → ¬ T (allZero (digitLeft step c q s))
-  digitLeft-nonzero zero q s h = subst (λ l. ¬ T (allZero l)) (sym (digitLeft-none q s)) h
-  digitLeft-nonzero (suc c) q s h = go (digitLeft-nonzero c q (step q s)) (T-decided (allZero (step q s)))
-    where
-      go :
-          (¬ T (allZero (step q s)) → ¬ T (allZero (digitLeft step c q (step q s))))
-          → Dec (T (allZero (step q s)))
-          → ¬ T (allZero (digitLeft step (suc c) q s))
-      go rest (yes z) = subst (λ l. ¬ T (allZero l)) (sym (digitLeft-stop (suc c) q s z)) h
-      go rest (no z) = subst (λ l. ¬ T (allZero l)) (sym (digitLeft-more c q s z)) (rest z)
-
   pub digitFound-below : (c q : ℕ) (s : List ℕ) → digitFound step c q s ≤ c
   digitFound-below zero q s = omega (arith, digitFound-none q s)
   digitFound-below (suc c) q s = go (digitFound-below c q (step q s)) (T-decided (allZero (step q s)))

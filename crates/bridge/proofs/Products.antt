@@ -5,7 +5,7 @@
 --   power-elements, product-elements == they have elements of the field alone for numbers; no condition
 --   degree-power, degree-product == degrees multiply and add up; D is that of the product
 --   power-monic, product-monic == powers and products of monic lists are monic
---   power-add, power-mul, power-times == powers with a sum and a product of exponents, powers of a product
+--   power-add, power-mul == powers with a sum and a product of exponents
 --   factorAt l i, powerAt l i == the factor and the power in place i of a list of pairs; [] and 0 beyond it
 --   Nonempties l, MonicFactors F l == no factor is empty; each is monic over F
 --   product-split  == the product with the power r in place i is the r-th power of that factor times the rest
@@ -24,16 +24,14 @@ use lib.Seq.{set-getD, map-set-same}
 use lib.Dec.{T}
 use Rattle.meaning.specs.Field.{Field, areElements}
 use Rattle.meaning.specs.Polynomial.{Polynomial, degree, isMonic, isMonicOver, times, power, product}
-use Rattle.meaning.specs.Search.{holdsForSome}
 use Rattle.meaning.specs.Conditions.{named, totalDegree, notMonic}
 use Rattle.meaning.specs.Portion.{factorsOf, withPower}
 use Rattle.algebra.proofs.Ring.{Ring}
 use Rattle.algebra.proofs.Power.{power as algebra-power, power-zero, power-suc-left}
 use Rattle.algebra.proofs.PowerProduct.{power-product, power-product-nil, power-product-cons, update}
-use Rattle.bridge.proofs.Searches.{T-false, false-T, and-T, or-false, not-false, none-member}
-use Rattle.bridge.proofs.Searches.{getD-member}
+use Rattle.bridge.proofs.Searches.{and-T, or-false, not-false}
 use Rattle.bridge.proofs.Interpretation.{IsField}
-use Rattle.bridge.proofs.Polynomials.{Poly, polyRing, poly, poly-nil, poly-one, poly-times}
+use Rattle.bridge.proofs.Polynomials.{Poly, polyRing, poly, poly-one, poly-times}
 use Rattle.bridge.proofs.Polynomials.{times-elements, one-elements, length-times, times-nonempty}
 use Rattle.bridge.proofs.Polynomials.{degree-times, list-equal, times-monic, one-monic, monic-nonempty}
 use Rattle.bridge.proofs.Polynomials.{length-degree}
@@ -159,25 +157,6 @@ module _ {F : Field} (I : IsField F) where
       ap (power F f) (ℕ.suc-add m n)
       ∙ ap (times F f) (power-add f m n l)
       ∙ sym (times-assoc I f (power F f m) (power F f n) l (power-nonempty f m l) (power-nonempty f n l))
-
-  pub power-times :
-      (f g : Polynomial) (n : ℕ)
-      → 0 < length f
-      → 0 < length g
-      → power F (times F f g) n ≡ times F (power F f n) (power F g n)
-  unfolding power
-  power-times f g zero l k = sym (times-one I (1 ∷ []) (omega arith) (one-elements I))
-  power-times f g (suc n) l k =
-      ap (times F (times F f g)) (power-times f g n l k)
-      ∙ times-assoc I f g (times F (power F f n) (power F g n)) l k (times-nonempty I _ _ fn gn)
-      ∙ ap (times F f) (times-left-comm I g (power F f n) (power F g n) k fn gn)
-      ∙ sym (times-assoc I f (power F f n) (times F g (power F g n)) l fn (times-nonempty I g _ k gn))
-    where
-      fn : 0 < length (power F f n)
-      fn = power-nonempty f n l
-
-      gn : 0 < length (power F g n)
-      gn = power-nonempty g n k
 
   pub power-mul : (f : Polynomial) (m n : ℕ) → 0 < length f → power F f (m * n) ≡ power F (power F f m) n
   unfolding power
@@ -359,11 +338,6 @@ module _ {F : Field} (I : IsField F) where
   abbrev pub polys : List (Polynomial × ℕ) → List (Poly I)
   polys l = map (λ f. poly I (f .0)) l
 
-  pub getD-polys :
-      (l : List (Polynomial × ℕ)) (i : ℕ) → getD (polys l) i (polyRing I .0#) ≡ poly I (factorAt l i)
-  getD-polys l i =
-      ap (getD (polys l) i) (sym (poly-nil I)) ∙ List·getD-map (λ f. poly I (f .0)) l i ([], 0)
-
   pub poly-product :
       (l : List (Polynomial × ℕ)) → poly I (product F l) ≡ power-product (polyRing I) (polys l) (powerAt l)
   unfolding product
@@ -425,11 +399,6 @@ pub factorAt-named : (fs : List Polynomial) (us : List ℕ) (i : ℕ) → factor
 factorAt-named fs us i =
     sym (factorAt-factorsOf (named fs us) i) ∙ ap (λ gs. getD gs i []) (factorsOf-named fs us)
 
-pub named-self : (l : List (Polynomial × ℕ)) → named (factorsOf l) (map (λ f. f .1) l) ≡ l
-unfolding named factorsOf
-named-self [] = refl
-named-self (f ∷ l) = ap (_∷_ f) (named-self l)
-
 -- the same factors with other powers
 pub named-monics :
     (F : Field) (l : List (Polynomial × ℕ)) (us : List ℕ)
@@ -445,14 +414,3 @@ unfolding notMonic isMonicOver
 accepted-monic F f e =
     let (a, b) = or-false (not (areElements F f)) (not (isMonic f)) e in
     and-T (isMonic f) (areElements F f) (not-false (isMonic f) b) (not-false (areElements F f) a)
-
-pub accepted-monics :
-    (F : Field) (l : List (Polynomial × ℕ))
-    → holdsForSome (notMonic F) (factorsOf l) ≡ false
-    → MonicFactors F l
-accepted-monics F l e i k =
-    accepted-monic F (factorAt l i)
-    (T-false (subst (λ f. ¬ T (notMonic F f)) (factorAt-factorsOf l i) (passed i (rw length-factorsOf k))))
-  where
-    passed : (i : ℕ) → i < length (factorsOf l) → ¬ T (notMonic F (getD (factorsOf l) i []))
-    passed i k = none-member (notMonic F) (factorsOf l) (false-T e) _ (getD-member (factorsOf l) i [] k)

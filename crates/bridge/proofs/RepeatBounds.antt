@@ -9,7 +9,7 @@
 --                     and the bound is not below it
 --   power-degree-bound, level-bound == the two factors, for a size up to 251 and a degree that 10 lets pass;
 --                     so `repeatBound-bits`: for a complexity up to 4,096 the bound is below 2^64
---   repeatBound-meaning == `BoundMeaning` of `meaning`; `repeatBound-nonzero`: the bound is 0 for x alone
+--   repeatBound-meaning == `BoundMeaning` of `meaning`
 --
 -- Assumes nothing.
 use Prim.Native.Nat.{ℕ, zero, suc, _+_, _*_, _-_, _^_, _/_, _%_, _≤_, _<_}
@@ -154,19 +154,6 @@ module _ (F : Field) (f : Polynomial) where
       some-mapOption (λ t. F .characteristic ^ t * (F .size ^ degree f - 1))
       (least (suc r) (reached (suc r))) (sym (bound-other r h) ∙ e) in
       (t, passes-level (least-some (suc r) (reached (suc r)) q .1), c)
-
-  -- 0 for x alone
-  pub repeatBound-nonzero :
-      (r b : ℕ) → repeatBound F f r ≡ some b → 0 < b → (isX f ≡ false) ⊎ (r ≡ 0)
-  repeatBound-nonzero zero b e l = inr refl
-  repeatBound-nonzero (suc r) b e l = go (isX f) refl
-    where
-      go : (x : Bool) → isX f ≡ x → (isX f ≡ false) ⊎ (suc r ≡ 0)
-      go true x =
-          let y : repeatBound F f (suc r) ≡ some 0 = repeatBound-x (suc r) (omega arith) (true-T x) in
-          let v : 0 ≡ b = Option·some-injective 0 b (sym y ∙ e) in
-          absurd (omega arith)
-      go false x = inl x
 
 -- There is always a bound
 pub level-exists : (p r : ℕ) → 1 < p → (t : ℕ) × Level p r t

@@ -28,7 +28,6 @@ use mathlib.Core.List.{List, [], _∷_, map, List·Memᴰ, List·Memᴰ·head, L
 use mathlib.Core.List.{List·Nodup, Pairwise·nil, Pairwise·cons}
 use mathlib.Core.Option.{Option, none, some, Option·some-injective, Option·none-ne-some, Option·some-ne-none}
 use lib.ListN.{length, getD, length-map, List·getD-map}
-use lib.Seq.{ext-getD}
 use lib.Dec.{T, eqb, eqb-refl}
 use Rattle.meaning.specs.Search.{range, holdsForAll, holdsForSome, least, mapOption, bind, isNone, together}
 use Rattle.meaning.specs.Result.{Check, Result, refused, answered, firstOf, settle, valueOf, mapResult}
@@ -148,9 +147,6 @@ module _ {A : Type 0} (t : A → Bool) where
   pub none-member : (l : List A) → ¬ T (holdsForSome t l) → (a : A) → List·Memᴰ a l → ¬ T (t a)
   none-member l h a m p = h (member-some l a m p)
 
-  pub member-none : (l : List A) → ((a : A) → List·Memᴰ a l → ¬ T (t a)) → ¬ T (holdsForSome t l)
-  member-none l h p = let (a, m, q) = some-member l p in h a m q
-
 -- what stands in a place of a list is a member
 pub getD-member : {A : Type 0} (l : List A) (i : ℕ) (d : A) → i < length l → List·Memᴰ (getD l i d) l
 getD-member [] i d k = absurd (not-suc-le-zero k)
@@ -243,9 +239,6 @@ module _ (t : ℕ → Bool) where
   pub none-range : (a n : ℕ) → ¬ T (holdsForSome t (range a n)) → (i : ℕ) → a ≤ i → i < a + n → ¬ T (t i)
   none-range a n h i l m p = h (range-some a n i l m p)
 
-  pub range-none : (a n : ℕ) → ((i : ℕ) → a ≤ i → i < a + n → ¬ T (t i)) → ¬ T (holdsForSome t (range a n))
-  range-none a n h p = let (i, l, m, q) = some-range a n p in h i l m q
-
   pub all-first : (n : ℕ) → T (holdsForAll t (range 0 n)) → (i : ℕ) → i < n → T (t i)
   all-first n h i l = all-range 0 n h i zero-le (omega arith)
 
@@ -261,19 +254,6 @@ isNone-none {o = some a} h = absurd h
 pub none-isNone : {A : Type 0} {o : Option A} → o ≡ none → T (isNone o)
 unfolding isNone
 none-isNone e = subst (λ o. T (isNone o)) (sym e) tt
-
-pub isNone-some : {A : Type 0} {o : Option A} → isNone o ≡ false → (a : A) × (o ≡ some a)
-unfolding isNone
-isNone-some {o = none} e = absurd (false-T e tt)
-isNone-some {o = some a} e = (a, refl)
-
-pub some-isNone : {A : Type 0} {o : Option A} {a : A} → o ≡ some a → isNone o ≡ false
-unfolding isNone
-some-isNone e = ap isNone e
-
-pub bind-none : {A B : Type 0} (g : A → Option B) → bind none g ≡ none
-unfolding bind
-bind-none g = refl
 
 pub bind-some : {A B : Type 0} {o : Option A} {a : A} (g : A → Option B) → o ≡ some a → bind o g ≡ g a
 unfolding bind
@@ -316,9 +296,6 @@ least-unique {P} {m} {n} a b =
     let l : ¬ (m < n) = λ h. b .least m h (a .holds) in
     let r : ¬ (n < m) = λ h. a .least n h (b .holds) in
     omega arith
-
-least-none-zero : (t : ℕ → Bool) → least 0 t ≡ none → ¬ T (t 0)
-least-none-zero t e h = Option·some-ne-none 0 (sym (least-zero 0 t (T-true h)) ∙ e)
 
 -- the search goes on where 0 does not pass
 pub least-suc :
@@ -418,10 +395,6 @@ least-exists b t n l p = elim (least-either b t) [
     below : (r : ℕ) → LeastPasses t r → r ≤ n
     below r m = let h : ¬ (n < r) = λ s. m .least n s p in omega arith
 
--- a larger bound finds the same
-pub least-wider : (b c : ℕ) (t : ℕ → Bool) {r : ℕ} → b ≤ c → least b t ≡ some r → least c t ≡ some r
-least-wider b c t l e = let (k, m) = least-some b t e in least-found c t (le-trans k l) m
-
 -- so does a smaller one that is not below what was found
 pub least-narrower : (b c : ℕ) (t : ℕ → Bool) {r : ℕ} → r ≤ c → least b t ≡ some r → least c t ≡ some r
 least-narrower b c t l e = least-found c t l (least-some b t e .1)
@@ -461,10 +434,6 @@ module _ {A : Type 0} where
   unfolding together
   together-none l = refl
 
-  pub map-together : (xs : List A) → together (map some xs) ≡ some xs
-  map-together [] = together-nil
-  map-together (a ∷ xs) = together-cons a (map some xs) ∙ mapOption-some (λ l. a ∷ l) (map-together xs)
-
   pub together-map : (l : List (Option A)) {xs : List A} → together l ≡ some xs → l ≡ map some xs
   together-map [] e = ap (map some) (Option·some-injective _ _ (sym together-nil ∙ e))
   together-map (none ∷ l) e = absurd (Option·none-ne-some _ (sym (together-none l) ∙ e))
@@ -499,22 +468,6 @@ module _ {A : Type 0} where
             sym (getD-answers a n i xs l)
             ∙ ap (λ l. getD l i (some d)) equal
             ∙ List·getD-map some xs i d
-
-    pub range-together :
-        (a n : ℕ) (xs : List A)
-        → length xs ≡ n
-        → ((i : ℕ) → i < n → f (a + i) ≡ some (getD xs i d))
-        → together (map f (range a n)) ≡ some xs
-    range-together a n xs e h = ap together equal ∙ map-together xs
-      where
-        size : length (map f (range a n)) ≡ n
-        size = length-map (range a n) f ∙ length-range a n
-
-        equal : map f (range a n) ≡ map some xs
-        equal =
-            ext-getD (some d) (map f (range a n)) (map some xs) (size ∙ sym e ∙ sym (length-map xs some))
-            (λ i l. let m : i < n = rw size at l in
-            getD-answers a n i xs m ∙ h i m ∙ sym (List·getD-map some xs i d))
 
   -- where each answer of the range is there, all are there together
   pub range-together-some :
@@ -589,23 +542,6 @@ module _ {A : Type 0} (v : Unit {0} → Option A) where
       go (some k) f =
           let g : refused k ≡ refused n = sym (rw (f, settle)) ∙ e in
           inl (f ∙ ap {B = Option ℕ} some (cc))
-
-pub firstOf-holds :
-    (table : List Check) {n : ℕ}
-    → firstOf table ≡ some n
-    → (c : Check) × List·Memᴰ c table × (c .0 ≡ n) × ((c .1) tt ≡ true)
-firstOf-holds [] e = absurd (Option·none-ne-some _ (sym (firstOf-none [] tt) ∙ e))
-firstOf-holds (c ∷ table) {n} e = go (firstOf-holds table) ((c .1) tt) refl
-  where
-    go :
-        (firstOf table ≡ some n → (c : Check) × List·Memᴰ c table × (c .0 ≡ n) × ((c .1) tt ≡ true))
-        → (b : Bool)
-        → (c .1) tt ≡ b
-        → (d : Check) × List·Memᴰ d (c ∷ table) × (d .0 ≡ n) × ((d .1) tt ≡ true)
-    go rest true h = (c, List·Memᴰ·head refl, Option·some-injective _ _ (sym (firstOf-stop c table h) ∙ e), h)
-    go rest false h =
-        let (d, m, z, p) = rest (sym (firstOf-skip c table h) ∙ e) in
-        (d, List·Memᴰ·tail m, z, p)
 
 -- Which condition decides: one numbered n, and none before it
 abbrev pub Turn : Bool → Bool → Type 0 → Type 0

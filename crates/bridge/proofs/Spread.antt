@@ -3,7 +3,7 @@
 --   spread q f     == the list f with q − 1 zeros between neighbours and none after the last; for q = 0 as
 --                     for q = 1
 --   raise F n a    == the n-fold product of the number a in F; 1 for n = 0
---   getD-spread-at, getD-spread-between == the numbers of a spread list
+--   getD-spread-at == the numbers of f in the spread list
 --   poly-spread    == the polynomial of a spread list is f(x^q)
 --   power-spread   == in characteristic p, f^(p^w) is f with its numbers raised to p^w, spread p^w places
 --                     apart
@@ -14,9 +14,7 @@
 use Prim.Native.Nat.{ℕ, zero, suc, _+_, _*_, _-_, _^_, _<_, _∣_}
 use mathlib.Core.Path.{_≡_, refl, sym, ap, ap₂, subst, _∙_}
 use mathlib.Core.List.{List, [], _∷_, map}
-use native.Mathlib.Nat.{not-suc-le-zero, le-of-suc-le-suc, suc-add, mul-zero, mul-suc, dvd-refl}
-use native.Mathlib.Nat.{dvd-add-iff-right}
-use native.Mathlib.Nat.{dvd-zero}
+use native.Mathlib.Nat.{not-suc-le-zero, le-of-suc-le-suc, suc-add, mul-zero, mul-suc}
 use native.Mathlib.Nat as ℕ
 use native.Mathlib.Omega.{arith}
 use lib.ListN.{length, getD, length-map, List·getD-map}
@@ -28,7 +26,6 @@ use Rattle.algebra.proofs.Number.{prime-power-pos}
 use Rattle.algebra.proofs.Power.{power as algebra-power, power-zero, power-suc-left}
 use Rattle.algebra.proofs.Polynomial.{coefficient, coefficient-fromList, polynomial-ext}
 use Rattle.algebra.proofs.Spread.{spread-list, gap as gap-list, spread-list-series, spread-polynomial}
-use Rattle.algebra.proofs.Spread.{by-steps}
 use Rattle.algebra.proofs.Spread.{coefficient-spread, map-polynomial, coefficient-map}
 use Rattle.algebra.proofs.Spread.{spread as spread-series}
 use Rattle.algebra.proofs.Frobenius.{power-polynomial, frobenius}
@@ -100,20 +97,6 @@ module _ (q : ℕ) (pos : 0 < q) where
 
   abbrev Between : ℕ → Type 0
   Between n = (f : List ℕ) → ¬ (q ∣ n) → getD (spread q f) n 0 ≡ 0
-
-  between-below : (n : ℕ) → n < q → Between n
-  unfolding spread
-  between-below zero l f h = absurd (h (dvd-zero q))
-  between-below (suc n) l [] h = refl
-  between-below (suc n) l (a ∷ f) h = gap-below (q - 1) (spread q f) n (omega arith)
-
-  between-above : (n : ℕ) → Between n → Between (q + n)
-  between-above n rest [] h = ap (λ f. getD f (q + n) 0) (spread-nil q)
-  between-above n rest (a ∷ f) h =
-      spread-next a f n ∙ rest f (λ d. h (dvd-add-iff-right q (dvd-refl q) .0 d))
-
-  pub getD-spread-between : (f : List ℕ) (n : ℕ) → ¬ (q ∣ n) → getD (spread q f) n 0 ≡ 0
-  getD-spread-between f n h = by-steps q pos Between between-below between-above n f h
 
   length-cons : (a : ℕ) (f : List ℕ) → length (spread q (a ∷ f)) ≡ suc (q * length f)
   unfolding spread

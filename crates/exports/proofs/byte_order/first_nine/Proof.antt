@@ -1,10 +1,10 @@
 -- `first_nine` meets its contract.
 -- Assumes nothing.
-use Prim.Native.Nat.{ℕ, _-_, _<_, _≤_}
+use Prim.Native.Nat.{_-_, _≤_}
 use mathlib.Core.Path.{_≡_, refl}
 use native.Mathlib.Omega.{arith}
 use borrow.Author.Needs.{needs}
-use lib.ListN.{length, getD}
+use lib.ListN.{length}
 use Rattle.exports.specs.byte_order.LittleEndian.{numbersOf}
 use Rattle.exports.proofs.byte_order.LittleEndian.{SameBelow, same-more}
 use Rattle.exports.proofs.byte_order.first_nine.Statement.{statement}

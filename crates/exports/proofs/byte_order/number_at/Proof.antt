@@ -1,6 +1,5 @@
 -- `number_at` meets its contract.
 -- Assumes nothing.
-use native.Mathlib.Omega.{arith}
 use denote.Ref.{now}
 use borrow.Author.Needs.{needs}
 use Rattle.exports.proofs.byte_order.LittleEndian.{number-read, number-beyond}

@@ -1,5 +1,4 @@
 use Rattle.exports.proofs.byte_order.LittleEndian.{count-of}
-use native.Mathlib.Omega.{arith}
 use Rattle.exports.proofs.byte_order.number_count.Statement.{statement}
 use Rattle.exports.proofs.byte_order.number_count.Tie as tie
 use Rattle.exports.proofs.byte_order.number_count.Reads as reads

@@ -1,6 +1,5 @@
 -- `rater_rate_set` meets its contract: at each arm the rating tells what the arm names.
 -- Assumes nothing.
-use denote.Ref.{now}
 use borrow.Author.Needs.{needs}
 use Rattle.exports.proofs.set.SetStatus.{set-told, set-untold}
 use Rattle.exports.proofs.set.rater_rate_set.Statement.{statement}
