@@ -10,7 +10,7 @@ use Rattle.meaning.specs.Answers.{numberOf}
 use Rattle.meaning.specs.Polynomial.{Polynomial}
 use Rattle.meaning.specs.Conditions.{named, totalDegree, fewerTermsThan}
 use Rattle.meaning.specs.Slices.{listsOf}
-use Rattle.conditions.proofs.factors.Uppers.{total-known}
+use Rattle.poly.proofs.factors.Totals.{total-known}
 use Rattle.refusals.specs.Verdicts.{numberIn, powersTable}
 use Rattle.refusals.proofs.Order.{Passed, first-here, first-skip, first-nowhere}
 use Rattle.refusals.proofs.ratings.powers_verdict.Statement.{statement}
