@@ -117,18 +117,8 @@ def differences(jobs):
                 groups.setdefault((j.number, words), (j, []))[1].append(who.replace(' twice', ' by twice the terms'))
     if not groups:
         return 'No answer differs.'
-    rows = [[j.name, ', '.join(whos), words] for (_, words), (j, whos) in groups.items()]
-    inputs = collections.OrderedDict((j.number, j) for j, _ in groups.values() if j.terms > 9)
-    return '\n\n'.join([table(['Job', 'Who', 'Answer'], rows, 3)] + [input_of(j) for j in inputs.values()])
-
-
-def input_of(j):
-    """The terms of a job, as digits where p has one digit."""
-    shown = subprocess.run([BUILT + '/jobs', '--terms', str(j.number)], stdout=subprocess.PIPE, text=True, check=True)
-    terms = shown.stdout.splitlines()[-1].split()[1:]
-    text = ''.join(terms) if j.p < 10 else ' '.join(terms)
-    lines = textwrap.wrap(text, 118)
-    return 'Input of *%s*:\n\n' % j.name + '\n'.join('    ' + l for l in lines)
+    rows = [[j.name, ', '.join(whos), words, '`--terms %d`' % j.number] for (_, words), (j, whos) in groups.items()]
+    return table(['Job', 'Who', 'Answer', 'Input'], rows, 4)
 
 
 def by_name(jobs, text):
@@ -469,6 +459,7 @@ round: **below 1 the rater is faster**. {agreement}
 
 Each answer was compared with the rater's. Under `some`, another polynomial of the same degree that fits is no difference.
 What is asked of the peers here finds the shortest recurrence only where twice its degree is at most the number of terms.
+The inputs come from fixed seeds (`bench/jobs.c`); `target/bench/jobs` with the words of the last column prints one.
 
 {differences}
 

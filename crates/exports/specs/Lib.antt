@@ -1,5 +1,4 @@
 pub mod Status
-pub mod byte_order
 pub mod questions
 pub mod one_factor
 pub mod set

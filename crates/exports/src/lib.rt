@@ -3,7 +3,6 @@
 // where it is accepted and else the number of the refusal. What it answers beside goes into lent numbers and
 // bytes. A refusal leaves all that was lent as it was, but for the first 8,192 work bytes, which the refusal
 // by 17 leaves zero. `rt staticlib exports` builds the library that has them all.
-pub mod byte_order;
 pub mod continuation;
 pub mod free;
 pub mod one_factor;

@@ -1,17 +1,17 @@
 // The set way for programs in other languages.
-use crate::byte_order::first_nine;
-use crate::byte_order::number_count;
-use crate::byte_order::write_eight;
+use flat_bytes::factors::rate_concatenated;
+use flat_bytes::numbers::first_nine;
+use flat_bytes::numbers::number_count;
+use flat_bytes::numbers::write_eight;
+use lent::smaller;
 use meaning::SetOutcome;
 use meaning::SetRating;
-use rate_set::concatenated::at_most_nine;
-use rate_set::concatenated::rate_concatenated;
 use refusals::numbering::refusal_number;
 ghost use lib.ListN.{length};
 ghost use Rattle.meaning.specs.Portion.{rateSet};
 ghost use Rattle.meaning.specs.Calls.{SetCall};
-ghost use Rattle.rate_set.specs.concatenated.Concatenated.{split};
-ghost use Rattle.exports.specs.byte_order.LittleEndian.{numbersOf};
+ghost use Rattle.flat_bytes.specs.factors.Concatenated.{split};
+ghost use Rattle.flat_bytes.specs.numbers.LittleEndian.{numbersOf};
 ghost use Rattle.exports.specs.set.SetExported.{SetExported};
 
 // The set way with the lengths of the joined factors and their upper powers as numbers in bytes. Nine factors
@@ -31,7 +31,7 @@ fn rate_numbered_set(
 {
     let parts = first_nine(lengths);
     let powers = first_nine(uppers);
-    let count = at_most_nine(number_count(lengths));
+    let count = smaller(number_count(lengths), 9);
     rate_concatenated(p, factors, &parts[0..count], &powers, terms, answer, work)
 }
 

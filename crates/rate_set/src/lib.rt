@@ -1,6 +1,4 @@
 // The rating of a portion with one to eight factors.
-pub mod concatenated;
-
 use arith::GaloisField;
 use meaning::Refusal;
 use meaning::SetOutcome;

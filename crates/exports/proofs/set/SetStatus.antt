@@ -13,7 +13,7 @@ use Rattle.meaning.specs.Result.{Result, refused, answered, mapResult, figuresO
 use Rattle.meaning.specs.Portion.{SetFigures, rateSet}
 use Rattle.meaning.specs.Answers.{numberOf, SetTold, toldSet, setFiguresTold, setPadded}
 use Rattle.meaning.specs.Calls.{SetCall}
-use Rattle.exports.specs.byte_order.LittleEndian.{bytesOfAll}
+use Rattle.flat_bytes.specs.numbers.LittleEndian.{bytesOfAll}
 use Rattle.exports.specs.Status.{statusOf, numberAfter}
 use Rattle.exports.specs.set.SetExported.{PowersAfter, SetExported}
 use Rattle.exports.proofs.Status.{status-map}

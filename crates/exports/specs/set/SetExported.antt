@@ -17,7 +17,7 @@ use Rattle.meaning.specs.Result.{Result, refused, answered, Rated, figuresOf}
 use Rattle.meaning.specs.Portion.{SetFigures}
 use Rattle.meaning.specs.Answers.{padded}
 use Rattle.meaning.specs.Calls.{LentAfter}
-use Rattle.exports.specs.byte_order.LittleEndian.{bytesOfAll}
+use Rattle.flat_bytes.specs.numbers.LittleEndian.{bytesOfAll}
 use Rattle.exports.specs.Status.{statusOf, numberAfter}
 
 unfoldable pub PowersAfter : Result SetFigures → List ℕ → List ℕ → Type 0

@@ -17,8 +17,8 @@ first-nine-requires-2 c κs = search needs
 number-count-requires : tie.Need-number-count-requires
 number-count-requires c κs = search needs
 
-at-most-nine-requires : tie.Need-at-most-nine-requires
-at-most-nine-requires c κs = search needs
+smaller-requires : tie.Need-smaller-requires
+smaller-requires c κs = search needs
 
 sub-rate-concatenated : tie.Need-sub-rate-concatenated
 sub-rate-concatenated c = search needs
@@ -50,7 +50,7 @@ returns c =
     let f = u .before in
     let s = f .before .before .before .before .before .before .before in
     numbered-call (now (s .args .factors)) (f .first-nine .ensures) (u .first-nine2 .ensures)
-    (n .at-most-nine .ensures ∙ ap (λ m. min m 9) (k .number-count .ensures))
+    (n .smaller .ensures ∙ ap (λ m. min m 9) (k .number-count .ensures))
     (r .rate-concatenated .ensures)
 
 pub rate-numbered-set-spec : {M : Type 1} → statement M
@@ -60,7 +60,7 @@ rate-numbered-set-spec =
     first-nine-requires
     first-nine-requires-2
     number-count-requires
-    at-most-nine-requires
+    smaller-requires
     sub-rate-concatenated
     part-rate-concatenated-start
     part-rate-concatenated-end

@@ -1,13 +1,14 @@
 // The set way with its factors joined in one slice of bytes, one after another without gaps, and their
 // lengths apart. Nothing is copied: the factors that are rated are parts of that slice.
-use crate::rate_set;
+use lent::smaller;
 use meaning::SetRating;
+use rate_set::rate_set;
 ghost use mathlib.Core.Path.{_≡_};
 ghost use mathlib.Core.List.{[]};
-ghost use Prim.Native.Nat.{_≤_, min};
+ghost use Prim.Native.Nat.{_≤_};
 ghost use lib.ListN.{getD};
 ghost use Rattle.meaning.specs.Calls.{SetCall};
-ghost use Rattle.rate_set.specs.concatenated.Concatenated.{split, PartEnd};
+ghost use Rattle.flat_bytes.specs.factors.Concatenated.{split, PartEnd};
 
 // Where the part with the length at the place i ends that begins at `from`, in `size` bytes.
 fn part_end(size: usize, from: usize, lengths: &[u64], i: usize) -> usize
@@ -42,15 +43,8 @@ fn factor_at<'a>(joined: &'a [u8], lengths: &[u64], i: usize) -> &'a [u8]
     &joined[from..end]
 }
 
-// The number of parts that are rated: nine factors are turned down like any greater number of them.
-pub fn at_most_nine(n: usize) -> usize
-    ensures { λ r. ⌜ r ≡ min n 9 ⌝ }
-{
-    if n < 9 { n } else { 9 }
-}
-
-// The call `rate_set` with the factors that are joined, for any number of lengths and any lengths. It leaves
-// all lent bytes as that call does.
+// The call `rate_set` with the factors that are joined, for any number of lengths and any lengths: nine factors
+// are turned down like any greater number of them. It leaves all lent bytes as that call does.
 pub fn rate_concatenated(
     p: u64,
     joined: &[u8],
@@ -74,6 +68,6 @@ pub fn rate_concatenated(
     let h = factor_at(joined, lengths, 7);
     let i = factor_at(joined, lengths, 8);
     let parts = [a, b, c, d, e, f, g, h, i];
-    let count = at_most_nine(lengths.len());
+    let count = smaller(lengths.len(), 9);
     rate_set(p, &parts[0..count], uppers, terms, answer, work)
 }

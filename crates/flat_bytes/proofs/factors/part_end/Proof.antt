@@ -1,10 +1,10 @@
--- `concatenated::part_end` meets its contract. Assumes nothing.
+-- `factors::part_end` meets its contract. Assumes nothing.
 use native.Mathlib.Omega.{arith}
 use mathlib.Core.Path.{_≡_}
 use lib.ListN.{getD, List·getD-eq-default}
 use borrow.Author.Needs.{needs}
-use Rattle.rate_set.proofs.concatenated.part_end.Statement.{statement}
-use Rattle.rate_set.proofs.concatenated.part_end.Tie as tie
+use Rattle.flat_bytes.proofs.factors.part_end.Statement.{statement}
+use Rattle.flat_bytes.proofs.factors.part_end.Tie as tie
 
 mul-length : tie.Need-mul-length
 mul-length c = search needs

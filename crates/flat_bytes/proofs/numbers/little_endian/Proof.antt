@@ -5,10 +5,10 @@ use mathlib.Core.Path.{_≡_, ap, _∙_}
 use native.Mathlib.Omega.{arith}
 use borrow.Author.Needs.{needs}
 use lib.ListN.{length, getD, drop}
-use Rattle.exports.specs.byte_order.LittleEndian.{littleEndian}
-use Rattle.exports.proofs.byte_order.LittleEndian.{number-none, number-start, number-more, number-room, number-fits}
-use Rattle.exports.proofs.byte_order.little_endian.Statement.{statement}
-use Rattle.exports.proofs.byte_order.little_endian.Tie as tie
+use Rattle.flat_bytes.specs.numbers.LittleEndian.{littleEndian}
+use Rattle.flat_bytes.proofs.numbers.LittleEndian.{number-none, number-start, number-more, number-room, number-fits}
+use Rattle.flat_bytes.proofs.numbers.little_endian.Statement.{statement}
+use Rattle.flat_bytes.proofs.numbers.little_endian.Tie as tie
 
 abbrev Inv-loop : tie.InvT-loop
 Inv-loop bytes n₀ i₀ n i =

@@ -3,10 +3,10 @@
 use mathlib.Core.Path.{refl, subst}
 use borrow.Author.Needs.{needs}
 use Rattle.meaning.specs.Calls.{SetCall}
-use Rattle.rate_set.proofs.concatenated.Splitting.{rated-parts}
-use Rattle.rate_set.proofs.concatenated.Nine.{call-nine}
-use Rattle.rate_set.proofs.concatenated.rate_concatenated.Statement.{statement}
-use Rattle.rate_set.proofs.concatenated.rate_concatenated.Tie as tie
+use Rattle.flat_bytes.proofs.factors.Splitting.{rated-parts}
+use Rattle.flat_bytes.proofs.factors.Nine.{call-nine}
+use Rattle.flat_bytes.proofs.factors.rate_concatenated.Statement.{statement}
+use Rattle.flat_bytes.proofs.factors.rate_concatenated.Tie as tie
 
 factor-at-requires : tie.Need-factor-at-requires
 factor-at-requires c κs = tt
@@ -35,8 +35,8 @@ factor-at-requires-8 c κs = tt
 factor-at-requires-9 : tie.Need-factor-at-requires-9
 factor-at-requires-9 c κs = tt
 
-at-most-nine-requires : tie.Need-at-most-nine-requires
-at-most-nine-requires c κs = tt
+smaller-requires : tie.Need-smaller-requires
+smaller-requires c κs = tt
 
 sub-rate-set : tie.Need-sub-rate-set
 sub-rate-set c = search needs
@@ -96,7 +96,7 @@ returns c =
         ),
       ),
     )
-    (n .at-most-nine .ensures))
+    (n .smaller .ensures))
     (r .rate-set .ensures))
 
 pub rate-concatenated-spec : {M : Type 1} → statement M
@@ -112,7 +112,7 @@ rate-concatenated-spec =
     factor-at-requires-7
     factor-at-requires-8
     factor-at-requires-9
-    at-most-nine-requires
+    smaller-requires
     sub-rate-set
     part-rate-set-start
     part-rate-set-end

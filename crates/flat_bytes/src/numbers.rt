@@ -1,9 +1,10 @@
 // Numbers in slices of bytes: each number in eight bytes, the least significant first.
+use lent::smaller;
 ghost use mathlib.Core.Path.{_≡_};
 ghost use mathlib.Core.List.{_++_};
-ghost use Prim.Native.Nat.{_≤_, min};
+ghost use Prim.Native.Nat.{_≤_};
 ghost use lib.ListN.{length, getD, take, drop};
-ghost use Rattle.exports.specs.byte_order.LittleEndian.{littleEndian, numbersOf, bytesOf, bytesOfAll, FirstNine};
+ghost use Rattle.flat_bytes.specs.numbers.LittleEndian.{littleEndian, numbersOf, bytesOf, bytesOfAll, FirstNine};
 
 // The number of up to eight bytes, the least significant first.
 fn little_endian(bytes: &[u8]) -> u64
@@ -68,13 +69,6 @@ fn write_numbers(numbers: &[u64], bytes: &mut [u8])
     }
 }
 
-// The number, or 64 where it is larger.
-fn at_most_64(n: usize) -> usize
-    ensures { λ r. ⌜ r ≡ min n 64 ⌝ }
-{
-    if n < 64 { n } else { 64 }
-}
-
 // Writes eight numbers: as many of their 64 bytes as there is room for, from the front. Room beyond 64 bytes
 // stays as it was.
 pub fn write_eight(numbers: &[u64; 8], room: &mut [u8])
@@ -84,7 +78,7 @@ pub fn write_eight(numbers: &[u64; 8], room: &mut [u8])
 {
     let mut all = [0u8; 64];
     write_numbers(numbers, &mut all);
-    let n = at_most_64(room.len());
+    let n = smaller(room.len(), 64);
     bytes::copy(&all[0..n], room);
 }
 

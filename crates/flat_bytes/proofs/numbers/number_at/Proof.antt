@@ -2,9 +2,9 @@
 -- Assumes nothing.
 use denote.Ref.{now}
 use borrow.Author.Needs.{needs}
-use Rattle.exports.proofs.byte_order.LittleEndian.{number-read, number-beyond}
-use Rattle.exports.proofs.byte_order.number_at.Statement.{statement}
-use Rattle.exports.proofs.byte_order.number_at.Tie as tie
+use Rattle.flat_bytes.proofs.numbers.LittleEndian.{number-read, number-beyond}
+use Rattle.flat_bytes.proofs.numbers.number_at.Statement.{statement}
+use Rattle.flat_bytes.proofs.numbers.number_at.Tie as tie
 
 mul-start : tie.Need-mul-start
 mul-start c = search needs

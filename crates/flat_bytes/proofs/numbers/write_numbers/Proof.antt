@@ -6,10 +6,10 @@ use native.Mathlib.Omega.{arith}
 use borrow.Author.Needs.{needs}
 use lib.ListN.{length, take}
 use lib.Seq.{take-all}
-use Rattle.exports.specs.byte_order.LittleEndian.{bytesOfAll}
-use Rattle.exports.proofs.byte_order.LittleEndian.{all-more}
-use Rattle.exports.proofs.byte_order.write_numbers.Statement.{statement}
-use Rattle.exports.proofs.byte_order.write_numbers.Tie as tie
+use Rattle.flat_bytes.specs.numbers.LittleEndian.{bytesOfAll}
+use Rattle.flat_bytes.proofs.numbers.LittleEndian.{all-more}
+use Rattle.flat_bytes.proofs.numbers.write_numbers.Statement.{statement}
+use Rattle.flat_bytes.proofs.numbers.write_numbers.Tie as tie
 
 abbrev Inv-loop : tie.InvT-loop
 Inv-loop numbers bytes₀ i₀ bytes i =

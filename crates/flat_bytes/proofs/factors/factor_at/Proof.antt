@@ -1,11 +1,11 @@
--- `concatenated::factor_at` meets its contract. The invariant: part i is part i − j of the bytes from `from` on, cut by
+-- `factors::factor_at` meets its contract. The invariant: part i is part i − j of the bytes from `from` on, cut by
 -- the lengths from j on. The measure is the number of parts that are left. Assumes nothing.
 use Prim.Native.Nat.{_-_}
 use native.Mathlib.Omega.{arith}
 use borrow.Author.Needs.{needs}
-use Rattle.rate_set.proofs.concatenated.Splitting.{PartFrom, part-start, part-next, part-found}
-use Rattle.rate_set.proofs.concatenated.factor_at.Statement.{statement}
-use Rattle.rate_set.proofs.concatenated.factor_at.Tie as tie
+use Rattle.flat_bytes.proofs.factors.Splitting.{PartFrom, part-start, part-next, part-found}
+use Rattle.flat_bytes.proofs.factors.factor_at.Statement.{statement}
+use Rattle.flat_bytes.proofs.factors.factor_at.Tie as tie
 
 abbrev Inv-loop : tie.InvT-loop
 Inv-loop joined lengths i size from₀ j₀ from j = PartFrom joined lengths i from j

@@ -5,9 +5,9 @@ use mathlib.Core.List.{_++_}
 use lib.ListN.{length, take, drop}
 use denote.Ref.{now}
 use borrow.Author.Needs.{needs}
-use Rattle.exports.proofs.byte_order.LittleEndian.{room-filled}
-use Rattle.exports.proofs.byte_order.write_eight.Statement.{statement}
-use Rattle.exports.proofs.byte_order.write_eight.Tie as tie
+use Rattle.flat_bytes.proofs.numbers.LittleEndian.{room-filled}
+use Rattle.flat_bytes.proofs.numbers.write_eight.Statement.{statement}
+use Rattle.flat_bytes.proofs.numbers.write_eight.Tie as tie
 
 slice-aggregate-write-numbers : tie.Need-slice-aggregate-write-numbers
 slice-aggregate-write-numbers c = search needs
@@ -15,8 +15,8 @@ slice-aggregate-write-numbers c = search needs
 write-numbers-requires : tie.Need-write-numbers-requires
 write-numbers-requires c κs = search needs
 
-at-most-64-requires : tie.Need-at-most-64-requires
-at-most-64-requires c κs = search needs
+smaller-requires : tie.Need-smaller-requires
+smaller-requires c κs = search needs
 
 sub-copy : tie.Need-sub-copy
 sub-copy c = search needs
@@ -41,7 +41,7 @@ returns c =
     let s = w .before .before .before .before in
     let r = now (s .args .room) in
     let e = w .write-numbers .ensures in
-    room-filled r _ (search needs) (m .at-most-64 .ensures) (k .copy .ensures .1)
+    room-filled r _ (search needs) (m .smaller .ensures) (k .copy .ensures .1)
     ∙ ap (λ l. take (length r) l ++ drop 64 r) e
 
 pub write-eight-spec : {M : Type 1} → statement M
@@ -50,7 +50,7 @@ write-eight-spec =
     (tie.spec
     slice-aggregate-write-numbers
     write-numbers-requires
-    at-most-64-requires
+    smaller-requires
     sub-copy
     part-copy-start
     part-copy-end

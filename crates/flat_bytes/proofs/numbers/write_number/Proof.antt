@@ -6,10 +6,10 @@ use mathlib.Core.List.{_++_}
 use native.Mathlib.Omega.{arith}
 use borrow.Author.Needs.{needs}
 use lib.ListN.{length, take, length-set}
-use Rattle.exports.specs.byte_order.LittleEndian.{bytesOf}
-use Rattle.exports.proofs.byte_order.LittleEndian.{bytes-more, bytes-end}
-use Rattle.exports.proofs.byte_order.write_number.Statement.{statement}
-use Rattle.exports.proofs.byte_order.write_number.Tie as tie
+use Rattle.flat_bytes.specs.numbers.LittleEndian.{bytesOf}
+use Rattle.flat_bytes.proofs.numbers.LittleEndian.{bytes-more, bytes-end}
+use Rattle.flat_bytes.proofs.numbers.write_number.Statement.{statement}
+use Rattle.flat_bytes.proofs.numbers.write_number.Tie as tie
 
 abbrev Inv-loop : tie.InvT-loop
 Inv-loop n bytes₀ rest₀ i₀ bytes rest i =

@@ -5,10 +5,10 @@ use mathlib.Core.Path.{_≡_, refl}
 use native.Mathlib.Omega.{arith}
 use borrow.Author.Needs.{needs}
 use lib.ListN.{length}
-use Rattle.exports.specs.byte_order.LittleEndian.{numbersOf}
-use Rattle.exports.proofs.byte_order.LittleEndian.{SameBelow, same-more}
-use Rattle.exports.proofs.byte_order.first_nine.Statement.{statement}
-use Rattle.exports.proofs.byte_order.first_nine.Tie as tie
+use Rattle.flat_bytes.specs.numbers.LittleEndian.{numbersOf}
+use Rattle.flat_bytes.proofs.numbers.LittleEndian.{SameBelow, same-more}
+use Rattle.flat_bytes.proofs.numbers.first_nine.Statement.{statement}
+use Rattle.flat_bytes.proofs.numbers.first_nine.Tie as tie
 
 abbrev Inv-loop : tie.InvT-loop
 Inv-loop bytes numbers₀ i₀ numbers i = (length numbers ≡ 9) × (i ≤ 9) × SameBelow i numbers (numbersOf bytes)

@@ -1,0 +1,2 @@
+pub mod factors
+pub mod numbers
