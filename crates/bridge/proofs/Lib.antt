@@ -21,3 +21,6 @@ pub mod MasseySteps
 pub mod MasseyAnswer
 pub mod Cutting
 pub mod Accepted
+pub mod Records
+pub mod WrittenFactors
+pub mod FileRatings

@@ -20,8 +20,8 @@ use mathlib.Core.List.{List, [], _∷_, _++_}
 use mathlib.Core.Option.{some, Option·some-injective}
 use native.Mathlib.Decide.{decLt, ℕ-discrete}
 use native.Mathlib.Omega.{arith}
-use lib.ListN.{length, getD, take, drop, length-append, take-append-drop, List·getD-eq-default}
-use lib.Seq.{length-take-le, getD-append-seam}
+use lib.ListN.{length, getD, take, drop, take-append-drop, List·getD-eq-default}
+use lib.Seq.{length-take-le}
 use lib.Dec.{T}
 use Rattle.meaning.specs.Field.{Field, prime, primeInRange, areElements}
 use Rattle.meaning.specs.Polynomial.{degree, isMonicOver, plus, scale}
@@ -45,8 +45,8 @@ use Rattle.bridge.proofs.Interpretation.{element-negative, element-nonz
 use Rattle.bridge.proofs.Interpretation.{add-below, mul-below, size-two}
 use Rattle.bridge.proofs.Polynomials.{Poly, polyRing, poly, poly-nil, poly-one, poly-cons, poly-plus}
 use Rattle.bridge.proofs.Polynomials.{poly-scale, coefficient-poly, length-scale, elements-nil}
-use Rattle.bridge.proofs.Polynomials.{elements-getD, getD-elements, elements-cons, elements-uncons}
-use Rattle.bridge.proofs.Polynomials.{one-elements, monic-over, length-degree}
+use Rattle.bridge.proofs.Polynomials.{elements-getD, getD-elements}
+use Rattle.bridge.proofs.Polynomials.{length-degree, leading-length, leading-monic}
 use Rattle.bridge.proofs.Actions.{sequence, element-act}
 use Rattle.bridge.proofs.Actions.{known-getD}
 use Rattle.bridge.proofs.Fitting.{algebra-fits, fit-least, least-leastDegree, free-accepts}
@@ -246,14 +246,6 @@ module _ {F : Field} (I : IsField F) where
           subst (λ j. getD (changed F c s f g) j 0 < F .size) e
           (subst (λ a. a < F .size) (sym (changed-within F c s f g (i - s) (omega arith))) (add-below I _ _))
 
-  leading-elements : (f : List ℕ) → T (areElements F f) → T (areElements F (f ++ (1 ∷ [])))
-  leading-elements [] h = one-elements I
-  leading-elements (a ∷ f) h =
-      let (l, k) = elements-uncons F a f h in elements-cons F (f ++ (1 ∷ [])) l (leading-elements f k)
-
-degree-size : (f : List ℕ) → length (f ++ (1 ∷ [])) ≡ suc (length f)
-degree-size f = length-append f (1 ∷ []) ∙ omega arith
-
 pub record MasseyRight {F : Field} (I : IsField F) (ts : List ℕ) (n : ℕ) (x : MasseyState) : Type 0 where
   pub sizes : MasseySizes n x
   pub elements : T (areElements F (x .lower))
@@ -399,15 +391,12 @@ module _ {F : Field} (I : IsField F) (inverse : ℕ → ℕ) (v : Inverts F inve
   -- After all terms
   pub massey-monic : T (isMonicOver F (masseyPolynomial F inverse ts))
   massey-monic =
-      monic-over F (masseyPolynomial F inverse ts) (masseyDegree F inverse ts)
-      (degree-size (masseyAfter F inverse ts (length ts) .lower))
-      (getD-append-seam (masseyAfter F inverse ts (length ts) .lower) 1 [] 0)
-      (leading-elements I (masseyAfter F inverse ts (length ts) .lower) (massey-elements (length ts)))
+      leading-monic I (masseyAfter F inverse ts (length ts) .lower) (massey-elements (length ts))
 
   pub massey-degree : degree (masseyPolynomial F inverse ts) ≡ masseyDegree F inverse ts
   massey-degree =
       length-degree (masseyPolynomial F inverse ts)
-      (degree-size (masseyAfter F inverse ts (length ts) .lower))
+      (leading-length (masseyAfter F inverse ts (length ts) .lower))
 
   pub massey-fits : Fits F ts (masseyDegree F inverse ts) (masseyPolynomial F inverse ts)
   massey-fits =

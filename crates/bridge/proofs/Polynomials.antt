@@ -7,6 +7,7 @@
 --   times-elements == products of any two lists have elements of F alone for numbers
 --   length-times, degree-times == the product of lists that are not empty
 --   monic-length, monic-last, monic-elements, monic-over == `isMonicOver` in words, and back
+--   leading-length, leading-elements, leading-monic == a list of elements with the leading 1 after it
 --   monic-poly     == a monic list is a monic polynomial of the list's degree
 --   list-equal     == lists of elements of one length with the same polynomial are equal
 --   monic-equal    == monic lists with the same polynomial are equal
@@ -19,11 +20,11 @@ use Prim.Native.Nat.{ℕ, zero, suc, _+_, _-_, _<_, suc-le-suc, max}
 use mathlib.Core.Path.{_≡_, refl, sym, ap, ap₂, subst, _∙_}
 use mathlib.Core.Logic.{_≢_}
 use mathlib.Core.Bool.{Bool, true, false}
-use mathlib.Core.List.{List, [], _∷_, map}
+use mathlib.Core.List.{List, [], _∷_, _++_, map}
 use native.Mathlib.Nat.{not-suc-le-zero, le-of-suc-le-suc}
 use native.Mathlib.Omega.{arith}
-use lib.ListN.{length, getD, length-map, List·getD-map, List·getD-eq-default}
-use lib.Seq.{ext-getD}
+use lib.ListN.{length, getD, length-append, length-map, List·getD-map, List·getD-eq-default}
+use lib.Seq.{ext-getD, getD-append-seam}
 use lib.Dec.{T, eqb, ltb→lt, lt→ltb, eqb→eq, eqb-refl}
 use Rattle.meaning.specs.Field.{Field, isElement, areElements}
 use Rattle.meaning.specs.Polynomial.{Polynomial, degree, leading, isMonic, isMonicOver, plus, scale, times}
@@ -239,6 +240,9 @@ pub length-degree : (f : List ℕ) {n : ℕ} → length f ≡ suc n → degree f
 unfolding degree
 length-degree f e = omega arith
 
+pub leading-length : (f : List ℕ) → length (f ++ (1 ∷ [])) ≡ suc (length f)
+leading-length f = length-append f (1 ∷ []) ∙ omega arith
+
 leading-cons : (a : ℕ) (f : List ℕ) → leading (a ∷ f) ≡ getD (a ∷ f) (length f) 0
 unfolding leading
 leading-cons a [] = refl
@@ -351,6 +355,17 @@ module _ {F : Field} (I : IsField F) where
 
   pub one-monic : T (isMonicOver F (1 ∷ []))
   one-monic = monic-over F (1 ∷ []) 0 refl refl (one-elements I)
+
+  -- coefficients with the leading 1 after them
+  pub leading-elements : (f : List ℕ) → T (areElements F f) → T (areElements F (f ++ (1 ∷ [])))
+  leading-elements [] h = one-elements I
+  leading-elements (a ∷ f) h =
+      let (l, k) = elements-uncons F a f h in elements-cons F (f ++ (1 ∷ [])) l (leading-elements f k)
+
+  pub leading-monic : (f : List ℕ) → T (areElements F f) → T (isMonicOver F (f ++ (1 ∷ [])))
+  leading-monic f h =
+      monic-over F (f ++ (1 ∷ [])) (length f) (leading-length f) (getD-append-seam f 1 [] 0)
+      (leading-elements f h)
 
   -- The product of monic lists is monic
   pub times-monic :

@@ -14,6 +14,7 @@
 --   FirstAt n table == a condition numbered n holds and those before it do not, as a tuple with a part for
 --                     each; `firstOf-before`, `settle-before`: so it is where the table refuses by n
 --   map-answered, map-refused == what `mapResult` says of a result
+--   never-answered, refused-same, answered-same == a refusal is no answer, and each is by one number or value
 --
 -- Membership is `List·Memᴰ`, as data.
 -- Assumes nothing.
@@ -582,6 +583,15 @@ settle-before v table l e = elim (settle-refused v table e) [
 ]
 
 -- Results
+pub never-answered : {A : Type 0} {B : Type 0} {n : ℕ} {a : A} → refused n ≡ answered a → B
+never-answered {n = n} {a} e = absurd (let z : _≡_ {A = ℕ} 0 1 = cc in omega arith)
+
+pub refused-same : {A : Type 0} {m n : ℕ} → _≡_ {A = Result A} (refused m) (refused n) → m ≡ n
+refused-same e = cc
+
+pub answered-same : {A : Type 0} {a b : A} → answered a ≡ answered b → a ≡ b
+answered-same e = cc
+
 pub map-answered :
     {A B : Type 0} (f : A → B) (r : Result A) {b : B}
     → mapResult f r ≡ answered b

@@ -2,7 +2,7 @@
 -- Assumes nothing.
 use mathlib.Core.Path.{_≡_, refl}
 use Rattle.meaning.specs.Result.{Result, refused, answered, mapResult}
-use Rattle.exports.specs.Status.{statusOf}
+use Rattle.meaning.specs.Exports.{statusOf}
 
 pub status-map : {A B : Type 0} (f : A → B) (r : Result A) → statusOf (mapResult f r) ≡ statusOf r
 unfolding statusOf mapResult

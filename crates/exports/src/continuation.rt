@@ -2,7 +2,7 @@
 use meaning::Filling;
 use refusals::numbering::refusal_number;
 ghost use Rattle.meaning.specs.Continuation.{continueSequence};
-ghost use Rattle.exports.specs.continuation.Filled.{Filled};
+ghost use Rattle.meaning.specs.Exports.{Filled};
 
 // Fills the buffer from the place on with the continuation.
 #[no_mangle]

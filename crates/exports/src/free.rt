@@ -2,7 +2,7 @@
 use meaning::FreeRating;
 use refusals::numbering::refusal_number;
 ghost use Rattle.massey.specs.Shortest.{freeChoice};
-ghost use Rattle.exports.specs.free.FreeExported.{FreeExported};
+ghost use Rattle.meaning.specs.Exports.{FreeExported};
 
 // Rates known terms with no factor named: leaves the degree, and 1 for the word `one` or 0 for `some`.
 #[no_mangle]

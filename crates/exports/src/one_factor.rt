@@ -5,7 +5,7 @@ ghost use lib.ListN.{length};
 ghost use Rattle.meaning.specs.Period.{ratePeriod};
 ghost use Rattle.meaning.specs.Portion.{ratePortion};
 ghost use Rattle.meaning.specs.Answers.{toldPower};
-ghost use Rattle.exports.specs.one_factor.PowerExported.{PowerTold, PowerExported};
+ghost use Rattle.meaning.specs.Exports.{PowerTold, PowerExported};
 
 // Leaves the figures of a rating in the lent numbers, and answers its status.
 fn tell(rating: PowerRating, power: &mut u64, degree: &mut u64, bound: &mut u64) -> u64

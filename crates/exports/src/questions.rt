@@ -4,7 +4,7 @@ use meaning::Irreducibility;
 use refusals::numbering::refusal_number;
 ghost use Rattle.meaning.specs.Calls.{PrimeCall};
 ghost use Rattle.meaning.specs.Irreducibility.{askIrreducible};
-ghost use Rattle.exports.specs.questions.Question.{Question};
+ghost use Rattle.meaning.specs.Exports.{Question};
 
 // Whether n is a prime from 2 to 251.
 #[no_mangle]

@@ -10,9 +10,8 @@ use refusals::numbering::refusal_number;
 ghost use lib.ListN.{length};
 ghost use Rattle.meaning.specs.Portion.{rateSet};
 ghost use Rattle.meaning.specs.Calls.{SetCall};
-ghost use Rattle.flat_bytes.specs.factors.Concatenated.{split};
-ghost use Rattle.flat_bytes.specs.numbers.LittleEndian.{numbersOf};
-ghost use Rattle.exports.specs.set.SetExported.{SetExported};
+ghost use Rattle.meaning.specs.FlatBytes.{split, numbersOf};
+ghost use Rattle.meaning.specs.Exports.{SetExported};
 
 // The set way with the lengths of the joined factors and their upper powers as numbers in bytes. Nine factors
 // are refused whatever they are, so nine numbers of each are all that is looked at.

@@ -1,1 +1,1 @@
-pub mod LittleEndian
+pub mod Nine

@@ -8,7 +8,8 @@ ghost use mathlib.Core.List.{[]};
 ghost use Prim.Native.Nat.{_≤_};
 ghost use lib.ListN.{getD};
 ghost use Rattle.meaning.specs.Calls.{SetCall};
-ghost use Rattle.flat_bytes.specs.factors.Concatenated.{split, PartEnd};
+ghost use Rattle.meaning.specs.FlatBytes.{split};
+ghost use Rattle.flat_bytes.specs.factors.Parts.{PartEnd};
 
 // Where the part with the length at the place i ends that begins at `from`, in `size` bytes.
 fn part_end(size: usize, from: usize, lengths: &[u64], i: usize) -> usize

@@ -4,7 +4,8 @@ ghost use mathlib.Core.Path.{_≡_};
 ghost use mathlib.Core.List.{_++_};
 ghost use Prim.Native.Nat.{_≤_};
 ghost use lib.ListN.{length, getD, take, drop};
-ghost use Rattle.flat_bytes.specs.numbers.LittleEndian.{littleEndian, numbersOf, bytesOf, bytesOfAll, FirstNine};
+ghost use Rattle.meaning.specs.FlatBytes.{littleEndian, numbersOf, bytesOf, bytesOfAll};
+ghost use Rattle.flat_bytes.specs.numbers.Nine.{FirstNine};
 
 // The number of up to eight bytes, the least significant first.
 fn little_endian(bytes: &[u8]) -> u64

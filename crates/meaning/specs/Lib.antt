@@ -16,3 +16,6 @@ pub mod Print
 pub mod Answers
 pub mod Calls
 pub mod Slices
+pub mod FlatBytes
+pub mod Exports
+pub mod Program

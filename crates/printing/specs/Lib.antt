@@ -1,4 +1,3 @@
 pub mod words
 pub mod result_line
 pub mod poly_line
-pub mod lines

@@ -12,7 +12,7 @@ ghost use mathlib.Core.List.{[]};
 ghost use Prim.Native.Nat.{_+_, _≤_};
 ghost use lib.ListN.{length};
 ghost use Rattle.meaning.specs.Print.{resultLine};
-ghost use Rattle.printing.specs.lines.Lines.{ratedResult, PrintCall};
+ghost use Rattle.meaning.specs.Program.{ratedResult, PrintCall};
 ghost use Rattle.printing.specs.words.Words.{PutWithin};
 
 // The lent answer bytes of the program.

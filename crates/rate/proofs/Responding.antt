@@ -12,9 +12,8 @@ use Rattle.meaning.specs.File.{FileChosenFits}
 use Rattle.meaning.specs.Calls.{FileCall}
 use Rattle.meaning.specs.Print.{printed}
 use Rattle.massey.specs.Shortest.{freeChoice}
-use Rattle.printing.specs.lines.Lines.{linesOf, PrintCall}
+use Rattle.meaning.specs.Program.{linesOf, PrintCall, Response}
 use Rattle.printing.proofs.lines.FileResults.{printed-lines}
-use Rattle.rate.specs.Responses.{Response}
 use Rattle.rate.proofs.Cuts.{printed-cut, chosen-cut}
 
 pub respond-call :
@@ -25,7 +24,7 @@ pub respond-call :
     → length work ≡ 8192
     → FileCall freeChoice file answer work r answer′ work′
     → PrintCall r answer′ out n out′
-    → Response buffer count n out′
+    → Response freeChoice buffer count n out′
 unfolding written
 respond-call buffer count {file} {answer} {work} {answer′} {work′} {out} {out′} {r} {n} long read a w f p =
     let text = linesOf r answer′ in

@@ -8,7 +8,8 @@ use printing::lines::MOST_PRINTED;
 use printing::lines::print_rating;
 use rater::rate_file;
 use route::framing::part;
-ghost use Rattle.rate.specs.Responses.{Response};
+ghost use Rattle.meaning.specs.Program.{Response};
+ghost use Rattle.massey.specs.Shortest.{freeChoice};
 
 // How much of the input is kept: one byte more than a file may have. Further bytes change nothing.
 const KEPT_BYTES: usize = 16385;
@@ -19,7 +20,7 @@ const WORK_BYTES: usize = 8192;
 // Writes what the program prints to the front of `out`, and returns its number of bytes. The first `count`
 // bytes of the buffer are the input, or its first bytes where the buffer is full.
 fn respond(buffer: &[u8; KEPT_BYTES], count: usize, out: &mut [u8; MOST_PRINTED]) -> usize
-    ensures { λ n. ⌜ Response (now (buffer .entry)) count n (now (out .exit)) ⌝ }
+    ensures { λ n. ⌜ Response freeChoice (now (buffer .entry)) count n (now (out .exit)) ⌝ }
 {
     let mut answer = [0u8; ANSWER_BYTES];
     let mut work = [0u8; WORK_BYTES];

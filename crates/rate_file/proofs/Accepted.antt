@@ -1,7 +1,7 @@
 -- What holds of an accepted file: its records are those by their lengths, and no body is cut.
 -- Assumes nothing.
 use Prim.Native.Nat.{ℕ, zero, suc, _<_}
-use mathlib.Core.Path.{_≡_, refl, ap, _∙_}
+use mathlib.Core.Path.{_≡_, refl, sym, ap, _∙_}
 use mathlib.Core.Bool.{Bool, true, false}
 use mathlib.Core.List.{List, [], _∷_}
 use native.Mathlib.Nat.{le-of-suc-le-suc, not-suc-le-zero}
@@ -12,7 +12,8 @@ use Rattle.meaning.specs.Result.{answered, mapResult}
 use Rattle.meaning.specs.Route.{RouteRecord, bodies, records}
 use Rattle.route.specs.framing.Framing.{bodyLength, recordsFrom}
 use Rattle.route.specs.walk.Walking.{verdictOf}
-use Rattle.route.proofs.walk.Walks.{Whole, AnswersWhole}
+use Rattle.bridge.proofs.Records.{Whole}
+use Rattle.route.proofs.walk.Walks.{length-found, AnswersWhole}
 use Rattle.route.proofs.acceptance.Accepting.{records-whole, records-known}
 
 module _ (k : ℕ) where
@@ -31,7 +32,7 @@ module _ (k : ℕ) where
       go : AllWhole (bodies k rs) → (t : Bool) → eqb (r .kind) k ≡ t → AllWhole (bodies k (r ∷ rs))
       go rest true e =
           rw (e, bodies)
-          (whole-cons (r .body) (bodies k rs) (w .0 ∙ ap bodyLength (eqb-true (r .kind) k e)) rest)
+          (whole-cons (r .body) (bodies k rs) (sym (length-found (r .kind) (w .0)) ∙ ap bodyLength (eqb-true (r .kind) k e)) rest)
       go rest false e = rw (e, bodies) rest
 
 module _ (file : List ℕ) (accepted : answered tt ≡ verdictOf (records file)) where

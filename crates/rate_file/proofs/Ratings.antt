@@ -13,7 +13,8 @@ use Rattle.meaning.specs.Free.{Choice}
 use Rattle.meaning.specs.File.{rateRecords, rateFile}
 use Rattle.meaning.specs.Calls.{FileCall}
 use Rattle.route.specs.framing.Framing.{recordsFrom}
-use Rattle.route.proofs.framing.Records.{records-suited}
+use Rattle.bridge.proofs.Records.{records-suited}
+use Rattle.bridge.proofs.FileRatings.{accepted-file, refused-file}
 use Rattle.massey.specs.Shortest.{freeChoice}
 use Rattle.massey.proofs.FreeWay.{free-chosen}
 use Rattle.rate_file.specs.outcomes.Outcomes.{RatedFile}
@@ -31,13 +32,12 @@ module _ (file : List ℕ) where
   module _ (pick : Choice) (answer work : ℕ) where
     pub file-rated : answered tt ≡ verdictOf (records file)
         → rateFile pick file answer work ≡ rateRecords pick (recordsFrom file 0) answer work
-    unfolding rateFile
-    file-rated v = rw (records-accepted file v, rateFile)
+    file-rated v = accepted-file pick file answer work (records-accepted file v)
 
     pub file-refused : {n : ℕ} → refused n ≡ verdictOf (records file)
         → rateFile pick file answer work ≡ refused n
-    unfolding rateFile mapResult
-    file-refused v = rw (records-known file v, rateFile)
+    unfolding mapResult
+    file-refused v = refused-file pick file answer work (records-known file v)
 
   pub file-number : {n : ℕ} → refused n ≡ verdictOf (records file) → eqb n 17 ≡ false
   unfolding mapResult

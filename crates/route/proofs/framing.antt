@@ -1,4 +1,3 @@
 pub mod Tables
 pub mod Lookup
 pub mod Frames
-pub mod Records

@@ -8,9 +8,8 @@ use Rattle.meaning.specs.declared.Filling.{Filling}
 use Rattle.meaning.specs.Answers.{numberOf, toldFilling}
 use Rattle.meaning.specs.Continuation.{continueSequence}
 use Rattle.meaning.specs.Calls.{ContinueCall}
-use Rattle.exports.specs.Status.{statusOf}
+use Rattle.meaning.specs.Exports.{statusOf, Filled}
 use Rattle.exports.proofs.Status.{status-map}
-use Rattle.exports.specs.continuation.Filled.{Filled}
 
 module _ {p : ℕ} {g start buffer : List ℕ} {place : ℕ} {a : Filling} {buffer′ : List ℕ}
     (call : ContinueCall p g start buffer place a buffer′) where

@@ -10,8 +10,7 @@ use Rattle.meaning.specs.Result.{Result, figuresOf}
 use Rattle.meaning.specs.Free.{Choice, FreeFigures, rateFree}
 use Rattle.meaning.specs.Answers.{numberOf, toldFree}
 use Rattle.meaning.specs.Calls.{FreeCall}
-use Rattle.exports.specs.Status.{statusOf, numberAfter}
-use Rattle.exports.specs.free.FreeExported.{wordNumber, wordOf, FreeExported}
+use Rattle.meaning.specs.Exports.{statusOf, numberAfter, wordNumber, wordOf, FreeExported}
 use Rattle.exports.proofs.Status.{status-map}
 
 module _ {pick : Choice} {p : ℕ} {ts answer work : List ℕ} {a : FreeRating} {answer′ work′ : List ℕ}

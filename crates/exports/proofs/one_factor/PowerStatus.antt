@@ -12,8 +12,7 @@ use Rattle.meaning.specs.Period.{ratePeriod}
 use Rattle.meaning.specs.Portion.{ratePortion}
 use Rattle.meaning.specs.Answers.{numberOf, toldPower}
 use Rattle.meaning.specs.Calls.{LentAfter, PeriodCall, PortionCall}
-use Rattle.exports.specs.Status.{statusOf, numberAfter}
-use Rattle.exports.specs.one_factor.PowerExported.{PowerTold, PowerExported}
+use Rattle.meaning.specs.Exports.{statusOf, numberAfter, PowerTold, PowerExported}
 
 module _ {a : PowerRating} {power degree bound : ℕ} where
   pub power-told : {r d b : ℕ}

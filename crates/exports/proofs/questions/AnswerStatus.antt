@@ -7,8 +7,7 @@ use Rattle.meaning.specs.declared.Refusal.{Refusal}
 use Rattle.meaning.specs.declared.Irreducibility.{Irreducibility}
 use Rattle.meaning.specs.Result.{Result}
 use Rattle.meaning.specs.Answers.{numberOf, toldIrreducible}
-use Rattle.exports.specs.Status.{statusOf}
-use Rattle.exports.specs.questions.Question.{yesAfter, Question}
+use Rattle.meaning.specs.Exports.{statusOf, yesAfter, Question}
 
 question : {result told : Result Bool} {n k m : ℕ}
     → told ≡ result

@@ -18,9 +18,9 @@ use Rattle.meaning.specs.Field.{prime}
 use Rattle.meaning.specs.Conditions.{named, factorDegreeOutOfRange, notMonic}
 use Rattle.meaning.specs.Portion.{setAnswer, rateSet}
 use Rattle.meaning.specs.Calls.{SetCall}
-use Rattle.flat_bytes.specs.factors.Concatenated.{split}
+use Rattle.meaning.specs.FlatBytes.{split}
 use Rattle.flat_bytes.proofs.factors.Nine.{call-same, call-nine}
-use Rattle.flat_bytes.specs.numbers.LittleEndian.{FirstNine}
+use Rattle.flat_bytes.specs.numbers.Nine.{FirstNine}
 
 nine-lengths : {ns ms : List ℕ} {k : ℕ} → FirstNine ns ms → k ≡ min (length ns) 9 → take k ms ≡ take 9 ns
 nine-lengths {ns} {ms} {k} f e =

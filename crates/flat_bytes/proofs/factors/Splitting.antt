@@ -19,7 +19,8 @@ use lib.ListN.{length, getD, take, drop, length-drop, drop-of-length-le, List·g
 use lib.Seq.{drop-cons, drop-drop, take-all, take-nil}
 use denote.Ref.{RefT, now}
 use Rattle.meaning.specs.Slices.{listsOf}
-use Rattle.flat_bytes.specs.factors.Concatenated.{split, PartEnd}
+use Rattle.meaning.specs.FlatBytes.{split}
+use Rattle.flat_bytes.specs.factors.Parts.{PartEnd}
 
 pub split-length : (b ns : List ℕ) → length (split b ns) ≡ length ns
 unfolding split

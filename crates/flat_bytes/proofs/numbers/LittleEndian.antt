@@ -21,7 +21,7 @@ use lib.Seq.{drop-cons, drop-drop, take-at, drop-at, take-suc, take-suc-set, tak
 use lib.Seq.{take-length, take-append-add}
 use lib.Seq.{getD-set-same, getD-set-other}
 use Rattle.algebra.proofs.Number.{number-below}
-use Rattle.flat_bytes.specs.numbers.LittleEndian.{littleEndian, eights, numbersOf, bytesOf, bytesOfAll}
+use Rattle.meaning.specs.FlatBytes.{littleEndian, eights, numbersOf, bytesOf, bytesOfAll}
 
 -- Numbers of several bytes
 pub number-fits : (n b i : ℕ) → n < 2 ^ (8 * i) → b < 256 → i < 8 → 256 * n + b < 2 ^ 64

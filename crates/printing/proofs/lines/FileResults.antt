@@ -19,17 +19,18 @@ use Rattle.meaning.specs.Answers.{toldFile, labelTold, fileFiguresTold, padded,
 use Rattle.meaning.specs.Calls.{FileCall}
 use Rattle.meaning.specs.Print.{report, printed}
 use Rattle.meaning.proofs.Determined.{file-determined}
-use Rattle.printing.specs.lines.Lines.{ratedResult, linesOf}
-use Rattle.printing.proofs.lines.Sizes.{never, file-size}
+use Rattle.meaning.specs.Program.{ratedResult, linesOf}
+use Rattle.bridge.proofs.Searches.{never-answered}
+use Rattle.bridge.proofs.FileRatings.{file-size}
 
 told-refused :
     (o : FileOutcome) (rs answer : List ℕ) {n : ℕ}
     → toldFile o ≡ refused n
     → ratedResult o rs answer ≡ refused n
 unfolding toldFile ratedResult
-told-refused (FileOutcome.Powers d m k) rs answer e = never (sym e)
-told-refused (FileOutcome.Unique d m) rs answer e = never (sym e)
-told-refused (FileOutcome.Several d m) rs answer e = never (sym e)
+told-refused (FileOutcome.Powers d m k) rs answer e = never-answered (sym e)
+told-refused (FileOutcome.Unique d m) rs answer e = never-answered (sym e)
+told-refused (FileOutcome.Several d m) rs answer e = never-answered (sym e)
 told-refused (FileOutcome.Refused x) rs answer e = cc
 
 -- the powers and the coefficients that are read back

@@ -22,7 +22,7 @@ use Rattle.meaning.specs.Print.{polyLine, report}
 use Rattle.printing.specs.words.Words.{Put, PutWithin}
 use Rattle.printing.specs.result_line.ResultLines.{ratedLine}
 use Rattle.printing.specs.poly_line.PolyLine.{coefficientCount, polyOf}
-use Rattle.printing.specs.lines.Lines.{ratedResult, linesOf, PrintCall}
+use Rattle.meaning.specs.Program.{ratedResult, linesOf, PrintCall}
 use Rattle.printing.proofs.words.Putting.{put-join, put-as, put-written}
 use Rattle.printing.proofs.result_line.Parts.{take-most}
 use Rattle.printing.proofs.poly_line.PolyLines.{poly-some}

@@ -11,7 +11,7 @@ use Rattle.meaning.specs.File.{fileFactor, polynomialOf}
 use Rattle.route.specs.payload.Payload.{LaidFactor}
 use Rattle.route.proofs.payload.Stores.{sets-front}
 use Rattle.rate_file.specs.factors.Written.{Packed}
-use Rattle.flat_bytes.specs.factors.Concatenated.{split}
+use Rattle.meaning.specs.FlatBytes.{split}
 
 -- one factor, from the front on
 pub front-factor : {body to to′ part : List ℕ} {n : ℕ} → LaidFactor body 0 to n to′

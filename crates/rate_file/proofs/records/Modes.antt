@@ -17,9 +17,8 @@ use Rattle.meaning.specs.Search.{holdsForSome, isNone}
 use Rattle.meaning.specs.Field.{prime}
 use Rattle.meaning.specs.Polynomial.{Polynomial, product}
 use Rattle.meaning.specs.Sequence.{annihilatesKnown}
-use Rattle.meaning.specs.Conditions.{named, totalDegree, factorCountOutOfRange, isReducible, twoEqual}
+use Rattle.meaning.specs.Conditions.{totalDegree, factorCountOutOfRange, isReducible, twoEqual}
 use Rattle.meaning.specs.Conditions.{upperPowersOutOfRange, fewerTermsThan, lentTooShort}
-use Rattle.meaning.specs.Conditions.{factorDegreeOutOfRange, notMonic}
 use Rattle.meaning.specs.Result.{refused, Check, firstOf}
 use Rattle.meaning.specs.Period.{periodTable, periodPower, periodAnswer, ratePeriod}
 use Rattle.meaning.specs.Portion.{factorsOf, setTable, setAnswer, rateSet}
@@ -30,19 +29,12 @@ use Rattle.meaning.specs.File.{ofPeriod, ofSet, ofFree, rateMode}
 use Rattle.meaning.specs.Answers.{numberOf}
 use Rattle.bridge.proofs.Accepted.{prime-accepted}
 use Rattle.bridge.proofs.Interpretation.{IsField, inRange-isField}
-use Rattle.bridge.proofs.Searches.{none-at}
+use Rattle.bridge.proofs.WrittenFactors.{AllFull, period-lists, set-lists}
 use Rattle.refusals.specs.declared.Verdict.{Verdict}
 use Rattle.refusals.specs.Verdicts.{numberIn, termsTable}
 use Rattle.refusals.proofs.Order.{first-skip, refused-before, refused-second}
 use Rattle.refusals.proofs.Settled.{settle-refused, accepted-holds}
 use Rattle.rate_file.specs.factors.Written.{writtenTable}
-use Rattle.rate_file.proofs.factors.Polynomials.{AllWhole, polynomials-ten, polynomials-eleven}
-
-named-map : {A : Type 0} (g : A → Polynomial) (h : A → ℕ) (l : List A)
-    → named (map g l) (map h l) ≡ map (λ a. (g a, h a)) l
-unfolding named
-named-map g h [] = refl
-named-map g h (a ∷ l) = ap (λ (m : List (Polynomial × ℕ)). (g a, h a) ∷ m) (named-map g h l)
 
 count-passes : (n : ℕ) → 1 ≤ n → n ≤ 8 → factorCountOutOfRange n ≡ false
 unfolding factorCountOutOfRange
@@ -142,32 +134,22 @@ module _ (p : ℕ) (fs : List WrittenFactor) (ts : List ℕ) (answer work : ℕ)
             refl)
 
         -- the factors are accepted too
-        module _ (q : v ≡ Verdict.Accepted) (whole : AllWhole fs) where
+        module _ (q : v ≡ Verdict.Accepted) (full : AllFull fs) where
           passed : (ten ≡ false) × (eleven ≡ false)
           unfolding writtenTable
           passed = let h = accepted-holds (writtenTable p fs) ev q in (h .0, h .1 .0)
 
-          list-ten : holdsForSome (factorDegreeOutOfRange (prime p)) (map polynomialOf fs) ≡ false
-          list-ten = polynomials-ten (prime p) fs whole (passed .0)
-
-          list-eleven : holdsForSome (notMonic (prime p)) (map polynomialOf fs) ≡ false
-          list-eleven = polynomials-eleven (prime p) fieldExists fs whole (passed .0) (passed .1)
-
           pub period-way : (pick : Choice) → 1 ≤ length fs
               → rateMode pick periodMode p fs ts answer work
               ≡ ofPeriod (length ts) (ratePeriod p first ts answer work)
-          unfolding rateMode ratePeriod
+          unfolding rateMode
           period-way pick low =
-              let n : 0 < length (map polynomialOf fs) = rw length-map low in
-              rw (
-                passed .0,
-                passed .1,
-                none-at (factorDegreeOutOfRange (prime p)) [] (map polynomialOf fs) 0 list-ten n,
-                none-at (notMonic (prime p)) [] (map polynomialOf fs) 0 list-eleven n,
-              )
+              ap (ofPeriod (length ts))
+              (period-lists p fs full fieldExists (passed .0) (passed .1) ts answer work low)
 
           pub set-way : (pick : Choice)
               → rateMode pick setMode p fs ts answer work
               ≡ ofSet (length ts) (rateSet p (map polynomialOf fs) (map (λ f. f .upper) fs) ts answer work)
-          unfolding rateMode rateSet
-          set-way pick = rw (passed .0, passed .1, list-ten, list-eleven, named-map)
+          unfolding rateMode
+          set-way pick =
+              ap (ofSet (length ts)) (set-lists p fs full fieldExists (passed .0) (passed .1) ts answer work)

@@ -26,7 +26,8 @@ use Rattle.refusals.proofs.Settled.{accepted-holds}
 use Rattle.refusals.proofs.Lent.{never-refused}
 use Rattle.rate_file.specs.factors.Written.{factorsIn, polynomialsIn, writtenTable}
 use Rattle.rate_file.proofs.factors.Places.{factors-count}
-use Rattle.rate_file.proofs.factors.Polynomials.{AllWhole, factors-whole, polynomials-fit}
+use Rattle.bridge.proofs.WrittenFactors.{AllFull}
+use Rattle.rate_file.proofs.factors.Polynomials.{factors-whole, polynomials-fit}
 use Rattle.rate_file.specs.records.Accepted.{AcceptedRecords, Rateable}
 use Rattle.rate_file.proofs.records.Suited.{one-factor, some-mode, some-factors, by-period, by-set, by-free}
 use Rattle.rate_file.proofs.records.Suited.{rated-refused}
@@ -94,7 +95,7 @@ module _ (pick : Choice) (file ts : List ℕ) (answer work : ℕ) {p : ℕ} (ok 
     pub count-factors : count ≡ length (factorsIn file)
     count-factors = count-is ∙ sym (factors-count file)
 
-    whole : AllWhole (factorsIn file)
+    whole : AllFull (factorsIn file)
     whole = factors-whole file (ok .accepted .whole)
 
     terms-accepted : numberIn Verdict.Accepted ≡ firstOf (termsTable p ts)

@@ -14,6 +14,7 @@ use Rattle.meaning.specs.Free.{Choice}
 use Rattle.meaning.specs.Route.{RouteRecord, Mode, periodMode, setMode, freeMode, lookUp, modeOf}
 use Rattle.meaning.specs.Route.{byteOf, bodies, modeUnsuited}
 use Rattle.meaning.specs.File.{termsOf, rateMode, rateRecords}
+use Rattle.bridge.proofs.FileRatings.{known-mode}
 use Rattle.route.specs.framing.Framing.{recordsFrom}
 use Rattle.route.proofs.payload.Modes.{unsuited-unknown, period-count, set-none, set-most}
 use Rattle.rate_file.specs.factors.Written.{factorsIn}
@@ -54,8 +55,8 @@ module _ (pick : Choice) (file : List ℕ) (answer work : ℕ) {mode : ℕ}
       work
 
   rated-by : (m : Mode) → modeOf mode ≡ some m → By m
-  unfolding rateRecords factorsIn
-  rated-by m e = rw (← mode-is, e, rateRecords)
+  unfolding factorsIn
+  rated-by m e = known-mode pick (recordsFrom file 0) answer work (rw (← mode-is) e)
 
   pub by-period : mode ≡ 1 → By periodMode
   unfolding modeOf lookUp

@@ -2,17 +2,16 @@
 -- Assumes nothing.
 use Prim.Native.Nat.{ℕ, _<_, _≤_}
 use mathlib.Core.Path.{_≡_, refl, sym, ap, _∙_}
-use mathlib.Core.Bool.{Bool, true, false}
+use mathlib.Core.Bool.{true, false}
 use mathlib.Core.List.{List}
-use native.Mathlib.Decide.{decLt}
-use native.Mathlib.Omega.{arith}
 use lib.ListN.{length}
 use Rattle.meaning.specs.Result.{Result, refused, answered, mapResult}
 use Rattle.meaning.specs.Route.{RouteRecord, atStart, walk, modeUnsuited, suited, records}
 use Rattle.route.specs.framing.Framing.{recordsFrom}
-use Rattle.route.proofs.framing.Records.{records-long, records-short}
+use Rattle.bridge.proofs.Records.{records-long, records-short, walk-walked}
+use Rattle.bridge.proofs.Records as bridge
 use Rattle.route.specs.walk.Walking.{verdictOf}
-use Rattle.route.proofs.walk.Walks.{AnswersWhole, walk-framed}
+use Rattle.route.proofs.walk.Walks.{AnswersWhole, walked-whole}
 
 -- of such a result the verdict is all that is left
 answer-known : (x : Result (List RouteRecord)) (rs : List RouteRecord) → AnswersWhole x rs
@@ -21,27 +20,14 @@ unfolding verdictOf mapResult
 answer-known (refused n) rs h = refl
 answer-known (answered qs) rs h = ap answered (h .0)
 
-suited-whole : (x : Result (List RouteRecord)) (rs : List RouteRecord) → AnswersWhole x rs
-    → AnswersWhole (suited x) rs
-unfolding suited
-suited-whole (refused n) rs h = h
-suited-whole (answered qs) rs h = go (modeUnsuited qs) refl
-  where
-    go : (t : Bool) → modeUnsuited qs ≡ t → AnswersWhole (suited (answered qs)) rs
-    go true e = rw (e, suited) refl
-    go false e = rw (e, suited) h
-
 module _ (file : List ℕ) where
   walk-whole : AnswersWhole (walk file 0 atStart) (recordsFrom file 0)
   unfolding recordsFrom
-  walk-whole = walk-framed file 0 atStart
+  walk-whole = walked-whole file _ (walk-walked file 0 atStart)
 
   pub records-whole : AnswersWhole (records file) (recordsFrom file 0)
-  records-whole = go (decLt 16384 (length file))
-    where
-      go : Dec (16384 < length file) → AnswersWhole (records file) (recordsFrom file 0)
-      go (yes h) = rw (records-long file h) refl
-      go (no h) = rw (records-short file (omega arith)) (suited-whole _ _ walk-whole)
+  unfolding recordsFrom
+  records-whole = walked-whole file _ (bridge.records-walked file)
 
   -- the records of an accepted file
   pub records-known : {v : Result (Unit {0})} → v ≡ verdictOf (records file)

@@ -33,7 +33,7 @@ from-over file at h = rw (drop-of-length-le file h)
 pub opened : (file : List ℕ) (at : ℕ) → at < length file → drop at file ≡ getD file at 0 ∷ drop (at + 1) file
 opened file at h = rw add-one (drop-cons file at 0 h)
 
-framed-cons : (kind : ℕ) (rest : List ℕ) → framed (kind ∷ rest) 0
+pub framed-cons : (kind : ℕ) (rest : List ℕ) → framed (kind ∷ rest) 0
     ≡ record { kind = kind; body = take (bodyLength kind) rest } ∷ framed (drop (bodyLength kind) rest) 0
 unfolding framed
 framed-cons kind rest =

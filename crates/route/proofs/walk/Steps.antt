@@ -22,7 +22,7 @@ use Rattle.route.proofs.framing.Lookup.{length-unknown, length-known}
 use Rattle.route.specs.declared.walk.Step.{Step}
 use Rattle.route.specs.walk.Walking.{stageOf, stageTold, verdictOf, stepped, StepCall}
 use Rattle.route.proofs.walk.Stages.{stage-late, told-none, told-some}
-use Rattle.route.proofs.walk.Walks.{walk-skip, walk-unknown, walk-cut, walk-misplaced, walk-good}
+use Rattle.bridge.proofs.Records.{walk-skip, walk-unknown, walk-cut, walk-misplaced, walk-good}
 
 -- a step from a place inside the file, where n is the length of the body there
 module _ (file : List ℕ) (at stage : ℕ) (inside : at < length file) (n : ℕ)

@@ -5,7 +5,7 @@ use mathlib.Core.Path.{_≡_, refl}
 use native.Mathlib.Omega.{arith}
 use borrow.Author.Needs.{needs}
 use lib.ListN.{length}
-use Rattle.flat_bytes.specs.numbers.LittleEndian.{numbersOf}
+use Rattle.meaning.specs.FlatBytes.{numbersOf}
 use Rattle.flat_bytes.proofs.numbers.LittleEndian.{SameBelow, same-more}
 use Rattle.flat_bytes.proofs.numbers.first_nine.Statement.{statement}
 use Rattle.flat_bytes.proofs.numbers.first_nine.Tie as tie

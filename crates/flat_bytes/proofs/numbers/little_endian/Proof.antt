@@ -5,7 +5,7 @@ use mathlib.Core.Path.{_≡_, ap, _∙_}
 use native.Mathlib.Omega.{arith}
 use borrow.Author.Needs.{needs}
 use lib.ListN.{length, getD, drop}
-use Rattle.flat_bytes.specs.numbers.LittleEndian.{littleEndian}
+use Rattle.meaning.specs.FlatBytes.{littleEndian}
 use Rattle.flat_bytes.proofs.numbers.LittleEndian.{number-none, number-start, number-more, number-room, number-fits}
 use Rattle.flat_bytes.proofs.numbers.little_endian.Statement.{statement}
 use Rattle.flat_bytes.proofs.numbers.little_endian.Tie as tie

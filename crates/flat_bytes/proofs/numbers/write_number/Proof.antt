@@ -6,7 +6,7 @@ use mathlib.Core.List.{_++_}
 use native.Mathlib.Omega.{arith}
 use borrow.Author.Needs.{needs}
 use lib.ListN.{length, take, length-set}
-use Rattle.flat_bytes.specs.numbers.LittleEndian.{bytesOf}
+use Rattle.meaning.specs.FlatBytes.{bytesOf}
 use Rattle.flat_bytes.proofs.numbers.LittleEndian.{bytes-more, bytes-end}
 use Rattle.flat_bytes.proofs.numbers.write_number.Statement.{statement}
 use Rattle.flat_bytes.proofs.numbers.write_number.Tie as tie

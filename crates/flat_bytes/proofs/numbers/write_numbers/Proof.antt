@@ -6,7 +6,7 @@ use native.Mathlib.Omega.{arith}
 use borrow.Author.Needs.{needs}
 use lib.ListN.{length, take}
 use lib.Seq.{take-all}
-use Rattle.flat_bytes.specs.numbers.LittleEndian.{bytesOfAll}
+use Rattle.meaning.specs.FlatBytes.{bytesOfAll}
 use Rattle.flat_bytes.proofs.numbers.LittleEndian.{all-more}
 use Rattle.flat_bytes.proofs.numbers.write_numbers.Statement.{statement}
 use Rattle.flat_bytes.proofs.numbers.write_numbers.Tie as tie

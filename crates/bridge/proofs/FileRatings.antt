@@ -1,5 +1,10 @@
--- A rated file has as many coefficients as its degree and one more.
+-- The rating of a file by its records and its mode; its polynomial has as many coefficients as its degree and
+-- one more.
 --
+--   accepted-file, refused-file == the rating of a file, by its records
+--   known-mode, unknown-mode == the rating of the records, by their mode
+--   period-map, set-map, free-map == a mode tells what its way answers
+--   exactly-one == an accepted file in the period mode has one factor
 --   Whole a     == the result a has so many
 --   period-size, set-size, free-size == the answers of the ways have
 --   file-size   == the answer for a file has
@@ -27,21 +32,18 @@ use Rattle.meaning.specs.File.{WrittenFactor, fileFactor, polynomialOf, termsOf
 use Rattle.meaning.specs.File.{fileAnswer, ofPeriod, ofSet, ofFree, freeLabel, rateMode, rateRecords}
 use Rattle.meaning.specs.File.{rateFile, FileChosenFits}
 use Rattle.meaning.proofs.Tables.{NoneHolds}
 use Rattle.bridge.proofs.Searches.{settle-answered, map-answered, some-bind, some-mapOption, not-false}
-use Rattle.bridge.proofs.Searches.{T-and}
+use Rattle.bridge.proofs.Searches.{T-and, never-answered}
 use Rattle.bridge.proofs.Interpretation.{inRange-isField}
 use Rattle.bridge.proofs.Polynomials.{degree-length, monic-nonempty}
 use Rattle.bridge.proofs.Products.{power-nonempty, product-nonempty, Nonempties, factorsOf-named}
 use Rattle.bridge.proofs.Products.{factorAt-factorsOf, length-factorsOf, length-named}
 use Rattle.bridge.proofs.Fitting.{free-rated, free-answer, leastDegree-least}
 use Rattle.bridge.proofs.Accepted.{prime-accepted}
-use Rattle.route.proofs.framing.Records.{records-suited}
+use Rattle.bridge.proofs.Records.{records-suited}
 
 abbrev pub Whole : Rated FileFigures → Type 0
 Whole a = length (a .polynomial) ≡ suc (a .figures .degree)
-
-pub never : {A : Type 0} {B : Type 0} {n : ℕ} {a : A} → refused n ≡ answered a → B
-never {n = n} {a} e = absurd (let z : _≡_ {A = ℕ} 0 1 = cc in omega arith)
 
 -- THE POLYNOMIALS OF A FILE ARE NOT EMPTY
 polynomial-nonempty : (f : WrittenFactor) → 0 < length (polynomialOf f)
@@ -53,7 +55,7 @@ first-nonempty [] l = absurd (omega arith)
 first-nonempty (f ∷ fs) l = polynomial-nonempty f
 
 -- THE WAYS
-period-size :
+pub period-size :
     (p : ℕ) (ten eleven : Bool) (f : Polynomial) (ts : List ℕ) (answer work : ℕ)
     → 0 < length f
     → {b : Rated PowerFigures}
@@ -68,7 +70,7 @@ period-size p ten eleven f ts answer work l e =
     subst (λ b. length (b .polynomial) ≡ suc (b .figures .degree)) q
     (degree-length (power (prime p) f r) (power-nonempty I f r l))
 
-set-size :
+pub set-size :
     (p : ℕ) (ten eleven : Bool) (l : List (Polynomial × ℕ)) (ts : List ℕ) (answer work : ℕ)
     → Nonempties l
     → {b : Rated SetFigures}
@@ -95,7 +97,7 @@ fits-size : (p : ℕ) {ts : List ℕ} {L : ℕ} {g : Polynomial} → Fits (prime
 fits-size p {g = g} x = degree-length g (monic-nonempty (prime p) g (x .monic)) ∙ ap suc (x .ofDegree)
 
 -- the polynomial of the free way fits: under `one` it is the only one, under `some` it is the choice
-free-size :
+pub free-size :
     (pick : Choice) (p : ℕ) (ts : List ℕ) (answer work : ℕ)
     → ChosenFits pick p ts
     → {b : Rated FreeFigures}
@@ -134,7 +136,7 @@ free-size pick p ts answer work chosen {b} e =
         by-fitting (pick p ts) h l (chosen (h .0) (h .1 .0) (h .1 .1 .0) L l u) (λ _. refl)
 
 -- THE MODES
-period-map :
+pub period-map :
     (m : ℕ) (x : Result (Rated PowerFigures))
     → ofPeriod m x
     ≡ mapResult (λ b. fileAnswer (b .figures .degree) m (powers (b .figures .power ∷ [])) (b .polynomial)) x
@@ -142,7 +144,7 @@ unfolding ofPeriod mapResult
 period-map m (refused n) = refl
 period-map m (answered b) = refl
 
-set-map :
+pub set-map :
     (m : ℕ) (x : Result (Rated SetFigures))
     → ofSet m x
     ≡ mapResult (λ b. fileAnswer (b .figures .degree) m (powers (b .figures .powers)) (b .polynomial)) x
@@ -150,7 +152,7 @@ unfolding ofSet mapResult
 set-map m (refused n) = refl
 set-map m (answered b) = refl
 
-free-map :
+pub free-map :
     (m : ℕ) (x : Result (Rated FreeFigures))
     → ofFree m x
     ≡ mapResult (λ b. fileAnswer (b .figures .degree) m (freeLabel (b .figures .unique)) (b .polynomial)) x
@@ -169,7 +171,7 @@ whole-of :
 whole-of f x s h e = let (b, q, v) = map-answered f x (sym s ∙ e) in subst Whole v (h b q)
 
 -- the pairs of a file's factors and their upper powers
-pairs-nonempty : (fs : List WrittenFactor) → Nonempties (map (λ f. (polynomialOf f, f .upper)) fs)
+pub pairs-nonempty : (fs : List WrittenFactor) → Nonempties (map (λ f. (polynomialOf f, f .upper)) fs)
 pairs-nonempty [] i l = absurd (omega arith)
 pairs-nonempty (f ∷ fs) zero l = polynomial-nonempty f
 pairs-nonempty (f ∷ fs) (suc i) l = pairs-nonempty fs i (omega arith)
@@ -195,21 +197,21 @@ mode-size pick freeMode p fs ts answer work one chosen e =
     whole-of _ _ (free-map (length ts) _) (λ b q. free-size pick p ts answer work (chosen refl) q) e
 
 -- THE FILE
--- an accepted file in the period mode has a factor
-period-factor :
+-- an accepted file in the period mode has one factor
+pub exactly-one :
     (rs : List RouteRecord)
     → modeOf (byteOf 3 rs) ≡ some periodMode
     → modeUnsuited rs ≡ false
-    → 1 ≤ length (bodies 4 rs)
+    → length (bodies 4 rs) ≡ 1
 unfolding modeUnsuited suits
-period-factor rs m u =
+exactly-one rs m u =
     let s : modeUnsuited rs ≡ not (suits periodMode (bodies 4 rs)) = rw (m, modeUnsuited) in
     let t = not-false (suits periodMode (bodies 4 rs)) (sym s ∙ u) in
-    let one = T-and (eqb (length (bodies 4 rs)) 1) (eqb (factorUpper (getD (bodies 4 rs) 0 [])) 0) t .0 in
-    omega (arith, eqb→eq (length (bodies 4 rs)) 1 one)
+    eqb→eq (length (bodies 4 rs)) 1
+    (T-and (eqb (length (bodies 4 rs)) 1) (eqb (factorUpper (getD (bodies 4 rs) 0 [])) 0) t .0)
 
 -- what the records of a rated file hold
-known-mode :
+pub known-mode :
     (pick : Choice) (rs : List RouteRecord) (answer work : ℕ) {m : Mode}
     → modeOf (byteOf 3 rs) ≡ some m
     → rateRecords pick rs answer work
@@ -217,21 +219,21 @@ known-mode :
 unfolding rateRecords
 known-mode pick rs answer work e = rw (e, rateRecords)
 
-unknown-mode :
+pub unknown-mode :
     (pick : Choice) (rs : List RouteRecord) (answer work : ℕ)
     → modeOf (byteOf 3 rs) ≡ none
     → rateRecords pick rs answer work ≡ refused 5
 unfolding rateRecords
 unknown-mode pick rs answer work e = rw (e, rateRecords)
 
-accepted-file :
+pub accepted-file :
     (pick : Choice) (file : List ℕ) (answer work : ℕ) {rs : List RouteRecord}
     → records file ≡ answered rs
     → rateFile pick file answer work ≡ rateRecords pick rs answer work
 unfolding rateFile
 accepted-file pick file answer work e = rw (e, rateFile)
 
-refused-file :
+pub refused-file :
     (pick : Choice) (file : List ℕ) (answer work : ℕ) {n : ℕ}
     → records file ≡ refused n
     → rateFile pick file answer work ≡ refused n
@@ -253,15 +255,15 @@ file-size pick file answer work chosen {a} e = by-records (records file) refl
         → modeOf (byteOf 3 rs) ≡ o
         → Whole a
     by-mode rs r none u =
-        never (sym (accepted-file pick file answer work r ∙ unknown-mode pick rs answer work u) ∙ e)
+        never-answered (sym (accepted-file pick file answer work r ∙ unknown-mode pick rs answer work u) ∙ e)
     by-mode rs r (some m) u =
         mode-size pick m (byteOf 2 rs) (map fileFactor (bodies 4 rs)) (termsOf rs) answer work
         (λ s.
-        let one = period-factor rs (u ∙ ap some s) (records-suited file r) in
+        let one = exactly-one rs (u ∙ ap some s) (records-suited file r) in
         omega (arith, one, length-map (bodies 4 rs) fileFactor))
         (λ s. chosen rs r (u ∙ ap some s))
         (sym (accepted-file pick file answer work r ∙ known-mode pick rs answer work u) ∙ e)
 
     by-records : (x : Result (List RouteRecord)) → records file ≡ x → Whole a
-    by-records (refused n) r = never (sym (refused-file pick file answer work r) ∙ e)
+    by-records (refused n) r = never-answered (sym (refused-file pick file answer work r) ∙ e)
     by-records (answered rs) r = by-mode rs r (modeOf (byteOf 3 rs)) refl

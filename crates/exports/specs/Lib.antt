@@ -1,6 +1,0 @@
-pub mod Status
-pub mod questions
-pub mod one_factor
-pub mod set
-pub mod free
-pub mod continuation
