@@ -23,8 +23,9 @@ use Rattle.meaning.specs.Portion.{acceptedFactors, factorTable, factorsOf, setP
 use Rattle.meaning.specs.Portion.{ratePortion}
 use Rattle.meaning.specs.Answers.{toldPower, setFiguresTold}
 use Rattle.meaning.specs.Calls.{LentAfter}
-use Rattle.theorems.specs.Promises.{GF, Returns, SetReturns, PortionReturns, PeriodReturns, FreeReturns}
-use Rattle.theorems.specs.Promises.{CutAnywherePromise}
+use Rattle.theorems.specs.Ratings.{GF, Returns}
+use Rattle.theorems.specs.CutAnywhere.{SetReturns, PortionReturns, PeriodReturns, FreeReturns}
+use Rattle.theorems.specs.CutAnywhere.{CutAnywherePromise}
 use Rattle.bridge.proofs.Interpretation.{IsField, inRange-isField, characteristic-two}
 use Rattle.bridge.proofs.Polynomials.{monic-nonempty}
 use Rattle.bridge.proofs.Products.{MonicFactors, monics-nonempty, factorsOf-named, length-factorsOf}

@@ -31,7 +31,8 @@ use Rattle.meaning.proofs.Stretches.{oneThenZeros-inField, oneThenZeros-annihil
 use Rattle.meaning.proofs.Stretches.{oneThenZeros-set-0, oneThenZeros-set-1}
 use Rattle.meaning.proofs.Stretches.{three, three-least, three-first, three-second, three-free, picked}
 use Rattle.bridge.proofs.Minimal.{minimal-unique}
-use Rattle.theorems.specs.Promises.{GF, CutAnywhere, SetReturns, FreeReturns}
+use Rattle.theorems.specs.Ratings.{GF}
+use Rattle.theorems.specs.CutAnywhere.{CutAnywhere, SetReturns, FreeReturns}
 use Rattle.theorems.proofs.Words.{field-of}
 use Rattle.theorems.proofs.Instance.{degree-in, ones-instance, ones-polynomial}
 use Rattle.theorems.proofs.Instance.{short-instance, short-polynomial}

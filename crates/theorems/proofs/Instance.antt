@@ -22,7 +22,7 @@ use Rattle.meaning.proofs.Stretches.{answer, work, lent, after-x²+1, after-x+1
 use Rattle.meaning.proofs.Stretches.{accepted-3, plain, alternating, alternating-inField, alternating-short}
 use Rattle.meaning.proofs.Stretches.{alternating-annihilated-2, alternating-annihilated-3}
 use Rattle.meaning.proofs.Stretches.{ones, ones-inField, ones-annihilated, ones-set}
-use Rattle.theorems.specs.Promises.{CutAnywhere}
+use Rattle.theorems.specs.CutAnywhere.{CutAnywhere}
 use Rattle.theorems.proofs.CutAnywhere.{cut-anywhere}
 pub use Rattle.meaning.proofs.Stretches.{alternating-set, alternating-portion, alternating-period}
 pub use Rattle.meaning.proofs.Stretches.{alternating-free}

@@ -1,6 +1,6 @@
 -- Demand 2: what the calls of the four ways return is right, from their contracts alone.
 -- Assumes nothing.
-use Prim.Native.Nat.{ℕ, suc, _*_, _^_, _≤_, _<_}
+use Prim.Native.Nat.{ℕ, zero, suc, _*_, _^_, _≤_, _<_}
 use native.Mathlib.Nat.{mul-le-mul-right, le-trans, add-zero}
 use native.Mathlib.Omega.{arith}
 use mathlib.Core.Path.{_≡_, refl, sym, ap, subst, _∙_}
@@ -8,7 +8,7 @@ use mathlib.Core.Logic.{_⊎_, inl, inr}
 use mathlib.Core.Bool.{Bool, true, false, not}
 use mathlib.Core.List.{List, [], _∷_}
 use mathlib.Core.Option.{some, Option·some-injective}
-use lib.ListN.{length, take}
+use lib.ListN.{length, getD, take}
 use lib.Seq.{take-at}
 use lib.Dec.{T, T-not}
 use Rattle.meaning.specs.declared.PowerRating.{PowerRating}
@@ -31,21 +31,24 @@ use Rattle.meaning.specs.Free.{rateFree, IsLeastDegree}
 use Rattle.meaning.specs.Answers.{SetTold, toldPower, toldSet, setFiguresTold, setPadded}
 use Rattle.meaning.specs.Calls.{PeriodCall, PortionCall, SetCall}
 use Rattle.meaning.proofs.Tables.{NoneHolds}
-use Rattle.theorems.specs.Promises.{GF, listIn, Returns, BoundTold, PeriodPromise, PeriodAnswered}
-use Rattle.theorems.specs.Promises.{PortionPromise, PortionAnswered, SetPromise, SetAnswered}
-use Rattle.theorems.specs.Promises.{FreePromise, FreeAnswered, NoneBegins}
+use Rattle.theorems.specs.Ratings.{GF, listIn, Returns, BoundTold, PeriodPromise, PeriodAnswered}
+use Rattle.theorems.specs.Ratings.{PortionPromise, PortionAnswered, SetPromise, SetAnswered}
+use Rattle.theorems.specs.Ratings.{FreePromise, FreeAnswered, NoneBegins}
 use Rattle.bridge.proofs.Searches.{settle-answered, settle-before, map-answered, map-refused, some-bind}
 use Rattle.bridge.proofs.Searches.{some-mapOption, true-T, not-false, isNone-none}
 use Rattle.bridge.proofs.Interpretation.{IsField, prime-pos, inRange-isField, inRange-prime}
 use Rattle.bridge.proofs.Polynomials.{monic-nonempty, getD-below}
+use Rattle.bridge.proofs.Minimal.{minimal-degree}
+use Rattle.bridge.proofs.Products.{powerAt, length-named, degree-power, degree-product, product-monic}
 use Rattle.bridge.proofs.Products.{accepted-monic, factorsOf-named, monics-nonempty, product-single}
 use Rattle.bridge.proofs.Irreducibles.{Factors, accepted-degree, accepted-irreducible, accepted-factors}
 use Rattle.bridge.proofs.Irreducibles.{factors-monics, single-factor}
 use Rattle.bridge.proofs.Portions.{setPowers-minimal, annihilated-agrees, nothing-continues, portion-least}
-use Rattle.bridge.proofs.Portions.{portion-minimal, onward-continues, leastAt-upper}
+use Rattle.bridge.proofs.Portions.{portion-minimal, onward-continues, onward-unique, leastAt-upper}
+use Rattle.bridge.proofs.Portions.{setPowers-places}
 use Rattle.bridge.proofs.Periods.{periodPower-least, periodPower-minimal, periodPower-none, periodPower-size}
 use Rattle.bridge.proofs.Fitting.{leastDegree-least, fits-only, isUnique-le, le-isUnique, polynomial-one}
-use Rattle.bridge.proofs.Fitting.{polynomial-some}
+use Rattle.bridge.proofs.Fitting.{polynomial-some, least-bound}
 use Rattle.bridge.proofs.RepeatBounds.{prime-repeatBound-bits, repeatBound-meaning}
 use Rattle.bridge.proofs.Accepted.{count-accepted, terms-accepted, prime-accepted, enough-accepted}
 use Rattle.bridge.proofs.Accepted.{total-accepted, rating-of, rating-polynomial, rated-power, one-passes}
@@ -122,6 +125,16 @@ bound-told p f x r b s inField min few e =
           inField (min .annihilates);
     }
 
+-- the degree of a power
+power-small :
+    (p : ℕ) (f : Polynomial)
+    → OneFactor p f
+    → (r : ℕ)
+    → r * degree f ≤ 4096
+    → degree (power (GF p) f r) ≤ 4096
+power-small p f x r few =
+    subst (λ d. d ≤ 4096) (sym (degree-power (x .isField) f r (monic-nonempty (GF p) f (x .monic)))) few
+
 -- what an answer with a power returns
 power-returns :
     (p : ℕ) (f : Polynomial) (r b : ℕ) (s : Sequence) (result : Result (Rated PowerFigures))
@@ -179,6 +192,7 @@ period-rated p f ts answer work r answer′ work′ c a e =
     (c .lent .answerBytes) in
     subst (λ a. PeriodAnswered p f ts a answer′) (ap (λ b. b .figures) t ∙ v)
     (record {
+      small = power-small p f x n (le-trans few (count .1));
       least = periodPower-least (GF p) f ts (count .0) y;
       minimal = subst (λ h. MinimalPolynomial (GF p) h (periodic ts)) (sym (returns .coefficients)) min;
       returns = returns;
@@ -187,7 +201,7 @@ period-rated p f ts answer work r answer′ work′ c a e =
           (le-trans few (count .1)) z;
     })
 
-period-none :
+pub period-none :
     (p : ℕ) (f : Polynomial) (ts : List ℕ) (answer work : ℕ)
     → ratePeriod p f ts answer work ≡ refused 17
     → NoPower (GF p) f ts
@@ -248,6 +262,13 @@ portion-rated p f v ts answer work r answer′ work′ c a e =
     power-returns p f n bound s result answer answer′ min (q ∙ ap answered (sym t)) (c .lent .answerBytes) in
     subst (λ a. PortionAnswered p f v ts a answer′) (ap (λ b. b .figures) t ∙ u)
     (record {
+      small = power-small p f x n few;
+      continuation =
+          record {
+            continues = onward-continues (x .isField) one monics ts els enough;
+            only = onward-unique (x .isField) one monics ts els enough;
+          };
+      atMost = upper;
       agrees =
           annihilated-agrees (x .isField) one monics ts els enough
           (not-false (annihilatesKnown (GF p) (product (GF p) one) ts) (h .1 .1 .1 .1 .1 .1 .1 .1 .1 .0));
@@ -282,6 +303,16 @@ portion-promise p f v ts answer work r answer′ work′ c =
           (map-refused (λ x. x .figures) (ratePortion p f v ts (length answer) (length work))
           (sym (c .rating) ∙ e));
     }
+
+-- the upper power of a factor
+powerAt-named :
+    (fs : List Polynomial) (vs : List ℕ) (i : ℕ) → i < length fs → powerAt (named fs vs) i ≡ getD vs i 0
+unfolding named
+powerAt-named [] vs i k = absurd (omega arith)
+powerAt-named (f ∷ fs) [] zero k = refl
+powerAt-named (f ∷ fs) [] (suc i) k = powerAt-named fs [] i (omega arith)
+powerAt-named (f ∷ fs) (v ∷ vs) zero k = refl
+powerAt-named (f ∷ fs) (v ∷ vs) (suc i) k = powerAt-named fs vs i (omega arith)
 
 -- THE SET WAY
 module _ (p : ℕ) (fs : List Polynomial) (vs ts answer work : List ℕ) (r : SetRating) (answer′ work′ : List ℕ)
@@ -321,6 +352,9 @@ module _ (p : ℕ) (fs : List Polynomial) (vs ts answer work : List ℕ) (r : Se
         let els = terms-accepted p ts (h .1 .1 .0) in
         let enough = enough-accepted (totalDegree l) ts (h .1 .1 .1 .1 .1 .1 .1 .1 .1 .0) in
         let meaning = setPowers-minimal I l factors ts els enough y in
+        let monics = factors-monics I l factors in
+        let nonempties = monics-nonempty (GF p) l monics in
+        let one = onward-continues I l monics ts els enough in
         let g = product (GF p) (named (factorsOf l) rs) in
         let rated : result ≡ answered (setRating (GF p) l rs) = q ∙ ap answered (sym t) in
         let returns =
@@ -334,8 +368,19 @@ module _ (p : ℕ) (fs : List Polynomial) (vs ts answer work : List ℕ) (r : Se
           powers = rs;
           count-told = refl;
           places = c .powers ∙ ap (λ x. setPadded (figuresOf x)) rated;
+          small =
+              le-trans
+              (minimal-degree I g (onward (GF p) l ts) (meaning .minimal) (product (GF p) l)
+              (product-monic I l monics) (one .annihilated))
+              (subst (λ d. d ≤ 4096) (sym (degree-product I l nonempties))
+              (total-accepted l (h .1 .1 .1 .1 .1 .1 .1 .1 .0)));
+          continuation = record { continues = one; only = onward-unique I l monics ts els enough };
+          atMost =
+              λ i k.
+              let found = setPowers-places I l nonempties ts y .1 i (omega (arith, length-named fs vs)) in
+              subst (λ v. getD rs i 0 ≤ v) (powerAt-named fs vs i k) (leastAt-upper I l nonempties ts i found);
           agrees =
-              annihilated-agrees I l (factors-monics I l factors) ts els enough
+              annihilated-agrees I l monics ts els enough
               (not-false (annihilatesKnown (GF p) (product (GF p) l) ts)
               (h .1 .1 .1 .1 .1 .1 .1 .1 .1 .1 .1 .0));
           meaning = meaning;
@@ -347,7 +392,7 @@ module _ (p : ℕ) (fs : List Polynomial) (vs ts answer work : List ℕ) (r : Se
           returns = returns;
         })
 
-set-none :
+pub set-none :
     (p : ℕ) (fs : List Polynomial) (vs ts : List ℕ) (answer work : ℕ)
     → rateSet p fs vs ts answer work ≡ refused 17
     → NoneBegins p (product (GF p) (named fs vs)) ts
@@ -406,6 +451,7 @@ free-promise pick p ts answer work r answer′ work′ c a e =
     (c .lent .answerBytes ∙ ap (λ x. answerAfter x answer) (q ∙ ap answered (sym t))) .coefficients) in
     subst (λ a. FreeAnswered p ts a answer′) (ap (λ b. b .figures) t ∙ u)
     (record {
+      small = le-trans (least-bound I least) (count-accepted (length ts) (h .1 .0) .1);
       least = least;
       fits = subst (Fits (GF p) ts L) (sym back) fits;
       word = (isUnique-le ts L, le-isUnique ts L);

@@ -14,8 +14,8 @@ use Rattle.meaning.specs.Conditions.{startUnlikeDegree}
 use Rattle.meaning.specs.Continuation.{continueTable, filled, continueSequence}
 use Rattle.meaning.specs.Irreducibility.{irreducibleTable, askIrreducible}
 use Rattle.meaning.specs.Calls.{bufferAfter}
-use Rattle.theorems.specs.Promises.{GF, PrimeWords, IrreducibleWords, PrimePromise, IrreduciblePromise}
-use Rattle.theorems.specs.Promises.{ContinuePromise}
+use Rattle.theorems.specs.Ratings.{GF, PrimeWords, IrreducibleWords, PrimePromise, IrreduciblePromise}
+use Rattle.theorems.specs.Ratings.{ContinuePromise}
 use Rattle.bridge.proofs.Searches.{not-false, settle-answered, map-answered, map-refused}
 use Rattle.bridge.proofs.Interpretation.{IsField, prime-isField, inRange-isField, inRange-prime}
 use Rattle.bridge.proofs.Interpretation.{prime-inRange, isPrime-prime, isPrime-meaning, meaning-isPrime}

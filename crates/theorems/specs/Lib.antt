@@ -1,1 +1,6 @@
+pub mod Ratings
+pub mod CutAnywhere
+pub mod Answering
+pub mod Files
+pub mod OtherLanguages
 pub mod Promises

@@ -1,309 +1,50 @@
--- What is promised of the ratings, as statements about the contracts of the calls. This file holds statements
--- alone: each is a named type with all of its hypotheses, and `promises` of proofs/Promises.antt proves the
--- record of them all.
+-- What is promised, as statements about the contracts of the calls, and nothing else: each is a named type with
+-- all of its hypotheses, and `promises` of proofs/Promises.antt proves the record of them all.
 --
--- How to read the signs:
+--   Answering        == demand 1: every call gives an answer or one of its numbered refusals, on every input
+--   Ratings          == demand 2: the polynomial is the minimal polynomial; the repeat bound; the two questions
+--   CutAnywhere      == demand 3: the same polynomial wherever the stretch is cut
+--   Files            == route files, the reader, the program
+--   OtherLanguages   == the exported calls
+--
+-- How to read the signs in these files:
 --   (a : A) → B      == for every a of A, B holds; A → B: where A holds, B does
 --   (a : A) × B      == there is an a of A, and B holds of it
 --   A × B, A ⊎ B     == both hold; one of them does. A ↔ B: each follows from the other
---   A → ⊥            == A never holds
+--   A → ⊥, a ≢ b     == A never holds; a is not b
 --   T b              == the test b passes
 --   x .name          == the part of x that has this name
---   answer, answer′  == lent bytes as a call begins, and as it returns; so with work and buffer
+--   answer, answer′  == lent bytes as a call begins, and as it returns; so with work, buffer and lent numbers
 --   f ∷ []           == the list of f alone; (f, v): f with its upper power v
 --
 -- p is the prime and `GF p` its field; f a factor, fs and vs the factors and their upper powers, `named fs
 -- vs` each with its own, and `product` of that the product of the factors to their upper powers; ts the terms
 -- given; s an endless sequence; g a polynomial; r what a call returns, and `told…` of it what it tells.
---
---   Demand 2     == PeriodPromise, PortionPromise, SetPromise, FreePromise, ContinuePromise,
---                   IrreduciblePromise, PrimePromise: one for each call, about its contract alone
---   Demand 3     == CutAnywherePromise
---   Repeat bound == RepeatPromise, and `bound` of the period and the portion call
---   Promises     == all of them, and that the tests for primes and irreducible polynomials are the words of
---                   the request
-use Prim.Native.Nat.{ℕ, suc, _*_, _-_, _^_, _≤_, _<_}
-use mathlib.Core.Path.{_≡_}
-use mathlib.Core.Logic.{_⊎_, _↔_}
-use mathlib.Core.Bool.{Bool, true, false}
-use mathlib.Core.List.{List, [], _∷_, _++_}
-use mathlib.Core.Option.{some}
-use lib.ListN.{length, take}
-use lib.Dec.{T}
-use Rattle.meaning.specs.declared.PowerRating.{PowerRating}
-use Rattle.meaning.specs.declared.SetRating.{SetRating}
-use Rattle.meaning.specs.declared.FreeRating.{FreeRating}
-use Rattle.meaning.specs.declared.Filling.{Filling}
-use Rattle.meaning.specs.declared.Irreducibility.{Irreducibility}
-use Rattle.meaning.specs.Search.{holdsForSome}
-use Rattle.meaning.specs.Field.{Field, prime, PrimeNumber, isPrime}
-use Rattle.meaning.specs.Polynomial.{Polynomial, degree, isMonicOver, power, product, irreducible}
-use Rattle.meaning.specs.Polynomial.{NotAProduct}
-use Rattle.meaning.specs.Sequence.{Sequence, InField, periodic, cut, Period, LeastPeriod, Continues}
-use Rattle.meaning.specs.Sequence.{AnnihilatesEndless, MinimalPolynomial, LeastPower}
-use Rattle.meaning.specs.Result.{Result, refused, answered}
-use Rattle.meaning.specs.Conditions.{named, totalDegree, acceptedLent}
-use Rattle.meaning.specs.Power.{PowerFigures, isX, repeatBound, BoundMeaning}
-use Rattle.meaning.specs.Period.{NoPower}
-use Rattle.meaning.specs.Portion.{acceptedFactors, onward, SetMeaning, PortionMeaning, Agrees}
-use Rattle.meaning.specs.Free.{Choice, FreeFigures, IsLeastDegree, Fits}
-use Rattle.meaning.specs.Answers.{SetTold, toldPower, toldSet, toldFree, toldFilling, toldIrreducible, padded}
-use Rattle.meaning.specs.Calls.{PrimeCall, IrreducibleCall, PeriodCall, PortionCall, SetCall, FreeCall}
-use Rattle.meaning.specs.Calls.{ContinueCall}
-
-abbrev pub GF : ℕ → Field
-GF p = prime p
-
--- THE POLYNOMIAL THAT A CALL RETURNS
-
--- The list in the answer bytes: as many coefficients as the degree that the call tells, and one more.
-abbrev pub listIn : List ℕ → ℕ → Polynomial
-listIn answer′ told = take (suc told) answer′
-
--- The call returns g: it tells the degree of g, and the list in the answer bytes is g.
-pub record Returns (g : Polynomial) (told : ℕ) (answer′ : List ℕ) : Type 0 where
-  pub degree-told : told ≡ degree g
-  pub coefficients : listIn answer′ told ≡ g
-
--- DEMAND 2: THE POLYNOMIAL IS THE MINIMAL POLYNOMIAL
-
--- The bound b that is told with the power r of f, for the sequence s that f^r annihilates: it is that of the
--- request, and has 64 bits; where f is not x, or the power is 0, s has a least period, which does not exceed
--- b.
-pub record BoundTold (p : ℕ) (f : Polynomial) (r b : ℕ) (s : Sequence) : Type 0 where
-  pub value : repeatBound (GF p) f r ≡ some b
-  pub bits64 : b < 2 ^ 64
-  pub meaning : (isX f ≡ false) ⊎ (r ≡ 0) → BoundMeaning s b
-
--- The period way: the power is the least that annihilates the endless repetition, and the polynomial returned
--- is the minimal polynomial of it.
-pub record PeriodAnswered (p : ℕ) (f : Polynomial) (ts : List ℕ) (a : PowerFigures) (answer′ : List ℕ)
-    : Type 0 where
-  pub least : LeastPower (GF p) f (periodic ts) (a .power)
-  pub minimal : MinimalPolynomial (GF p) (listIn answer′ (a .degree)) (periodic ts)
-  pub returns : Returns (power (GF p) f (a .power)) (a .degree) answer′
-  pub bound : BoundTold p f (a .power) (a .bound) (periodic ts)
-
--- 17 means that no power of f, however large, annihilates it.
-pub record PeriodRight (p : ℕ) (f : Polynomial) (ts : List ℕ) (told : Result PowerFigures) (answer′ : List ℕ)
-    : Type 0 where
-  pub rated : (a : PowerFigures) → told ≡ answered a → PeriodAnswered p f ts a answer′
-  pub seventeen : told ≡ refused 17 → NoPower (GF p) f ts
-
-abbrev pub PeriodPromise : Type 0
-PeriodPromise =
-    (p : ℕ) (f : Polynomial) (ts answer work : List ℕ) (r : PowerRating) (answer′ work′ : List ℕ)
-    → PeriodCall p f ts answer work r answer′ work′
-    → PeriodRight p f ts (toldPower r) answer′
-
--- No sequence that g annihilates begins with the terms.
-abbrev pub NoneBegins : ℕ → Polynomial → List ℕ → Type 0
-NoneBegins p g ts = (s : Sequence) → AnnihilatesEndless (GF p) g s → cut s 0 (length ts) ≡ ts → ⊥
-
--- The portion way: the first terms have one continuation that f^v annihilates (`onward`), all the terms agree
--- with it, the power is the least that annihilates it, and the polynomial returned is its minimal polynomial.
--- The factor x is allowed.
-pub record PortionAnswered (p : ℕ) (f : Polynomial) (v : ℕ) (ts : List ℕ) (a : PowerFigures)
-    (answer′ : List ℕ) : Type 0 where
-  pub agrees : Agrees (GF p) ((f, v) ∷ []) ts
-  pub least : PortionMeaning (GF p) f v ts (a .power)
-  pub minimal : MinimalPolynomial (GF p) (listIn answer′ (a .degree)) (onward (GF p) ((f, v) ∷ []) ts)
-  pub returns : Returns (power (GF p) f (a .power)) (a .degree) answer′
-  pub bound : BoundTold p f (a .power) (a .bound) (onward (GF p) ((f, v) ∷ []) ts)
-
--- 17 means that the terms have no continuation that f^v annihilates.
-pub record PortionRight (p : ℕ) (f : Polynomial) (v : ℕ) (ts : List ℕ) (told : Result PowerFigures)
-    (answer′ : List ℕ) : Type 0 where
-  pub rated : (a : PowerFigures) → told ≡ answered a → PortionAnswered p f v ts a answer′
-  pub seventeen : told ≡ refused 17 → NoneBegins p (power (GF p) f v) ts
-
-abbrev pub PortionPromise : Type 0
-PortionPromise =
-    (p : ℕ) (f : Polynomial) (v : ℕ) (ts answer work : List ℕ) (r : PowerRating) (answer′ work′ : List ℕ)
-    → PortionCall p f v ts answer work r answer′ work′
-    → PortionRight p f v ts (toldPower r) answer′
-
--- The set way: the same with several factors. Their powers stand in the eight places, and the polynomial
--- returned is the product of the factors to these powers.
-pub record SetAnswered (p : ℕ) (fs : List Polynomial) (vs ts : List ℕ) (a : SetTold) (eight answer′ : List ℕ)
-    : Type 0 where
-  pub powers : List ℕ
-  pub count-told : a .count ≡ length powers
-  pub places : eight ≡ padded powers
-  pub agrees : Agrees (GF p) (named fs vs) ts
-  pub meaning : SetMeaning (GF p) (named fs vs) ts powers
-  pub minimal : MinimalPolynomial (GF p) (listIn answer′ (a .degree)) (onward (GF p) (named fs vs) ts)
-  pub returns : Returns (product (GF p) (named fs powers)) (a .degree) answer′
-
-pub record SetRight (p : ℕ) (fs : List Polynomial) (vs ts : List ℕ) (told : Result SetTold)
-    (eight answer′ : List ℕ) : Type 0 where
-  pub rated : (a : SetTold) → told ≡ answered a → SetAnswered p fs vs ts a eight answer′
-  pub seventeen : told ≡ refused 17 → NoneBegins p (product (GF p) (named fs vs)) ts
-
-abbrev pub SetPromise : Type 0
-SetPromise =
-    (p : ℕ) (fs : List Polynomial) (vs ts answer work : List ℕ) (r : SetRating) (answer′ work′ : List ℕ)
-    → SetCall p fs vs ts answer work r answer′ work′
-    → SetRight p fs vs ts (toldSet (r .outcome)) (r .powers) answer′
-
--- The free way: the degree is the least of a polynomial that annihilates the terms, and the polynomial
--- returned is one of that degree; under the word `one` (`unique`), which stands where twice the degree is at
--- most the number of terms, it is the only one.
-pub record FreeAnswered (p : ℕ) (ts : List ℕ) (a : FreeFigures) (answer′ : List ℕ) : Type 0 where
-  pub least : IsLeastDegree (GF p) ts (a .degree)
-  pub fits : Fits (GF p) ts (a .degree) (listIn answer′ (a .degree))
-  pub word : (a .unique ≡ true) ↔ (2 * a .degree ≤ length ts)
-  pub only : a .unique ≡ true
-      → (h : Polynomial)
-      → Fits (GF p) ts (a .degree) h
-      → h ≡ listIn answer′ (a .degree)
-
-abbrev pub FreePromise : Type 0
-FreePromise =
-    (pick : Choice) (p : ℕ) (ts answer work : List ℕ) (r : FreeRating) (answer′ work′ : List ℕ)
-    → FreeCall pick p ts answer work r answer′ work′
-    → (a : FreeFigures)
-    → toldFree r ≡ answered a
-    → FreeAnswered p ts a answer′
-
--- The continuation: from the place on the buffer holds the sequence that begins with the starting terms and
--- that g annihilates; it is the only one. A refusal leaves the buffer as it was.
-pub record ContinueFilled (p : ℕ) (g : Polynomial) (start buffer : List ℕ) (place : ℕ) (buffer′ : List ℕ)
-    : Type 0 where
-  pub sequence : Sequence
-  pub continues : Continues (GF p) g start sequence
-  pub only : (s : Sequence) → Continues (GF p) g start s → (k : ℕ) → s k ≡ sequence k
-  pub bytes : buffer′ ≡ take place buffer ++ cut sequence 0 (length buffer - place)
-
-pub record ContinueRight (p : ℕ) (g : Polynomial) (start buffer : List ℕ) (place : ℕ)
-    (told : Result (Unit {0})) (buffer′ : List ℕ) : Type 0 where
-  pub filled : told ≡ answered tt → ContinueFilled p g start buffer place buffer′
-  pub untouched : (n : ℕ) → told ≡ refused n → buffer′ ≡ buffer
-
-abbrev pub ContinuePromise : Type 0
-ContinuePromise =
-    (p : ℕ) (g : Polynomial) (start buffer : List ℕ) (place : ℕ) (r : Filling) (buffer′ : List ℕ)
-    → ContinueCall p g start buffer place r buffer′
-    → ContinueRight p g start buffer place (toldFilling r) buffer′
-
--- The two questions
-abbrev pub IrreduciblePromise : Type 0
-IrreduciblePromise =
-    (p : ℕ) (f : Polynomial) (r : Irreducibility)
-    → IrreducibleCall p f r
-    → (said : Bool)
-    → toldIrreducible r ≡ answered said
-    → T said ↔ NotAProduct (GF p) f
-
-abbrev pub PrimePromise : Type 0
-PrimePromise = (n : ℕ) (r : Bool) → PrimeCall n r → T r ↔ (PrimeNumber n × (n ≤ 251))
-
--- DEMAND 3: THE SAME POLYNOMIAL WHEREVER THE STRETCH IS CUT, HOWEVER LONG IT IS, AND WHICHEVER WAY RATES IT
-
--- Whatever meets the contract of the call on these terms, with accepted lent bytes, rates them and returns g.
-abbrev pub SetReturns : ℕ → List Polynomial → List ℕ → List ℕ → Polynomial → Type 0
-SetReturns p fs vs ts g =
-    (answer work : List ℕ)
-    → T (acceptedLent (length answer) (length work))
-    → (r : SetRating) (answer′ work′ : List ℕ)
-    → SetCall p fs vs ts answer work r answer′ work′
-    → (a : SetTold) × (toldSet (r .outcome) ≡ answered a) × Returns g (a .degree) answer′
-
-abbrev pub PortionReturns : ℕ → Polynomial → ℕ → List ℕ → Polynomial → Type 0
-PortionReturns p f v ts g =
-    (answer work : List ℕ)
-    → T (acceptedLent (length answer) (length work))
-    → (r : PowerRating) (answer′ work′ : List ℕ)
-    → PortionCall p f v ts answer work r answer′ work′
-    → (a : PowerFigures) × (toldPower r ≡ answered a) × Returns g (a .degree) answer′
-
-abbrev pub PeriodReturns : ℕ → Polynomial → List ℕ → Polynomial → Type 0
-PeriodReturns p f ts g =
-    (answer work : List ℕ)
-    → T (acceptedLent (length answer) (length work))
-    → (r : PowerRating) (answer′ work′ : List ℕ)
-    → PeriodCall p f ts answer work r answer′ work′
-    → (a : PowerFigures) × (toldPower r ≡ answered a) × Returns g (a .degree) answer′
-
--- the free way, whatever the program would choose among several polynomials
-abbrev pub FreeReturns : ℕ → List ℕ → Polynomial → Type 0
-FreeReturns p ts g =
-    (answer work : List ℕ)
-    → T (acceptedLent (length answer) (length work))
-    → (pick : Choice) (r : FreeRating) (answer′ work′ : List ℕ)
-    → FreeCall pick p ts answer work r answer′ work′
-    → (a : FreeFigures) × (toldFree r ≡ answered a) × Returns g (a .degree) answer′
-
--- One polynomial g, the minimal polynomial of s from its first term: the set way returns it on every stretch
--- of m terms from place k, m from the total degree to 4,096; with one factor the portion way does on the same
--- stretches, and the period way on every period of n terms, n up to 4,096; the free way on every stretch of
--- at least twice its degree, of 1 to 4,096 terms.
-pub record CutAnywhere (p : ℕ) (fs : List Polynomial) (vs : List ℕ) (s : Sequence) : Type 0 where
-  pub g : Polynomial
-  pub minimal : MinimalPolynomial (GF p) g s
-  pub set-way : (k m : ℕ) → totalDegree (named fs vs) ≤ m → m ≤ 4096 → SetReturns p fs vs (cut s k m) g
-  pub portion-way : (f : Polynomial) (v : ℕ)
-      → named fs vs ≡ (f, v) ∷ []
-      → (k m : ℕ)
-      → totalDegree (named fs vs) ≤ m
-      → m ≤ 4096
-      → PortionReturns p f v (cut s k m) g
-  pub period-way : (f : Polynomial)
-      → fs ≡ f ∷ []
-      → (k n : ℕ)
-      → Period s n
-      → n ≤ 4096
-      → PeriodReturns p f (cut s k n) g
-  pub free-way : (k m : ℕ) → 2 * degree g ≤ m → 1 ≤ m → m ≤ 4096 → FreeReturns p (cut s k m) g
-
--- So it is for every sequence of the field that the product of accepted factors annihilates, none of them x.
-abbrev pub CutAnywherePromise : Type 0
-CutAnywherePromise =
-    (p : ℕ) (fs : List Polynomial) (vs : List ℕ) (s : Sequence)
-    → T (acceptedFactors p fs vs)
-    → holdsForSome isX fs ≡ false
-    → InField (GF p) s
-    → AnnihilatesEndless (GF p) (product (GF p) (named fs vs)) s
-    → CutAnywhere p fs vs s
-
--- THE REPEAT BOUND
-
--- There is always a bound; and where f is not x, or the power is 0, every sequence that f^r annihilates has a
--- least period, which does not exceed it.
-pub record RepeatBounded (p : ℕ) (f : Polynomial) (r : ℕ) : Type 0 where
-  pub bound : ℕ
-  pub found : repeatBound (GF p) f r ≡ some bound
-  pub bounds : (isX f ≡ false) ⊎ (r ≡ 0)
-      → (s : Sequence)
-      → InField (GF p) s
-      → AnnihilatesEndless (GF p) (power (GF p) f r) s
-      → (n : ℕ) × LeastPeriod s n × (n ≤ bound)
-
-abbrev pub RepeatPromise : Type 0
-RepeatPromise =
-    (p : ℕ) (f : Polynomial) (r : ℕ)
-    → T (isPrime p)
-    → T (isMonicOver (GF p) f)
-    → 1 ≤ degree f
-    → T (irreducible (GF p) f)
-    → RepeatBounded p f r
-
--- THE WORDS OF THE REQUEST
-
-abbrev pub PrimeWords : Type 0
-PrimeWords = (n : ℕ) → T (isPrime n) ↔ PrimeNumber n
-
-abbrev pub IrreducibleWords : Type 0
-IrreducibleWords =
-    (p : ℕ) (f : Polynomial)
-    → T (isPrime p)
-    → T (isMonicOver (GF p) f)
-    → 1 ≤ degree f
-    → T (irreducible (GF p) f) ↔ NotAProduct (GF p) f
-
--- ALL PROMISES
+use Rattle.theorems.specs.Answering.{PeriodAnswers, PortionAnswers, SetAnswers, FreeAnswers}
+use Rattle.theorems.specs.Answering.{ContinueAnswers, IrreducibleAnswers, PrimeAnswers, FileAnswers}
+use Rattle.theorems.specs.Answering.{RecordAnswers, ProgramAnswers, NeverZero}
+use Rattle.theorems.specs.Ratings.{PeriodPromise, PortionPromise, SetPromise, FreePromise}
+use Rattle.theorems.specs.Ratings.{ContinuePromise, IrreduciblePromise, PrimePromise, RepeatPromise}
+use Rattle.theorems.specs.Ratings.{PrimeWords, IrreducibleWords}
+use Rattle.theorems.specs.CutAnywhere.{CutAnywherePromise}
+use Rattle.theorems.specs.Files.{FilePromise, RecordPromise, ProgramAsCall, ProgramPromise}
+use Rattle.theorems.specs.OtherLanguages.{PeriodExport, PortionExport, SetExport, FreeExport}
+use Rattle.theorems.specs.OtherLanguages.{ContinueExport, IrreducibleExport}
 
 pub record Promises : Type 0 where
+  -- demand 1
+  pub period-answers : PeriodAnswers
+  pub portion-answers : PortionAnswers
+  pub set-answers : SetAnswers
+  pub free-answers : FreeAnswers
+  pub continue-answers : ContinueAnswers
+  pub irreducible-answers : IrreducibleAnswers
+  pub prime-answers : PrimeAnswers
+  pub file-answers : FileAnswers
+  pub record-answers : RecordAnswers
+  pub program-answers : ProgramAnswers
+  pub never-zero : NeverZero
+  -- demand 2
   pub period : PeriodPromise
   pub portion : PortionPromise
   pub set : SetPromise
@@ -311,7 +52,20 @@ pub record Promises : Type 0 where
   pub continuation : ContinuePromise
   pub irreducibility : IrreduciblePromise
   pub primes : PrimePromise
-  pub cut-anywhere : CutAnywherePromise
   pub repeat-bound : RepeatPromise
   pub prime-words : PrimeWords
   pub irreducible-words : IrreducibleWords
+  -- demand 3
+  pub cut-anywhere : CutAnywherePromise
+  -- route files, the reader, the program
+  pub files : FilePromise
+  pub records : RecordPromise
+  pub program-as-call : ProgramAsCall
+  pub program : ProgramPromise
+  -- other languages
+  pub period-export : PeriodExport
+  pub portion-export : PortionExport
+  pub set-export : SetExport
+  pub free-export : FreeExport
+  pub continue-export : ContinueExport
+  pub irreducible-export : IrreducibleExport

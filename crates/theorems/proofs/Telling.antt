@@ -1,0 +1,243 @@
+-- What a table of conditions tells: an answer, or a refusal by one of its own numbers. What a rating with such a
+-- result leaves in the lent bytes.
+--
+--   settle-tells     == a settled table tells so, where the value is not missing
+--   meets            == some answer tells it
+--   Sized …          == the polynomial of an answer has one coefficient more than the degree that is told, and
+--                       there is room for it; the work bytes have their 8,192
+--   rating-answers   == the lent bytes after the result of a rating
+-- Assumes nothing.
+use Prim.Native.Nat.{ℕ, suc, _≤_}
+use native.Mathlib.Omega.{arith}
+use mathlib.Core.Path.{_≡_, refl, sym, ap, subst, _∙_}
+use mathlib.Core.Logic.{_⊎_, inl, inr}
+use mathlib.Core.Bool.{Bool, true, false}
+use mathlib.Core.List.{List, [], _∷_, _++_, map}
+use mathlib.Core.Option.{Option, some, Option·some-injective, Option·none-ne-some}
+use lib.ListN.{length, take, drop, replicate, length-append, length-drop, length-replicate}
+use lib.Seq.{take-at, drop-at}
+use lib.Dec.{T, eqb, eqb-refl, eqb→eq}
+use borrow.Author.Tests.{ne-eqb}
+use Rattle.meaning.specs.declared.Refusal.{Refusal}
+use Rattle.meaning.specs.Search.{holdsForAll, isNone}
+use Rattle.meaning.specs.Result.{Check, Result, Rated, answered, refused, firstOf, settle, figuresOf, mapResult}
+use Rattle.meaning.specs.Result.{answerAfter, workAfter, written, cleared}
+use Rattle.meaning.specs.Answers.{numberOf}
+use Rattle.meaning.specs.Calls.{LentAfter}
+use Rattle.meaning.proofs.Determined.{refusalOf, refusal-found}
+use Rattle.meaning.proofs.Tables.{NoneHolds, firstOf-skip, firstOf-stop, firstOf-none}
+use Rattle.bridge.proofs.Searches.{settle-refused, some-head, some-tail, some-member, all-member, T-false}
+use Rattle.bridge.proofs.Searches.{never-answered, refused-same, answered-same}
+use Rattle.theorems.specs.Answering.{Answered, OneOf, Tells, RatingAnswers}
+
+-- A TABLE REFUSES BY ITS OWN NUMBERS
+abbrev pub numbersOf : List Check → List ℕ
+numbersOf table = map (λ c. c .0) table
+
+among : (table : List Check) {n : ℕ} → firstOf table ≡ some n → OneOf n (numbersOf table)
+among [] e = absurd (Option·none-ne-some _ (sym (firstOf-none [] tt) ∙ e))
+among (c ∷ table) {n} e = go (among table) ((c .1) tt) refl
+  where
+    go :
+        (firstOf table ≡ some n → OneOf n (numbersOf table))
+        → (b : Bool)
+        → (c .1) tt ≡ b
+        → OneOf n (numbersOf (c ∷ table))
+    go rest true h =
+        some-head (eqb n) (c .0) (numbersOf table)
+        (subst (λ m. T (eqb n m)) (sym (Option·some-injective _ _ (sym (firstOf-stop c table h) ∙ e)))
+        (eqb-refl n))
+    go rest false h =
+        some-tail (eqb n) (c .0) (numbersOf table) (rest (sym (firstOf-skip c table h) ∙ e))
+
+pub settle-tells :
+    {A : Type 0} (v : Unit {0} → Option A) (table : List Check)
+    → (NoneHolds table → (a : A) × (v tt ≡ some a))
+    → Tells (numbersOf table) (settle table v)
+settle-tells {A} v table value = go (settle table v) refl
+  where
+    go : (x : Result A) → settle table v ≡ x → Tells (numbersOf table) (settle table v)
+    go (answered a) e = inl (a, e)
+    go (refused n) e = elim (settle-refused v table e) [
+      | inl f ↦ inr (n, e, among table f)
+      | inr (h, z, _) ↦ absurd (let (a, q) = value h in Option·none-ne-some a (sym z ∙ q))
+    ]
+
+pub map-tells :
+    {A B : Type 0} (numbers : List ℕ) (g : A → B) (x : Result A) {y : Result B}
+    → y ≡ mapResult g x
+    → Tells numbers x
+    → Tells numbers y
+unfolding mapResult
+map-tells numbers g x e (inl (a, q)) = inl (g a, e ∙ ap (mapResult g) q)
+map-tells numbers g x e (inr (n, q, h)) = inr (n, e ∙ ap (mapResult g) q, h)
+
+-- 0 is no number of a list
+pub tells-zero :
+    {A : Type 0} (numbers : List ℕ) (x : Result A)
+    → ¬ OneOf 0 numbers
+    → Tells numbers x
+    → x ≡ refused 0
+    → ⊥
+tells-zero numbers x z (inl (a, q)) e = never-answered (sym e ∙ q)
+tells-zero numbers x z (inr (n, q, h)) e = z (subst (λ k. OneOf k numbers) (refused-same (sym q ∙ e)) h)
+
+-- SOME ANSWER TELLS IT
+
+-- the numbers are numbers of refusals, from 1 to 17
+unfoldable pub Listed : List ℕ → Type 0
+Listed numbers = T (holdsForAll (λ n. elim (isNone (refusalOf n)) [ true ↦ false | false ↦ true ]) numbers)
+
+listed-refusal : (numbers : List ℕ) (n : ℕ) → Listed numbers → OneOf n numbers
+    → (x : Refusal) × (numberOf x ≡ n)
+unfolding Listed isNone
+listed-refusal numbers n h t =
+    let (k, m, z) = some-member (eqb n) numbers t in
+    let same : n ≡ k = eqb→eq n k z in
+    go k (refusalOf k) refl (all-member _ numbers h k m) same
+  where
+    go :
+        (k : ℕ) (o : Option Refusal)
+        → refusalOf k ≡ o
+        → T (elim (isNone (refusalOf k)) [ true ↦ false | false ↦ true ])
+        → n ≡ k
+        → (x : Refusal) × (numberOf x ≡ n)
+    go k none e h same = absurd (rw e at h)
+    go k (some x) e h same = (x, refusal-found k e ∙ sym same)
+
+pub meets :
+    {R A : Type 0} (tell : R → Result A) (make : A → R) (refuse : Refusal → R)
+    → ((a : A) → tell (make a) ≡ answered a)
+    → ((x : Refusal) → tell (refuse x) ≡ refused (numberOf x))
+    → (numbers : List ℕ)
+    → Listed numbers
+    → (x : Result A)
+    → Tells numbers x
+    → (r : R) × (tell r ≡ x)
+meets tell make refuse made turned numbers listed x (inl (a, e)) = (make a, made a ∙ sym e)
+meets tell make refuse made turned numbers listed x (inr (n, e, h)) =
+    let (z, q) = listed-refusal numbers n listed h in
+    (refuse z, turned z ∙ ap refused q ∙ sym e)
+
+-- THE LENT BYTES
+pub record Sized {A : Type 0} (degreeOf : A → ℕ) (result : Result (Rated A)) (answer work : ℕ) : Type 0 where
+  pub polynomial : (a : Rated A) → result ≡ answered a → length (a .polynomial) ≡ suc (degreeOf (a .figures))
+  pub small : (a : Rated A) → result ≡ answered a → degreeOf (a .figures) ≤ 4096
+  pub lent : Answered result ⊎ (result ≡ refused 17) → (4097 ≤ answer) × (8192 ≤ work)
+
+pub lent-after : {A : Type 0} (x : Result (Rated A)) (answer work : List ℕ)
+    → LentAfter x answer work (answerAfter x answer) (workAfter x work)
+lent-after x answer work = record { answerBytes = refl; workBytes = refl }
+
+work-untouched : (A : Type 0) (n : ℕ) (work : List ℕ) → (n ≡ 17 → ⊥) → workAfter {A = A} (refused n) work ≡ work
+unfolding workAfter
+work-untouched A n work l = rw (ne-eqb n 17 l, workAfter)
+
+work-17 : (A : Type 0) (n : ℕ) (work : List ℕ) → n ≡ 17 → workAfter {A = A} (refused n) work ≡ cleared work
+unfolding workAfter
+work-17 A n work e = rw (e, workAfter)
+
+cleared-front : (work : List ℕ) → take 8192 (cleared work) ≡ replicate 8192 0
+unfolding cleared
+cleared-front work =
+    take-at (replicate 8192 0) (drop 8192 work) 8192 (length-replicate {A = ℕ} 8192 0)
+
+cleared-beyond : (work : List ℕ) → drop 8192 (cleared work) ≡ drop 8192 work
+unfolding cleared
+cleared-beyond work =
+    drop-at (replicate 8192 0) (drop 8192 work) 8192 (length-replicate {A = ℕ} 8192 0)
+
+cleared-length : (work : List ℕ) → 8192 ≤ length work → length (cleared work) ≡ length work
+unfolding cleared
+cleared-length work l =
+    length-append (replicate 8192 0) (drop 8192 work)
+    ∙ omega (arith, length-replicate {A = ℕ} 8192 0, length-drop 8192 work, l)
+
+-- whether a refusal is by 17
+by-seventeen : (n : ℕ) → (n ≡ 17) ⊎ (n ≡ 17 → ⊥)
+by-seventeen n = elim (ℕ-discrete n 17) [ yes e ↦ inl e | no e ↦ inr e ]
+
+refused-lent :
+    {A B : Type 0} (numbers : List ℕ) (degreeIn : B → ℕ) (n : ℕ) (told : Result B)
+    (answer work answer′ work′ : List ℕ)
+    → told ≡ refused n
+    → OneOf n numbers
+    → answer′ ≡ answer
+    → (n ≡ 17 → (work′ ≡ cleared work) × (8192 ≤ length work))
+    → ((n ≡ 17 → ⊥) → work′ ≡ work)
+    → RatingAnswers numbers degreeIn told answer work answer′ work′
+refused-lent numbers degreeIn n told answer work answer′ work′ e h kept seventeen other =
+    record {
+      tells = inr (n, e, h);
+      answer-kept = λ k q. kept;
+      answer-after = λ a q. never-answered (sym e ∙ q);
+      answer-length = ap length kept;
+      work-kept =
+          λ k q l.
+          let same : k ≡ n = refused-same (sym q ∙ e) in
+          other (λ z. omega arith);
+      work-cleared =
+          λ x. elim x [
+            | inl (a, q) ↦ never-answered (sym e ∙ q)
+            | inr q ↦ ap (take 8192) (seventeen (refused-same (sym e ∙ q)) .0) ∙ cleared-front work
+          ];
+      work-beyond = elim (by-seventeen n) [
+        | inl s ↦ ap (drop 8192) (seventeen s .0) ∙ cleared-beyond work
+        | inr s ↦ ap (drop 8192) (other s)
+      ];
+      work-length = elim (by-seventeen n) [
+        | inl s ↦ ap length (seventeen s .0) ∙ cleared-length work (seventeen s .1)
+        | inr s ↦ ap length (other s)
+      ];
+    }
+
+written-length : (g answer : List ℕ) → length g ≤ length answer → length (written g answer) ≡ length answer
+unfolding written
+written-length g answer l =
+    length-append g (drop (length g) answer) ∙ omega (arith, length-drop (length g) answer, l)
+
+-- what is told of a result: a refusal by its number, an answer by its figures
+pub rating-answers :
+    {A B : Type 0} (numbers : List ℕ) (degreeIn : B → ℕ) (g : A → B) (result : Result (Rated A))
+    (told : Result B) (answer work answer′ work′ : List ℕ)
+    → told ≡ mapResult g (figuresOf result)
+    → Tells numbers result
+    → Sized (λ a. degreeIn (g a)) result (length answer) (length work)
+    → LentAfter result answer work answer′ work′
+    → RatingAnswers numbers degreeIn told answer work answer′ work′
+unfolding mapResult figuresOf answerAfter
+rating-answers {A} numbers degreeIn g (refused n) told answer work answer′ work′ e t sized lent =
+    refused-lent numbers degreeIn n told answer work answer′ work′ e (elim t [
+      | inl (a, q) ↦ never-answered q
+      | inr (m, q, h) ↦ subst (λ k. OneOf k numbers) (sym (refused-same q)) h
+    ]) (lent .answerBytes)
+    (λ s.
+    (lent .workBytes ∙ work-17 (Rated A) n work s, sized .lent (inr (ap refused s)) .1))
+    (λ s. lent .workBytes ∙ work-untouched (Rated A) n work s)
+rating-answers numbers degreeIn g (answered b) told answer work answer′ work′ e t sized lent =
+    let cleared-work : work′ ≡ cleared work = lent .workBytes in
+    let room = sized .lent (inl (b, refl)) in
+    let d = degreeIn (g (b .figures)) in
+    let size : length (b .polynomial) ≡ suc d = sized .polynomial b refl in
+    record {
+      tells = inl (g (b .figures), e);
+      answer-kept = λ k q. never-answered (sym q ∙ e);
+      answer-after =
+          λ a q.
+          let same : a ≡ g (b .figures) = answered-same (sym q ∙ e) in
+          let n : length (b .polynomial) ≡ suc (degreeIn a) =
+          size ∙ ap (λ c. suc (degreeIn c)) (sym same) in
+          ap (drop (suc (degreeIn a))) (lent .answerBytes)
+          ∙ after (b .polynomial) answer (suc (degreeIn a)) n;
+      answer-length =
+          ap length (lent .answerBytes)
+          ∙ written-length (b .polynomial) answer (omega (arith, size, sized .small b refl, room .0));
+      work-kept = λ k q l. never-answered (sym q ∙ e);
+      work-cleared = λ x. ap (take 8192) cleared-work ∙ cleared-front work;
+      work-beyond = ap (drop 8192) cleared-work ∙ cleared-beyond work;
+      work-length = ap length cleared-work ∙ cleared-length work (room .1);
+    }
+  where
+    after : (l bytes : List ℕ) (n : ℕ) → length l ≡ n → drop n (written l bytes) ≡ drop n bytes
+    unfolding written
+    after l bytes n e = drop-at l (drop (length l) bytes) n e ∙ ap (λ k. drop k bytes) e

@@ -1,0 +1,130 @@
+-- The calls for other languages, as statements about their contracts: each keeps the promise of the call that it
+-- wraps, through its numbers and bytes. The signs are those of Promises.
+--
+-- `told` is what the call tells: the status is 0 where that is an answer and else the number of the refusal, and
+-- 0 is told of nothing but an answer. The lent numbers and bytes are the figures of the answer, or as they were.
+-- What is told, and what is left in the answer, work and buffer bytes, has the promises of the wrapped call:
+-- demand 1 (`answers`) and demand 2 (`right`). The exported question for primes has the contract `PrimeCall`, and
+-- so its promise.
+use Prim.Native.Nat.{ℕ}
+use mathlib.Core.Path.{_≡_}
+use mathlib.Core.Logic.{_↔_}
+use mathlib.Core.Bool.{Bool}
+use mathlib.Core.List.{List, _++_}
+use lib.ListN.{length, take, drop}
+use lib.Dec.{T}
+use Rattle.meaning.specs.Polynomial.{Polynomial, NotAProduct}
+use Rattle.meaning.specs.Result.{Result, refused, answered}
+use Rattle.meaning.specs.Power.{PowerFigures}
+use Rattle.meaning.specs.Period.{ratePeriod}
+use Rattle.meaning.specs.Portion.{ratePortion, rateSet}
+use Rattle.meaning.specs.Free.{Choice, FreeFigures}
+use Rattle.meaning.specs.Continuation.{continueSequence}
+use Rattle.meaning.specs.Irreducibility.{askIrreducible}
+use Rattle.meaning.specs.Answers.{SetTold}
+use Rattle.meaning.specs.FlatBytes.{bytesOfAll}
+use Rattle.meaning.specs.Exports.{statusOf, numberAfter, PowerTold, PowerExported, SetExported, wordOf}
+use Rattle.meaning.specs.Exports.{FreeExported, Filled, yesAfter, Question}
+use Rattle.theorems.specs.Answering.{periodNumbers, portionNumbers, setNumbers, freeNumbers}
+use Rattle.theorems.specs.Answering.{continueNumbers, irreducibleNumbers, Answered, Tells, RatingAnswers}
+use Rattle.theorems.specs.Ratings.{GF, PeriodRight, PortionRight, SetRight, FreeAnswered, ContinueRight}
+
+pub record StatusTold {A : Type 0} (told : Result A) (status : ℕ) : Type 0 where
+  pub is : status ≡ statusOf told
+  pub zero : status ≡ 0 → Answered told
+
+-- ONE FACTOR: power, degree and bound are lent numbers
+
+pub record PowerExportRight (numbers : List ℕ) (Right : Result PowerFigures → Type 0) (answer work : List ℕ)
+    (power degree bound status : ℕ) (answer′ work′ : List ℕ) (power′ degree′ bound′ : ℕ) : Type 0 where
+  pub told : Result PowerFigures
+  pub status-told : StatusTold told status
+  pub figures-told : PowerTold told power degree bound status power′ degree′ bound′
+  pub answers : RatingAnswers numbers (λ a. a .degree) told answer work answer′ work′
+  pub right : Right told
+
+abbrev pub PeriodExport : Type 0
+PeriodExport =
+    (p : ℕ) (f : Polynomial) (ts answer work : List ℕ) (power degree bound status : ℕ)
+    (answer′ work′ : List ℕ) (power′ degree′ bound′ : ℕ)
+    → PowerExported (ratePeriod p f ts (length answer) (length work)) answer work power degree bound status
+    answer′ work′ power′ degree′ bound′
+    → PowerExportRight periodNumbers (λ told. PeriodRight p f ts told answer′) answer work power degree bound
+    status answer′ work′ power′ degree′ bound′
+
+abbrev pub PortionExport : Type 0
+PortionExport =
+    (p : ℕ) (f : Polynomial) (v : ℕ) (ts answer work : List ℕ) (power degree bound status : ℕ)
+    (answer′ work′ : List ℕ) (power′ degree′ bound′ : ℕ)
+    → PowerExported (ratePortion p f v ts (length answer) (length work)) answer work power degree bound status
+    answer′ work′ power′ degree′ bound′
+    → PowerExportRight portionNumbers (λ told. PortionRight p f v ts told answer′) answer work power degree
+    bound status answer′ work′ power′ degree′ bound′
+
+-- THE SET WAY: the powers are lent bytes. Eight numbers of eight bytes each, as many bytes as were lent.
+
+pub record SetExportRight (p : ℕ) (fs : List Polynomial) (vs ts answer work powers : List ℕ)
+    (degree status : ℕ) (answer′ work′ powers′ : List ℕ) (degree′ : ℕ) : Type 0 where
+  pub told : Result SetTold
+  pub eight : List ℕ
+  pub status-told : StatusTold told status
+  pub degree-told : degree′ ≡ numberAfter (λ a. a .degree) told degree
+  pub powers-told : Answered told → powers′ ≡ take (length powers) (bytesOfAll eight) ++ drop 64 powers
+  pub powers-kept : (n : ℕ) → told ≡ refused n → powers′ ≡ powers
+  pub answers : RatingAnswers setNumbers (λ a. a .degree) told answer work answer′ work′
+  pub right : SetRight p fs vs ts told eight answer′
+
+abbrev pub SetExport : Type 0
+SetExport =
+    (p : ℕ) (fs : List Polynomial) (vs ts answer work powers : List ℕ) (degree status : ℕ)
+    (answer′ work′ powers′ : List ℕ) (degree′ : ℕ)
+    → SetExported (rateSet p fs vs ts (length answer) (length work)) answer work powers degree status answer′
+    work′ powers′ degree′
+    → SetExportRight p fs vs ts answer work powers degree status answer′ work′ powers′ degree′
+
+-- THE FREE WAY: the word is a lent number, 1 for `one` and 0 for `some`
+
+pub record FreeExportRight (p : ℕ) (ts answer work : List ℕ) (degree unique status : ℕ)
+    (answer′ work′ : List ℕ) (degree′ unique′ : ℕ) : Type 0 where
+  pub told : Result FreeFigures
+  pub status-told : StatusTold told status
+  pub degree-told : degree′ ≡ numberAfter (λ a. a .degree) told degree
+  pub word-told : unique′ ≡ numberAfter wordOf told unique
+  pub answers : RatingAnswers freeNumbers (λ a. a .degree) told answer work answer′ work′
+  pub right : (a : FreeFigures) → told ≡ answered a → FreeAnswered p ts a answer′
+
+abbrev pub FreeExport : Type 0
+FreeExport =
+    (pick : Choice) (p : ℕ) (ts answer work : List ℕ) (degree unique status : ℕ) (answer′ work′ : List ℕ)
+    (degree′ unique′ : ℕ)
+    → FreeExported pick p ts answer work degree unique status answer′ work′ degree′ unique′
+    → FreeExportRight p ts answer work degree unique status answer′ work′ degree′ unique′
+
+-- THE CONTINUATION AND THE QUESTION
+
+pub record ContinueExportRight (p : ℕ) (g : Polynomial) (start buffer : List ℕ) (place status : ℕ)
+    (buffer′ : List ℕ) : Type 0 where
+  pub told : Result (Unit {0})
+  pub status-told : StatusTold told status
+  pub answers : Tells continueNumbers told
+  pub right : ContinueRight p g start buffer place told buffer′
+
+abbrev pub ContinueExport : Type 0
+ContinueExport =
+    (p : ℕ) (g : Polynomial) (start buffer : List ℕ) (place status : ℕ) (buffer′ : List ℕ)
+    → Filled (continueSequence p g start place buffer) buffer status buffer′
+    → ContinueExportRight p g start buffer place status buffer′
+
+-- the answer is a lent number, 1 for yes and 0 for no
+pub record IrreducibleExportRight (p : ℕ) (f : Polynomial) (yes status yes′ : ℕ) : Type 0 where
+  pub told : Result Bool
+  pub status-told : StatusTold told status
+  pub yes-told : yes′ ≡ yesAfter told yes
+  pub answers : Tells irreducibleNumbers told
+  pub right : (said : Bool) → told ≡ answered said → T said ↔ NotAProduct (GF p) f
+
+abbrev pub IrreducibleExport : Type 0
+IrreducibleExport =
+    (p : ℕ) (f : Polynomial) (yes status yes′ : ℕ)
+    → Question (askIrreducible p f) yes status yes′
+    → IrreducibleExportRight p f yes status yes′

@@ -1,0 +1,239 @@
+-- Demand 2, as statements about the contracts of the calls: the polynomial is the minimal polynomial, or for a
+-- portion alone the shortest recurrence. The signs are those of Promises.
+--
+--   Returns g told answer′ == the call returns g: it tells the degree of g, and the answer bytes begin with g
+--   …Answered        == what an answer of the way means: its figures, and the list in the answer bytes
+--   …Right           == the same of what is told, and what 17 means
+--   …Promise         == so it is of whatever meets the contract of the call, on every input
+--   OneContinuation  == the first terms have exactly one continuation that the product annihilates
+--   NoneBegins       == no sequence that a polynomial annihilates begins with the terms
+--   BoundTold        == what the repeat bound that is told means; RepeatPromise: for any sequence
+--   PrimeWords, IrreducibleWords == the tests for primes and irreducible polynomials are the words of the request
+use Prim.Native.Nat.{ℕ, suc, _*_, _-_, _^_, _≤_, _<_}
+use mathlib.Core.Path.{_≡_}
+use mathlib.Core.Logic.{_⊎_, _↔_}
+use mathlib.Core.Bool.{Bool, true, false}
+use mathlib.Core.List.{List, [], _∷_, _++_}
+use mathlib.Core.Option.{some}
+use lib.ListN.{length, getD, take}
+use lib.Dec.{T}
+use Rattle.meaning.specs.declared.PowerRating.{PowerRating}
+use Rattle.meaning.specs.declared.SetRating.{SetRating}
+use Rattle.meaning.specs.declared.FreeRating.{FreeRating}
+use Rattle.meaning.specs.declared.Filling.{Filling}
+use Rattle.meaning.specs.declared.Irreducibility.{Irreducibility}
+use Rattle.meaning.specs.Field.{Field, prime, PrimeNumber, isPrime}
+use Rattle.meaning.specs.Polynomial.{Polynomial, degree, isMonicOver, power, product, irreducible}
+use Rattle.meaning.specs.Polynomial.{NotAProduct}
+use Rattle.meaning.specs.Sequence.{Sequence, InField, periodic, cut, LeastPeriod, Continues}
+use Rattle.meaning.specs.Sequence.{AnnihilatesEndless, MinimalPolynomial, LeastPower}
+use Rattle.meaning.specs.Result.{Result, refused, answered}
+use Rattle.meaning.specs.Conditions.{named, totalDegree}
+use Rattle.meaning.specs.Power.{PowerFigures, isX, repeatBound, BoundMeaning}
+use Rattle.meaning.specs.Period.{NoPower}
+use Rattle.meaning.specs.Portion.{onward, SetMeaning, PortionMeaning, Agrees}
+use Rattle.meaning.specs.Free.{Choice, FreeFigures, IsLeastDegree, Fits}
+use Rattle.meaning.specs.Answers.{SetTold, toldPower, toldSet, toldFree, toldFilling, toldIrreducible, padded}
+use Rattle.meaning.specs.Calls.{PrimeCall, IrreducibleCall, PeriodCall, PortionCall, SetCall, FreeCall}
+use Rattle.meaning.specs.Calls.{ContinueCall}
+
+abbrev pub GF : ℕ → Field
+GF p = prime p
+
+-- THE POLYNOMIAL THAT A CALL RETURNS
+
+-- The list in the answer bytes: as many coefficients as the degree that the call tells, and one more.
+abbrev pub listIn : List ℕ → ℕ → Polynomial
+listIn answer′ told = take (suc told) answer′
+
+-- The call returns g: it tells the degree of g, and the list in the answer bytes is g.
+pub record Returns (g : Polynomial) (told : ℕ) (answer′ : List ℕ) : Type 0 where
+  pub degree-told : told ≡ degree g
+  pub coefficients : listIn answer′ told ≡ g
+
+-- THE WAYS
+
+-- The bound b that is told with the power r of f, for the sequence s that f^r annihilates: it is that of the
+-- request, and has 64 bits; where f is not x, or the power is 0, s has a least period, which does not exceed
+-- b.
+pub record BoundTold (p : ℕ) (f : Polynomial) (r b : ℕ) (s : Sequence) : Type 0 where
+  pub value : repeatBound (GF p) f r ≡ some b
+  pub bits64 : b < 2 ^ 64
+  pub meaning : (isX f ≡ false) ⊎ (r ≡ 0) → BoundMeaning s b
+
+-- The period way: the power is the least that annihilates the endless repetition, and the polynomial returned
+-- is the minimal polynomial of it. (In every way the degree is at most 4,096, so that the list has its place in
+-- the 4,097 answer bytes: `small`.)
+pub record PeriodAnswered (p : ℕ) (f : Polynomial) (ts : List ℕ) (a : PowerFigures) (answer′ : List ℕ)
+    : Type 0 where
+  pub small : a .degree ≤ 4096
+  pub least : LeastPower (GF p) f (periodic ts) (a .power)
+  pub minimal : MinimalPolynomial (GF p) (listIn answer′ (a .degree)) (periodic ts)
+  pub returns : Returns (power (GF p) f (a .power)) (a .degree) answer′
+  pub bound : BoundTold p f (a .power) (a .bound) (periodic ts)
+
+-- 17 means that no power of f, however large, annihilates it.
+pub record PeriodRight (p : ℕ) (f : Polynomial) (ts : List ℕ) (told : Result PowerFigures) (answer′ : List ℕ)
+    : Type 0 where
+  pub rated : (a : PowerFigures) → told ≡ answered a → PeriodAnswered p f ts a answer′
+  pub seventeen : told ≡ refused 17 → NoPower (GF p) f ts
+
+abbrev pub PeriodPromise : Type 0
+PeriodPromise =
+    (p : ℕ) (f : Polynomial) (ts answer work : List ℕ) (r : PowerRating) (answer′ work′ : List ℕ)
+    → PeriodCall p f ts answer work r answer′ work′
+    → PeriodRight p f ts (toldPower r) answer′
+
+-- No sequence that g annihilates begins with the terms.
+abbrev pub NoneBegins : ℕ → Polynomial → List ℕ → Type 0
+NoneBegins p g ts = (s : Sequence) → AnnihilatesEndless (GF p) g s → cut s 0 (length ts) ≡ ts → ⊥
+
+-- The first D terms, D the total degree of the factors l with their upper powers, have exactly one continuation
+-- that the product of l annihilates (`onward`): it is over the field, begins with these terms and is annihilated;
+-- and there is no other.
+pub record OneContinuation (p : ℕ) (l : List (Polynomial × ℕ)) (ts : List ℕ) : Type 0 where
+  pub continues : Continues (GF p) (product (GF p) l) (take (totalDegree l) ts) (onward (GF p) l ts)
+  pub only : (s : Sequence)
+      → Continues (GF p) (product (GF p) l) (take (totalDegree l) ts) s
+      → (k : ℕ)
+      → s k ≡ onward (GF p) l ts k
+
+-- The portion way: the first terms have exactly one continuation that f^v annihilates, all the terms agree with
+-- it, the power is the least that annihilates it and at most v, and the polynomial returned is its minimal
+-- polynomial. The factor x is allowed.
+pub record PortionAnswered (p : ℕ) (f : Polynomial) (v : ℕ) (ts : List ℕ) (a : PowerFigures)
+    (answer′ : List ℕ) : Type 0 where
+  pub small : a .degree ≤ 4096
+  pub continuation : OneContinuation p ((f, v) ∷ []) ts
+  pub agrees : Agrees (GF p) ((f, v) ∷ []) ts
+  pub atMost : a .power ≤ v
+  pub least : PortionMeaning (GF p) f v ts (a .power)
+  pub minimal : MinimalPolynomial (GF p) (listIn answer′ (a .degree)) (onward (GF p) ((f, v) ∷ []) ts)
+  pub returns : Returns (power (GF p) f (a .power)) (a .degree) answer′
+  pub bound : BoundTold p f (a .power) (a .bound) (onward (GF p) ((f, v) ∷ []) ts)
+
+-- 17 means that the terms have no continuation that f^v annihilates.
+pub record PortionRight (p : ℕ) (f : Polynomial) (v : ℕ) (ts : List ℕ) (told : Result PowerFigures)
+    (answer′ : List ℕ) : Type 0 where
+  pub rated : (a : PowerFigures) → told ≡ answered a → PortionAnswered p f v ts a answer′
+  pub seventeen : told ≡ refused 17 → NoneBegins p (power (GF p) f v) ts
+
+abbrev pub PortionPromise : Type 0
+PortionPromise =
+    (p : ℕ) (f : Polynomial) (v : ℕ) (ts answer work : List ℕ) (r : PowerRating) (answer′ work′ : List ℕ)
+    → PortionCall p f v ts answer work r answer′ work′
+    → PortionRight p f v ts (toldPower r) answer′
+
+-- The set way: the same with several factors. Their powers stand in the eight places, each is at most its upper
+-- power, and the polynomial returned is the product of the factors to these powers.
+pub record SetAnswered (p : ℕ) (fs : List Polynomial) (vs ts : List ℕ) (a : SetTold) (eight answer′ : List ℕ)
+    : Type 0 where
+  pub powers : List ℕ
+  pub count-told : a .count ≡ length powers
+  pub places : eight ≡ padded powers
+  pub small : a .degree ≤ 4096
+  pub continuation : OneContinuation p (named fs vs) ts
+  pub agrees : Agrees (GF p) (named fs vs) ts
+  pub atMost : (i : ℕ) → i < length fs → getD powers i 0 ≤ getD vs i 0
+  pub meaning : SetMeaning (GF p) (named fs vs) ts powers
+  pub minimal : MinimalPolynomial (GF p) (listIn answer′ (a .degree)) (onward (GF p) (named fs vs) ts)
+  pub returns : Returns (product (GF p) (named fs powers)) (a .degree) answer′
+
+pub record SetRight (p : ℕ) (fs : List Polynomial) (vs ts : List ℕ) (told : Result SetTold)
+    (eight answer′ : List ℕ) : Type 0 where
+  pub rated : (a : SetTold) → told ≡ answered a → SetAnswered p fs vs ts a eight answer′
+  pub seventeen : told ≡ refused 17 → NoneBegins p (product (GF p) (named fs vs)) ts
+
+abbrev pub SetPromise : Type 0
+SetPromise =
+    (p : ℕ) (fs : List Polynomial) (vs ts answer work : List ℕ) (r : SetRating) (answer′ work′ : List ℕ)
+    → SetCall p fs vs ts answer work r answer′ work′
+    → SetRight p fs vs ts (toldSet (r .outcome)) (r .powers) answer′
+
+-- The free way: the degree is the least of a polynomial that annihilates the terms, and the polynomial
+-- returned is one of that degree; under the word `one` (`unique`), which stands where twice the degree is at
+-- most the number of terms, it is the only one.
+pub record FreeAnswered (p : ℕ) (ts : List ℕ) (a : FreeFigures) (answer′ : List ℕ) : Type 0 where
+  pub small : a .degree ≤ 4096
+  pub least : IsLeastDegree (GF p) ts (a .degree)
+  pub fits : Fits (GF p) ts (a .degree) (listIn answer′ (a .degree))
+  pub word : (a .unique ≡ true) ↔ (2 * a .degree ≤ length ts)
+  pub only : a .unique ≡ true
+      → (h : Polynomial)
+      → Fits (GF p) ts (a .degree) h
+      → h ≡ listIn answer′ (a .degree)
+
+abbrev pub FreePromise : Type 0
+FreePromise =
+    (pick : Choice) (p : ℕ) (ts answer work : List ℕ) (r : FreeRating) (answer′ work′ : List ℕ)
+    → FreeCall pick p ts answer work r answer′ work′
+    → (a : FreeFigures)
+    → toldFree r ≡ answered a
+    → FreeAnswered p ts a answer′
+
+-- The continuation: from the place on the buffer holds the sequence that begins with the starting terms and
+-- that g annihilates; it is the only one. A refusal leaves the buffer as it was.
+pub record ContinueFilled (p : ℕ) (g : Polynomial) (start buffer : List ℕ) (place : ℕ) (buffer′ : List ℕ)
+    : Type 0 where
+  pub sequence : Sequence
+  pub continues : Continues (GF p) g start sequence
+  pub only : (s : Sequence) → Continues (GF p) g start s → (k : ℕ) → s k ≡ sequence k
+  pub bytes : buffer′ ≡ take place buffer ++ cut sequence 0 (length buffer - place)
+
+pub record ContinueRight (p : ℕ) (g : Polynomial) (start buffer : List ℕ) (place : ℕ)
+    (told : Result (Unit {0})) (buffer′ : List ℕ) : Type 0 where
+  pub filled : told ≡ answered tt → ContinueFilled p g start buffer place buffer′
+  pub untouched : (n : ℕ) → told ≡ refused n → buffer′ ≡ buffer
+
+abbrev pub ContinuePromise : Type 0
+ContinuePromise =
+    (p : ℕ) (g : Polynomial) (start buffer : List ℕ) (place : ℕ) (r : Filling) (buffer′ : List ℕ)
+    → ContinueCall p g start buffer place r buffer′
+    → ContinueRight p g start buffer place (toldFilling r) buffer′
+
+-- The two questions
+abbrev pub IrreduciblePromise : Type 0
+IrreduciblePromise =
+    (p : ℕ) (f : Polynomial) (r : Irreducibility)
+    → IrreducibleCall p f r
+    → (said : Bool)
+    → toldIrreducible r ≡ answered said
+    → T said ↔ NotAProduct (GF p) f
+
+abbrev pub PrimePromise : Type 0
+PrimePromise = (n : ℕ) (r : Bool) → PrimeCall n r → T r ↔ (PrimeNumber n × (n ≤ 251))
+
+-- THE REPEAT BOUND
+
+-- There is always a bound; and where f is not x, or the power is 0, every sequence that f^r annihilates has a
+-- least period, which does not exceed it.
+pub record RepeatBounded (p : ℕ) (f : Polynomial) (r : ℕ) : Type 0 where
+  pub bound : ℕ
+  pub found : repeatBound (GF p) f r ≡ some bound
+  pub bounds : (isX f ≡ false) ⊎ (r ≡ 0)
+      → (s : Sequence)
+      → InField (GF p) s
+      → AnnihilatesEndless (GF p) (power (GF p) f r) s
+      → (n : ℕ) × LeastPeriod s n × (n ≤ bound)
+
+abbrev pub RepeatPromise : Type 0
+RepeatPromise =
+    (p : ℕ) (f : Polynomial) (r : ℕ)
+    → T (isPrime p)
+    → T (isMonicOver (GF p) f)
+    → 1 ≤ degree f
+    → T (irreducible (GF p) f)
+    → RepeatBounded p f r
+
+-- THE WORDS OF THE REQUEST
+
+abbrev pub PrimeWords : Type 0
+PrimeWords = (n : ℕ) → T (isPrime n) ↔ PrimeNumber n
+
+abbrev pub IrreducibleWords : Type 0
+IrreducibleWords =
+    (p : ℕ) (f : Polynomial)
+    → T (isPrime p)
+    → T (isMonicOver (GF p) f)
+    → 1 ≤ degree f
+    → T (irreducible (GF p) f) ↔ NotAProduct (GF p) f
