@@ -73,14 +73,6 @@ pub annihilated-pass :
     → not (annihilatesKnown (prime p) g ts) ≡ false
 annihilated-pass p g ts h = T-not-false (annihilatesKnown (prime p) g ts) h
 
--- 9 passes accepted factors
-pub accepted-count :
-    (p : ℕ) (fs : List Polynomial) (vs : List ℕ)
-    → T (acceptedFactors p fs vs)
-    → factorCountOutOfRange (length fs) ≡ false
-unfolding factorTable
-accepted-count p fs vs h = accepted-passes p fs vs h .factorCount
-
 -- What it says that a condition does not hold
 pub count-accepted : (n : ℕ) → countOutOfRange n ≡ false → (1 ≤ n) × (n ≤ 4096)
 unfolding countOutOfRange

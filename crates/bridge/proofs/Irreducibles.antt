@@ -35,8 +35,8 @@ use Rattle.meaning.specs.Field.{Field, areElements, prime, primeInRange}
 use Rattle.meaning.specs.Polynomial.{Polynomial, degree, isMonicOver, plus, scale, times, monics, same}
 use Rattle.meaning.specs.Polynomial.{hasFactorOf, leading, irreducible, NotAProduct}
 use Rattle.meaning.specs.Power.{isX}
-use Rattle.meaning.specs.Conditions.{factorDegreeOutOfRange, degreeOutOfRange, notPrime, notMonic, named}
-use Rattle.meaning.specs.Conditions.{upperPowersOutOfRange, isAsked, isReducible, twoEqual}
+use Rattle.meaning.specs.Conditions.{factorDegreeOutOfRange, degreeOutOfRange, notPrime, notMonic}
+use Rattle.meaning.specs.Conditions.{isAsked, isReducible, twoEqual}
 use Rattle.meaning.specs.Portion.{factorsOf, factorTable, acceptedFactors}
 use Rattle.meaning.proofs.Passes.{accepted-passes}
 use Rattle.algebra.proofs.Ring.{Ring, zero-add}
@@ -574,10 +574,6 @@ module _ (p : ℕ) (fs : List Polynomial) (us : List ℕ) (accepted : T (accepte
   accepted-different =
       let x = accepted-passes p fs us accepted in
       accepted-factors p fs (x .fieldExists) (x .degreesInRange) (x .monic) (x .irreducible) (x .different)
-
-  pub accepted-uppers : upperPowersOutOfRange (named fs us) ≡ false
-  unfolding factorTable
-  accepted-uppers = accepted-passes p fs us accepted .uppersInRange
 
 module _ {F : Field} (I : IsField F) where
   pub factors-atoms :
