@@ -34,7 +34,7 @@ use Rattle.bridge.proofs.Searches.{none-at}
 use Rattle.refusals.specs.declared.Verdict.{Verdict}
 use Rattle.refusals.specs.Verdicts.{numberIn, termsTable}
 use Rattle.refusals.proofs.Order.{first-skip, refused-before, refused-second}
-use Rattle.refusals.proofs.Settled.{settle-refused, accepted-holds}
+use Rattle.refusals.proofs.Settled.{settle-refused, verdict-passes}
 use Rattle.rate_file.specs.factors.Written.{writtenTable}
 use Rattle.rate_file.proofs.factors.Polynomials.{AllWhole, polynomials-ten, polynomials-eleven}
 
@@ -116,7 +116,7 @@ module _ (p : ℕ) (fs : List WrittenFactor) (ts : List ℕ) (answer work : ℕ)
     module _ (accepted : u ≡ Verdict.Accepted) where
       fieldExists : IsField (prime p)
       unfolding termsTable
-      fieldExists = inRange-isField p (prime-accepted p (accepted-holds (termsTable p ts) eu accepted .0))
+      fieldExists = inRange-isField p (prime-accepted p (verdict-passes (termsTable p ts) eu accepted .fieldExists))
 
       -- the terms are accepted, and v is the verdict on the factors
       module _ {v : Verdict} (ev : numberIn v ≡ firstOf (writtenTable p fs)) where
@@ -145,7 +145,7 @@ module _ (p : ℕ) (fs : List WrittenFactor) (ts : List ℕ) (answer work : ℕ)
         module _ (q : v ≡ Verdict.Accepted) (whole : AllWhole fs) where
           passed : (ten ≡ false) × (eleven ≡ false)
           unfolding writtenTable
-          passed = let h = accepted-holds (writtenTable p fs) ev q in (h .0, h .1 .0)
+          passed = let h = verdict-passes (writtenTable p fs) ev q in (h .degreesInRange, h .monic)
 
           list-ten : holdsForSome (factorDegreeOutOfRange (prime p)) (map polynomialOf fs) ≡ false
           list-ten = polynomials-ten (prime p) fs whole (passed .0)
