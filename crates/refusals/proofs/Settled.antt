@@ -21,6 +21,7 @@ use Rattle.meaning.specs.Period.{periodTable, periodPower}
 use Rattle.meaning.specs.Portion.{portionTable, setTable}
 use Rattle.meaning.specs.Answers.{numberOf}
 use Rattle.meaning.proofs.Tables.{settle-none, NoneHolds, none-holds}
+use Rattle.bridge.proofs.Searches.{none-isNone}
 use Rattle.refusals.specs.declared.Verdict.{Verdict}
 use Rattle.refusals.specs.Verdicts.{numberIn, allButLast, periodChecks, portionChecks, setChecks}
 use Rattle.refusals.proofs.Order.{refused-before, accepted-before, first-here, first-skip}
@@ -35,8 +36,8 @@ settle-some table v r e = rw (sym e, settle)
 -- what an accepted call has passed: no condition of the table holds
 pub accepted-holds : (table : List Check) {r : Verdict} → numberIn r ≡ firstOf table → r ≡ Verdict.Accepted
     → NoneHolds table
-unfolding numberIn isNone
-accepted-holds table e q = none-holds table (rw (sym e ∙ ap numberIn q, isNone) tt)
+unfolding numberIn
+accepted-holds table e q = none-holds table (none-isNone (sym e ∙ ap numberIn q))
 
 -- a whole table
 module _ {A : Type 0} (table : List Check) (v : Unit {0} → Option A) {r : Verdict}
