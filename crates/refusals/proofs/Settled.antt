@@ -33,6 +33,7 @@ settle-some : {A : Type 0} (table : List Check) (v : Unit {0} → Option A) (r :
 unfolding settle numberIn
 settle-some table v r e = rw (sym e, settle)
 
+-- what an accepted call has passed: no condition of the table holds
 pub verdict-passes : (table : List Check) {r : Verdict} → numberIn r ≡ firstOf table → r ≡ Verdict.Accepted
     → Passes table
 unfolding numberIn

@@ -3,6 +3,7 @@
 --   Scan R t         == R says whether some element passes the test t, which sees the elements after it too
 --   some-scan        == `holdsForSome` is such a look through
 --   equal-scan       == so is `twoEqual`: the test finds the element again among those after it
+--   none-cons, none-uncons == no element passes: neither the first nor one of the others
 -- Assumes nothing.
 use Prim.Native.Nat.{ℕ, _+_, _≤_, _<_}
 use native.Mathlib.Numerals.{add-one}
@@ -17,6 +18,7 @@ use Rattle.meaning.specs.Polynomial.{Polynomial, same}
 use Rattle.meaning.specs.Conditions.{twoEqual}
 use Rattle.meaning.specs.Slices.{listsOf}
 use Rattle.meaning.proofs.Slices.{nowhere, lists-length, lists-at}
+use Rattle.bridge.proofs.Searches.{or-false}
 use Rattle.conditions.proofs.numbers.Tests.{either}
 
 pub record Scan {A : Type 0} (R : List A → Bool) (t : A → List A → Bool) : Type 0 where
@@ -30,6 +32,13 @@ some-scan t = record { nil = refl; cons = λ a l. either (t a) (holdsForSome t l
 pub equal-scan : Scan twoEqual (λ f l. holdsForSome (same f) l)
 unfolding twoEqual
 equal-scan = record { nil = refl; cons = λ f l. either (holdsForSome (same f) l) (twoEqual l) }
+
+module _ {A : Type 0} (t : A → Bool) (a : A) (l : List A) where
+  pub none-cons : t a ≡ false → holdsForSome t l ≡ false → holdsForSome t (a ∷ l) ≡ false
+  none-cons e h = some-scan t .cons a l ∙ rw (e, h)
+
+  pub none-uncons : holdsForSome t (a ∷ l) ≡ false → (t a ≡ false) × (holdsForSome t l ≡ false)
+  none-uncons h = or-false (t a) (holdsForSome t l) (sym (some-scan t .cons a l) ∙ h)
 
 -- No element before i passes: the elements from i on decide.
 module _ {A : Type 0} {R : List A → Bool} {t : A → List A → Bool} (scan : Scan R t) (d : A) (l : List A)

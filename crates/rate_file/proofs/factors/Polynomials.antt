@@ -16,16 +16,16 @@ use Rattle.meaning.specs.Search.{holdsForSome}
 use Rattle.meaning.specs.Field.{Field, areElements}
 use Rattle.meaning.specs.Polynomial.{leading, isMonic}
 use Rattle.meaning.specs.Conditions.{degreeOutOfRange, factorDegreeOutOfRange, notMonic}
-use Rattle.meaning.specs.Route.{lookUp, bodyLengths, bodies}
+use Rattle.meaning.specs.Route.{lookUp, bodyLengths}
 use Rattle.meaning.specs.File.{WrittenFactor, fileFactor, polynomialOf, fileDegreeOutOfRange, fileNotMonic}
 use Rattle.bridge.proofs.Searches.{or-false, T-not-false, not-false}
 use Rattle.bridge.proofs.Interpretation.{IsField}
 use Rattle.bridge.proofs.Polynomials.{elements-cons, elements-uncons, one-elements}
 use Rattle.conditions.proofs.numbers.Tests.{degree-tests}
 use Rattle.conditions.proofs.lists.Coefficients.{list-degree, leading-last}
-use Rattle.conditions.proofs.factors.Scan.{some-scan}
-use Rattle.route.specs.framing.Framing.{orElse, bodyLength, recordsFrom}
-use Rattle.rate_file.specs.factors.Written.{factorsIn, noFactor}
+use Rattle.conditions.proofs.factors.Scan.{none-cons, none-uncons}
+use Rattle.route.specs.framing.Framing.{orElse, bodyLength}
+use Rattle.rate_file.specs.factors.Written.{bodiesIn, factorsIn, noFactor}
 use Rattle.rate_file.proofs.factors.Places.{factors-count, factor-body}
 
 abbrev pub AllWhole : List WrittenFactor → Type 0
@@ -94,14 +94,6 @@ module _ (F : Field) (f : WrittenFactor) (whole : length (f .coefficients) ≡ 3
       )
 
 -- all factors of a file
-module _ {A : Type 0} (t : A → Bool) (a : A) (l : List A) (h : holdsForSome t (a ∷ l) ≡ false) where
-  first-fails : (t a ≡ false) × (holdsForSome t l ≡ false)
-  first-fails = or-false (t a) (holdsForSome t l) (sym (some-scan t .cons a l) ∙ h)
-
-none-cons : {A : Type 0} (t : A → Bool) (a : A) (l : List A)
-    → t a ≡ false → holdsForSome t l ≡ false → holdsForSome t (a ∷ l) ≡ false
-none-cons t a l e h = some-scan t .cons a l ∙ rw (e, h)
-
 module _ (F : Field) where
   pub polynomials-ten : (fs : List WrittenFactor) → AllWhole fs
       → holdsForSome (fileDegreeOutOfRange F) fs ≡ false
@@ -109,7 +101,7 @@ module _ (F : Field) where
   unfolding holdsForSome
   polynomials-ten [] w h = refl
   polynomials-ten (f ∷ fs) w h =
-      let (e, k) = first-fails (fileDegreeOutOfRange F) f fs h in
+      let (e, k) = none-uncons (fileDegreeOutOfRange F) f fs h in
       none-cons (factorDegreeOutOfRange F) (polynomialOf f) (map polynomialOf fs)
       (polynomial-ten F f (w 0 (omega arith)) e)
       (polynomials-ten fs (whole-tail f fs w) k)
@@ -121,8 +113,8 @@ module _ (F : Field) where
   unfolding holdsForSome
   polynomials-eleven I [] w h i = refl
   polynomials-eleven I (f ∷ fs) w h i =
-      let (e, k) = first-fails (fileDegreeOutOfRange F) f fs h in
-      let (g, m) = first-fails (fileNotMonic F) f fs i in
+      let (e, k) = none-uncons (fileDegreeOutOfRange F) f fs h in
+      let (g, m) = none-uncons (fileNotMonic F) f fs i in
       none-cons (notMonic F) (polynomialOf f) (map polynomialOf fs)
       (polynomial-eleven F f (w 0 (omega arith)) e I g)
       (polynomials-eleven I fs (whole-tail f fs w) k m)
@@ -134,7 +126,7 @@ module _ (F : Field) where
   unfolding flatten
   polynomials-fit [] w h = omega arith
   polynomials-fit (f ∷ fs) w h =
-      let (e, k) = first-fails (fileDegreeOutOfRange F) f fs h in
+      let (e, k) = none-uncons (fileDegreeOutOfRange F) f fs h in
       let n = length-append (polynomialOf f) (flatten (map polynomialOf fs)) in
       let s = polynomial-short F f (w 0 (omega arith)) e in
       let m = polynomials-fit fs (whole-tail f fs w) k in
@@ -142,13 +134,13 @@ module _ (F : Field) where
 
 -- the bodies of the factors' records have 35 bytes
 pub factors-whole : (file : List ℕ)
-    → ((i : ℕ) → i < length (bodies 4 (recordsFrom file 0))
-    → length (getD (bodies 4 (recordsFrom file 0)) i []) ≡ bodyLength 4)
+    → ((i : ℕ) → i < length (bodiesIn file)
+    → length (getD (bodiesIn file) i []) ≡ bodyLength 4)
     → AllWhole (factorsIn file)
 unfolding fileFactor bodyLength orElse lookUp bodyLengths
 factors-whole file w i h =
-    let b = getD (bodies 4 (recordsFrom file 0)) i [] in
-    let n : i < length (bodies 4 (recordsFrom file 0)) = omega (arith, factors-count file) in
+    let b = getD (bodiesIn file) i [] in
+    let n : i < length (bodiesIn file) = omega (arith, factors-count file) in
     ap (λ (f : WrittenFactor). length (f .coefficients)) (factor-body file i b refl)
     ∙ length-drop 3 b
     ∙ ap (λ (m : ℕ). m - 3) (w i n)

@@ -1,4 +1,4 @@
--- `reducibility::reducible` meets its contract: a factor that 6, 10 or 11 turns down is not asked.
+-- `lists::reducible` meets its contract: a factor that 6, 10 or 11 turns down is not asked.
 -- Assumes nothing.
 use mathlib.Core.Path.{_≡_, sym, ap, _∙_}
 use mathlib.Core.Bool.{false, not}
@@ -7,8 +7,8 @@ use borrow.Author.Needs.{needs}
 use Rattle.meaning.specs.Field.{prime}
 use Rattle.meaning.specs.Conditions.{notPrime, factorDegreeOutOfRange, notMonic}
 use Rattle.bridge.proofs.Irreducibles.{reducible-asked, unasked-by-six, unasked-by-ten, unasked-by-eleven}
-use Rattle.conditions.proofs.reducibility.reducible.Statement.{statement}
-use Rattle.conditions.proofs.reducibility.reducible.Tie as tie
+use Rattle.conditions.proofs.lists.reducible.Statement.{statement}
+use Rattle.conditions.proofs.lists.reducible.Tie as tie
 
 abbrev at-1 : tie.Else1 → tie.Start
 at-1 c = c .before .before .before
