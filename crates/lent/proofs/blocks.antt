@@ -1,2 +1,3 @@
 pub mod Cycles
 pub mod Summing
+pub mod Stored

@@ -1,21 +1,22 @@
-// The sums of an action on a period, for as many places of it as there are sums. Assumes a well-formed field.
+// A block of the action of a polynomial on a period, at most 256 places of it. The products are added up in
+// sums on the stack, and each value is stored once. Assumes a well-formed field.
 ghost use mathlib.Core.Path.{_≡_};
 ghost use Prim.Native.Nat.{_+_, _%_, _≤_, _<_};
 ghost use lib.ListN.{length, replicate};
 ghost use Rattle.meaning.specs.Sequence.{cut, periodic};
-ghost use Rattle.bridge.proofs.Actions.{actStride};
 ghost use Rattle.arith.specs.Represented.{fieldOf, WellFormed};
 ghost use Rattle.arith.specs.sums.Sums.{Room, elementsOf, ProductsAdded};
+ghost use Rattle.lent.specs.blocks.Blocks.{blockOnPeriod, Block, BlockActed};
+use crate::smaller;
 use arith::GaloisField;
-use lent::smaller;
 
 // The place `step` places after `at` in a period of n terms.
 fn advance(at: usize, step: usize, n: usize) -> usize
-    requires { ⌜ (at < n) × (step < n) × (n ≤ 4096) ⌝ }
+    requires { ⌜ (at < n) × (step < n) ⌝ }
     ensures { λ r. ⌜ r ≡ (at + step) % n ⌝ }
 {
-    let next = at + step;
-    if next < n { next } else { next - n }
+    let left = n - at;
+    if step < left { at + step } else { step - left }
 }
 
 // Adds c·s to the sums, s being the terms of the period ts from the place `at` on. Answers the room that is
@@ -34,14 +35,12 @@ fn add_cyclic(field: GaloisField, sums: &mut [u16], room: u16, c: u8, ts: &[u8],
 
 // Leaves in the sums, which are 0, the action of f with the stride `step` on the period ts, from the place i
 // on.
-pub fn sum_up(field: GaloisField, sums: &mut [u16], ts: &[u8], i: usize, f: &[u8], step: usize)
+fn sum_up(field: GaloisField, sums: &mut [u16], ts: &[u8], i: usize, f: &[u8], step: usize)
     requires { ⌜ WellFormed field ⌝ }
     requires { ⌜ now sums ≡ replicate (length (now sums)) 0 ⌝ }
-    requires { ⌜ (i < length (now ts)) × (length (now sums) ≤ length (now ts)) × (step < length (now ts)) ×
-        (length (now ts) ≤ 4096) ⌝ }
-    ensures { λ _. ⌜ elementsOf field (now (sums .exit)) ≡ cut
-        (actStride (fieldOf field) (now (f .entry)) step (periodic (now (ts .entry)))) i
-        (length (now (sums .entry))) ⌝ }
+    requires { ⌜ (i < length (now ts)) × (length (now sums) ≤ length (now ts)) × (step < length (now ts)) ⌝ }
+    ensures { λ _. ⌜ elementsOf field (now (sums .exit)) ≡ blockOnPeriod (fieldOf field) (now (f .entry)) step
+        (now (ts .entry)) i (length (now (sums .entry))) ⌝ }
 {
     // sums + the action of the coefficients from j on at the place `at` is the whole action
     let mut room = arith::sums::ALL_ROOM;
@@ -50,4 +49,27 @@ pub fn sum_up(field: GaloisField, sums: &mut [u16], ts: &[u8], i: usize, f: &[u8
         room = add_cyclic(field, sums, room, f[j], ts, at);
         at = advance(at, step, ts.len());
     }
+}
+
+// Acts with f and the stride q on the n numbers of w from `from` on as a period, and leaves the m values from
+// the place i on in w from `to` on, and all other bytes as they were. Answers whether these values are all 0.
+pub fn act_block(
+    field: GaloisField,
+    w: &mut [u8],
+    from: usize,
+    n: usize,
+    i: usize,
+    f: &[u8],
+    q: usize,
+    to: usize,
+    m: usize,
+) -> bool
+    requires { ⌜ WellFormed field ⌝ }
+    requires { ⌜ Block (now w) from n i to m ⌝ }
+    ensures { λ r. ⌜ BlockActed (fieldOf field) (now (w .entry)) from n i (now (f .entry)) q to m
+        (now (w .exit)) r ⌝ }
+{
+    let mut sums = [0u16; 256];
+    sum_up(field, &mut sums[0..m], &w[from..from + n], i, f, q % n);
+    arith::sums::store(field, &sums[0..m], &mut w[to..to + m])
 }
