@@ -1,9 +1,9 @@
 -- On accepted input no refusal holds, and the ways answer.
 --
 --   AcceptedTerms     == terms that 7 and 8 do not turn down
---   Passes            == one factor that 6, 10, 11, 12 and 14 do not turn down
 --   count-accepted, terms-accepted, … == what it says that a condition does not hold
 --   rated-power       == the power and the repeat bound of an answer with a power
+--   accepts-free      == the table of the free way passes accepted terms and lent bytes
 --   set-answer, portion-answer, period-answer == the answer of the way on accepted factors, terms and lent
 --                        bytes, from the powers that are found
 -- Assumes nothing.
@@ -28,8 +28,9 @@ use Rattle.meaning.specs.Power.{PowerFigures, powerRating, repeatBound}
 use Rattle.meaning.specs.Period.{periodPower, periodTable, periodAnswer, ratePeriod}
 use Rattle.meaning.specs.Portion.{setPowers, setRating, setTable, setAnswer, rateSet}
 use Rattle.meaning.specs.Portion.{factorTable, acceptedFactors, leastAt, portionTable, ratePortion}
-use Rattle.meaning.proofs.Tables.{NoneHolds, none-holds}
-use Rattle.meaning.proofs.ZeroPeriod.{of-one}
+use Rattle.meaning.specs.Free.{freeTable}
+use Rattle.meaning.proofs.Tables.{of-one}
+use Rattle.meaning.proofs.Passes.{Passes, _&_, nothing, accepted-passes}
 use Rattle.bridge.proofs.Searches.{T-false, T-not-false, answered-settle, bind-some, mapOption-some}
 use Rattle.bridge.proofs.Searches.{false-T, not-false, or-false, some-bind, some-mapOption}
 use Rattle.bridge.proofs.Products.{factorsOf-named, length-named}
@@ -72,14 +73,6 @@ pub annihilated-pass :
     → not (annihilatesKnown (prime p) g ts) ≡ false
 annihilated-pass p g ts h = T-not-false (annihilatesKnown (prime p) g ts) h
 
--- 9 passes accepted factors
-pub accepted-count :
-    (p : ℕ) (fs : List Polynomial) (vs : List ℕ)
-    → T (acceptedFactors p fs vs)
-    → factorCountOutOfRange (length fs) ≡ false
-unfolding acceptedFactors factorTable
-accepted-count p fs vs h = none-holds (factorTable p fs vs) h .1 .0
-
 -- What it says that a condition does not hold
 pub count-accepted : (n : ℕ) → countOutOfRange n ≡ false → (1 ≤ n) × (n ≤ 4096)
 unfolding countOutOfRange
@@ -111,6 +104,21 @@ total-accepted l h =
     let b : ¬ (4096 < totalDegree l) = λ k. false-T (z .1) (lt→ltb 4096 (totalDegree l) k) in
     omega arith
 
+-- THE FREE WAY
+pub accepts-free :
+    (p : ℕ) (ts : List ℕ) (answer work : ℕ)
+    → T (primeInRange p)
+    → AcceptedTerms p ts
+    → T (acceptedLent answer work)
+    → Passes (freeTable p ts answer work)
+unfolding freeTable notPrime
+accepts-free p ts answer work h t lent =
+    T-not-false (primeInRange p) h
+    & count-passes p ts t
+    & terms-pass p ts t
+    & lent-pass answer work lent
+    & nothing
+
 -- THE SET WAY
 module _
     (p : ℕ) (fs : List Polynomial) (vs ts : List ℕ) (answer work : ℕ)
@@ -119,12 +127,8 @@ module _
     (enough : totalDegree (named fs vs) ≤ length ts)
     (annihilated : T (annihilatesKnown (prime p) (product (prime p) (named fs vs)) ts))
   where
-    none-of-factors : NoneHolds (factorTable p fs vs)
-    unfolding acceptedFactors
-    none-of-factors = none-holds (factorTable p fs vs) factors
-
-    none-of-set :
-        NoneHolds
+    set-passes :
+        Passes
         (setTable p
         (holdsForSome (factorDegreeOutOfRange (prime p)) fs)
         (holdsForSome (notMonic (prime p)) fs)
@@ -133,69 +137,30 @@ module _
         answer
         work)
     unfolding setTable factorTable
-    none-of-set =
-        let n = none-of-factors in (
-          n .0,
-          (
-            count-passes p ts t,
-            (
-              terms-pass p ts t,
-              (
-                ap factorCountOutOfRange (length-named fs vs) ∙ n .1 .0,
-                (
-                  n .1 .1 .0,
-                  (
-                    n .1 .1 .1 .0,
-                    (
-                      ap (holdsForSome (isReducible p)) (factorsOf-named fs vs) ∙ n .1 .1 .1 .1 .0,
-                      (
-                        ap twoEqual (factorsOf-named fs vs) ∙ n .1 .1 .1 .1 .1 .0,
-                        (
-                          n .1 .1 .1 .1 .1 .1 .0,
-                          (
-                            enough-pass (totalDegree (named fs vs)) ts enough,
-                            (
-                              lent-pass answer work lent,
-                              (annihilated-pass p (product (prime p) (named fs vs)) ts annihilated, tt),
-                            ),
-                          ),
-                        ),
-                      ),
-                    ),
-                  ),
-                ),
-              ),
-            ),
-          ),
-        )
+    set-passes =
+        let x = accepted-passes p fs vs factors in
+        x .fieldExists
+        & count-passes p ts t
+        & terms-pass p ts t
+        & ap factorCountOutOfRange (length-named fs vs) ∙ x .factorCount
+        & x .degreesInRange
+        & x .monic
+        & ap (holdsForSome (isReducible p)) (factorsOf-named fs vs) ∙ x .irreducible
+        & ap twoEqual (factorsOf-named fs vs) ∙ x .different
+        & x .uppersInRange
+        & enough-pass (totalDegree (named fs vs)) ts enough
+        & lent-pass answer work lent
+        & annihilated-pass p (product (prime p) (named fs vs)) ts annihilated
+        & nothing
 
     pub set-answer :
         (rs : List ℕ)
         → setPowers (prime p) (named fs vs) ts ≡ some rs
         → rateSet p fs vs ts answer work ≡ answered (setRating (prime p) (named fs vs) rs)
     unfolding rateSet setAnswer
-    set-answer rs e = answered-settle _ _ none-of-set (mapOption-some (setRating (prime p) (named fs vs)) e)
+    set-answer rs e = answered-settle _ _ set-passes (mapOption-some (setRating (prime p) (named fs vs)) e)
 
--- ONE FACTOR: what a list of one factor says of it
-pub record Passes (p : ℕ) (f : Polynomial) (vs : List ℕ) : Type 0 where
-  pub six : notPrime p ≡ false
-  pub ten : factorDegreeOutOfRange (prime p) f ≡ false
-  pub eleven : notMonic (prime p) f ≡ false
-  pub twelve : isReducible p f ≡ false
-  pub fourteen : upperPowersOutOfRange (named (f ∷ []) vs) ≡ false
-
-pub one-passes : (p : ℕ) (f : Polynomial) (vs : List ℕ) → T (acceptedFactors p (f ∷ []) vs) → Passes p f vs
-unfolding acceptedFactors factorTable
-one-passes p f vs h =
-    let n = none-holds (factorTable p (f ∷ []) vs) h in
-    record {
-      six = n .0;
-      ten = of-one (factorDegreeOutOfRange (prime p)) f (n .1 .1 .0);
-      eleven = of-one (notMonic (prime p)) f (n .1 .1 .1 .0);
-      twelve = of-one (isReducible p) f (n .1 .1 .1 .1 .0);
-      fourteen = n .1 .1 .1 .1 .1 .1 .0;
-    }
-
+-- ONE FACTOR
 -- the answer with a power, where the repeat bound is known
 unfoldable pub rating-of : (p : ℕ) (f : Polynomial) (r b : ℕ) → Rated PowerFigures
 rating-of p f r b =
@@ -243,37 +208,21 @@ pub portion-answer :
     → leastAt (prime p) ((f, v) ∷ []) ts 0 ≡ some r
     → repeatBound (prime p) f r ≡ some b
     → ratePortion p f v ts answer work ≡ answered (rating-of p f r b)
-unfolding ratePortion portionTable named
+unfolding ratePortion portionTable factorTable named
 portion-answer p f v ts answer work r b h t lent enough annihilated found bound =
-    let x = one-passes p f (v ∷ []) h in
-    answered-settle _ _ (
-      x .six,
-      (
-        count-passes p ts t,
-        (
-          terms-pass p ts t,
-          (
-            x .ten,
-            (
-              x .eleven,
-              (
-                x .twelve,
-                (
-                  x .fourteen,
-                  (
-                    enough-pass (totalDegree ((f, v) ∷ [])) ts enough,
-                    (
-                      lent-pass answer work lent,
-                      (annihilated-pass p (product (prime p) ((f, v) ∷ [])) ts annihilated, tt),
-                    ),
-                  ),
-                ),
-              ),
-            ),
-          ),
-        ),
-      ),
-    )
+    let x = accepted-passes p (f ∷ []) (v ∷ []) h in
+    answered-settle _ _
+    (x .fieldExists
+    & count-passes p ts t
+    & terms-pass p ts t
+    & of-one _ f (x .degreesInRange)
+    & of-one _ f (x .monic)
+    & of-one _ f (x .irreducible)
+    & x .uppersInRange
+    & enough-pass (totalDegree ((f, v) ∷ [])) ts enough
+    & lent-pass answer work lent
+    & annihilated-pass p (product (prime p) ((f, v) ∷ [])) ts annihilated
+    & nothing)
     (bind-some (powerRating (prime p) f) found ∙ power-rated p f r b bound)
 
 -- THE PERIOD WAY
@@ -285,17 +234,17 @@ pub period-answer :
     → periodPower (prime p) f ts ≡ some r
     → repeatBound (prime p) f r ≡ some b
     → ratePeriod p f ts answer work ≡ answered (rating-of p f r b)
-unfolding ratePeriod periodAnswer periodTable isNone
+unfolding ratePeriod periodAnswer periodTable factorTable isNone
 period-answer p f ts answer work r b vs h t lent found bound =
-    let x = one-passes p f vs h in
-    answered-settle _ _ (
-      x .six,
-      (
-        count-passes p ts t,
-        (
-          terms-pass p ts t,
-          (x .ten, (x .eleven, (x .twelve, (lent-pass answer work lent, (ap isNone found, tt))))),
-        ),
-      ),
-    )
+    let x = accepted-passes p (f ∷ []) vs h in
+    answered-settle _ _
+    (x .fieldExists
+    & count-passes p ts t
+    & terms-pass p ts t
+    & of-one _ f (x .degreesInRange)
+    & of-one _ f (x .monic)
+    & of-one _ f (x .irreducible)
+    & lent-pass answer work lent
+    & ap isNone found
+    & nothing)
     (bind-some (powerRating (prime p) f) found ∙ power-rated p f r b bound)

@@ -31,7 +31,7 @@ use Rattle.meaning.specs.Route.{suits, modeUnsuited, records, factorUpper}
 use Rattle.meaning.specs.File.{WrittenFactor, fileFactor, polynomialOf, termsOf, powers, FileFigures}
 use Rattle.meaning.specs.File.{fileAnswer, ofPeriod, ofSet, ofFree, freeLabel, rateMode, rateRecords}
 use Rattle.meaning.specs.File.{rateFile, FileChosenFits}
-use Rattle.meaning.proofs.Tables.{NoneHolds}
+use Rattle.meaning.proofs.Passes.{Passes}
 use Rattle.bridge.proofs.Searches.{settle-answered, map-answered, some-bind, some-mapOption, not-false}
 use Rattle.bridge.proofs.Searches.{T-and, never-answered}
 use Rattle.bridge.proofs.Interpretation.{inRange-isField}
@@ -66,7 +66,7 @@ period-size p ten eleven f ts answer work l e =
     let (h, v) = settle-answered _ (periodTable p ten eleven f ts answer work) e in
     let (r, _, u) = some-bind (periodPower (prime p) f ts) (powerRating (prime p) f) v in
     let (_, _, q) = some-mapOption _ (repeatBound (prime p) f r) u in
-    let I = inRange-isField p (prime-accepted p (h .0)) in
+    let I = inRange-isField p (prime-accepted p (h .fieldExists)) in
     subst (λ b. length (b .polynomial) ≡ suc (b .figures .degree)) q
     (degree-length (power (prime p) f r) (power-nonempty I f r l))
 
@@ -80,7 +80,7 @@ unfolding setAnswer setTable setRating
 set-size p ten eleven l ts answer work n e =
     let (h, v) = settle-answered _ (setTable p ten eleven l ts answer work) e in
     let (rs, _, q) = some-mapOption _ (setPowers (prime p) l ts) v in
-    let I = inRange-isField p (prime-accepted p (h .0)) in
+    let I = inRange-isField p (prime-accepted p (h .fieldExists)) in
     subst (λ b. length (b .polynomial) ≡ suc (b .figures .degree)) q
     (degree-length (product (prime p) (named (factorsOf l) rs))
     (product-nonempty I (named (factorsOf l) rs) (named-nonempty rs)))
@@ -113,7 +113,7 @@ free-size pick p ts answer work chosen {b} e =
 
     by-fitting :
         (g : Polynomial)
-        → NoneHolds (freeTable p ts answer work)
+        → Passes (freeTable p ts answer work)
         → leastDegree (prime p) ts ≡ some L
         → Fits (prime p) ts L g
         → (isUnique ts L ≡ false → pick p ts ≡ g)
@@ -124,16 +124,16 @@ free-size pick p ts answer work chosen {b} e =
         ap length s ∙ fits-size p x
 
     go :
-        NoneHolds (freeTable p ts answer work)
+        Passes (freeTable p ts answer work)
         → leastDegree (prime p) ts ≡ some L
         → (u : Bool)
         → isUnique ts L ≡ u
         → length (b .polynomial) ≡ suc L
     go h l true u =
-        let least = leastDegree-least (inRange-isField p (prime-accepted p (h .0))) l in
+        let least = leastDegree-least (inRange-isField p (prime-accepted p (h .fieldExists))) l in
         by-fitting (least .fitting) h l (least .fits) (λ z. absurd (true≢false (sym u ∙ z)))
     go h l false u =
-        by-fitting (pick p ts) h l (chosen (h .0) (h .1 .0) (h .1 .1 .0) L l u) (λ _. refl)
+        by-fitting (pick p ts) h l (chosen (h .fieldExists) (h .countInRange) (h .termsInField) L l u) (λ _. refl)
 
 -- THE MODES
 pub period-map :

@@ -12,7 +12,7 @@
 --   isUnique-le, le-isUnique, gt-isUnique == the word `one` in words
 --   polynomial-one, polynomial-some == the polynomial of the free way: under `one` the list that fits, under
 --                     `some` the choice
---   free-accepts, accepts-free == what no refusal of the free way means, and what suffices for it
+--   free-prime     == p is a prime where the table of the free way passes it
 --   free-answer    == the answer of the free way, from the least degree and a list that fits with it
 --   free-rated     == what an answer of the free way says
 --   stretch-fits, stretch-least == where a list with a constant term other than 0 annihilates an endless
@@ -24,29 +24,28 @@
 use Prim.Native.Nat.{ℕ, _*_, _≤_, _<_}
 use mathlib.Core.Path.{_≡_, refl, sym, ap, subst, _∙_}
 use mathlib.Core.Logic.{_≢_}
-use mathlib.Core.Bool.{Bool, true, false, _||_}
+use mathlib.Core.Bool.{Bool, true, false}
 use mathlib.Core.List.{List, _∷_, List·Memᴰ, List·Memᴰ·head, List·Memᴰ·tail}
 use mathlib.Core.Option.{Option, some}
 use native.Mathlib.Nat as ℕ
 use native.Mathlib.Decide.{decLt}
 use native.Mathlib.Omega.{arith}
 use lib.ListN.{length, getD}
-use lib.Dec.{T, eqb, leb→le, le→leb, ltb→lt, eqb→eq, T-not}
+use lib.Dec.{T, leb→le, le→leb}
 use Rattle.meaning.specs.Search.{firstThat}
 use Rattle.meaning.specs.Field.{Field, prime, primeInRange, areElements}
 use Rattle.meaning.specs.Polynomial.{Polynomial, degree, isMonicOver, monics}
 use Rattle.meaning.specs.Sequence.{Sequence, known, annihilatesKnown, cut, AnnihilatesEndless}
 use Rattle.meaning.specs.Sequence.{MinimalPolynomial}
 use Rattle.meaning.specs.Result.{Result, answered, Rated}
-use Rattle.meaning.specs.Conditions.{notPrime, countOutOfRange, termOutOfField, lentTooShort, acceptedLent}
 use Rattle.meaning.specs.Free.{fitsDegree, leastDegree, Fits, IsLeastDegree, isUnique, FreeFigures, Choice}
 use Rattle.meaning.specs.Free.{freePolynomial, freeRating, freeTable, rateFree}
-use Rattle.meaning.proofs.Tables.{NoneHolds}
+use Rattle.meaning.proofs.Passes.{Passes}
 use Rattle.algebra.proofs.Polynomial.{coefficient}
 use Rattle.algebra.proofs.Action.{Agree}
 use Rattle.algebra.proofs.Cut.{cut as algebra-cut, coprime-x}
 use Rattle.algebra.proofs.Massey.{Fits as AlgebraFits, LeastFit, least-fit-unique, stretch-least-fit}
-use Rattle.bridge.proofs.Searches.{T-true, true-T, T-false, false-T, T-decided, not-false, T-not-false}
+use Rattle.bridge.proofs.Searches.{T-true, true-T, T-false, false-T, T-decided}
 use Rattle.bridge.proofs.Searches.{least-some, least-found, least-exists, bind-some, some-bind}
 use Rattle.bridge.proofs.Searches.{mapOption-some, some-mapOption, answered-settle, settle-answered}
 use Rattle.bridge.proofs.Interpretation.{IsField, inRange-isField, element-nonzero}
@@ -57,6 +56,7 @@ use Rattle.bridge.proofs.Monics.{monic-monics, monics-monic}
 use Rattle.bridge.proofs.Actions.{sequence, known-fits, fits-known, places-known, length-cut}
 use Rattle.bridge.proofs.Actions.{known-cut, endless-kills, endless-known}
 use Rattle.bridge.proofs.Minimal.{minimal-algebra}
+use Rattle.bridge.proofs.Accepted.{prime-accepted}
 
 -- A list that fits, as a polynomial
 module _ {F : Field} (I : IsField F) where
@@ -270,37 +270,15 @@ pub polynomial-some :
 unfolding freePolynomial
 polynomial-some pick p ts L u = rw (u, freePolynomial)
 
--- The refusals of the free way
-neither : {b c : Bool} → b ≡ false → c ≡ false → (b || c) ≡ false
-neither {c = c} e f = ap (λ x. x || c) e ∙ f
-
+-- The answer of the free way
 module _ (p : ℕ) (ts : List ℕ) (answer work : ℕ) where
-  pub free-accepts :
-      NoneHolds (freeTable p ts answer work) → T (primeInRange p) × T (areElements (prime p) ts)
-  unfolding freeTable notPrime termOutOfField
-  free-accepts (a, (_, (c, _))) = (not-false (primeInRange p) a, not-false (areElements (prime p) ts) c)
+  pub free-prime : Passes (freeTable p ts answer work) → T (primeInRange p)
+  unfolding freeTable
+  free-prime h = prime-accepted p (h .fieldExists)
 
-  pub accepts-free :
-      T (primeInRange p)
-      → 1 ≤ length ts
-      → length ts ≤ 4096
-      → T (areElements (prime p) ts)
-      → T (acceptedLent answer work)
-      → NoneHolds (freeTable p ts answer work)
-  unfolding freeTable notPrime termOutOfField countOutOfRange acceptedLent
-  accepts-free a l k c d = (
-    T-not-false (primeInRange p) a,
-    (
-      neither (T-false {b = eqb (length ts) 0} (λ z. omega (arith, eqb→eq (length ts) 0 z)))
-          (T-false (λ z. omega (arith, ltb→lt 4096 (length ts) z))),
-      (T-not-false (areElements (prime p) ts) c, (T-false (T-not (lentTooShort answer work) d), tt)),
-    ),
-  )
-
-  -- The answer
   pub free-answer :
       (pick : Choice) {L : ℕ} {g : Polynomial}
-      → NoneHolds (freeTable p ts answer work)
+      → Passes (freeTable p ts answer work)
       → leastDegree (prime p) ts ≡ some L
       → Fits (prime p) ts L g
       → (isUnique ts L ≡ false → pick p ts ≡ g)
@@ -312,7 +290,7 @@ module _ (p : ℕ) (ts : List ℕ) (answer work : ℕ) where
       (bind-some (freeRating pick p ts) e ∙ mapOption-some _ (chosen (isUnique ts L) refl))
     where
       I : IsField (prime p)
-      I = inRange-isField p (free-accepts h .0)
+      I = inRange-isField p (free-prime h)
 
       chosen : (u : Bool) → isUnique ts L ≡ u → freePolynomial pick p ts L ≡ some g
       chosen true u = polynomial-one p I pick (leastDegree-least I e) u x
@@ -321,7 +299,7 @@ module _ (p : ℕ) (ts : List ℕ) (answer work : ℕ) where
   pub free-rated :
       (pick : Choice) {b : Rated FreeFigures}
       → rateFree pick p ts answer work ≡ answered b
-      → NoneHolds (freeTable p ts answer work)
+      → Passes (freeTable p ts answer work)
       × (leastDegree (prime p) ts ≡ some (b .figures .degree))
       × (b .figures .unique ≡ isUnique ts (b .figures .degree))
   unfolding rateFree freeRating
@@ -378,7 +356,7 @@ pub stretch-answer :
     → (k m : ℕ)
     → 2 * degree g ≤ m
     → (answer work : ℕ) (pick : Choice)
-    → NoneHolds (freeTable p (cut s k m) answer work)
+    → Passes (freeTable p (cut s k m) answer work)
     → rateFree pick p (cut s k m) answer work
     ≡ answered (record { figures = record { degree = degree g; unique = true }; polynomial = g })
 stretch-answer p f g s h o z x k m l answer work pick a =
@@ -388,7 +366,7 @@ stretch-answer p f g s h o z x k m l answer work pick a =
     ∙ ap rating unique
   where
     I : IsField (prime p)
-    I = inRange-isField p (free-accepts p (cut s k m) answer work a .0)
+    I = inRange-isField p (free-prime p (cut s k m) answer work a)
 
     least : IsLeastDegree (prime p) (cut s k m) (degree g)
     least = stretch-least I f g s h o z x k m l

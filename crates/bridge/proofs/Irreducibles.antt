@@ -35,10 +35,10 @@ use Rattle.meaning.specs.Field.{Field, areElements, prime, primeInRange}
 use Rattle.meaning.specs.Polynomial.{Polynomial, degree, isMonicOver, plus, scale, times, monics, same}
 use Rattle.meaning.specs.Polynomial.{hasFactorOf, leading, irreducible, NotAProduct}
 use Rattle.meaning.specs.Power.{isX}
-use Rattle.meaning.specs.Conditions.{factorDegreeOutOfRange, degreeOutOfRange, notPrime, notMonic, named}
-use Rattle.meaning.specs.Conditions.{upperPowersOutOfRange, isAsked, isReducible, twoEqual}
+use Rattle.meaning.specs.Conditions.{factorDegreeOutOfRange, degreeOutOfRange, notPrime, notMonic}
+use Rattle.meaning.specs.Conditions.{isAsked, isReducible, twoEqual}
 use Rattle.meaning.specs.Portion.{factorsOf, factorTable, acceptedFactors}
-use Rattle.meaning.proofs.Tables.{NoneHolds, none-holds}
+use Rattle.meaning.proofs.Passes.{accepted-passes}
 use Rattle.algebra.proofs.Ring.{Ring, zero-add}
 use Rattle.algebra.proofs.Polynomial.{X, constant, constant-polynomial-hom}
 use Rattle.algebra.proofs.Irreducible.{Reducible, Irreducible, irreducible-degrees, irreducible-constant-term}
@@ -58,6 +58,7 @@ use Rattle.bridge.proofs.Polynomials.{elements-uncons, poly-nil}
 use Rattle.bridge.proofs.Products.{times-comm, accepted-monic, MonicFactors, factorAt-factorsOf, polys}
 use Rattle.bridge.proofs.Products.{length-factorsOf}
 use Rattle.bridge.proofs.Monics.{some-monics, monics-some}
+use Rattle.bridge.proofs.Accepted.{prime-accepted}
 
 module _ (F : Field) where
   pub record Factorisation (f : Polynomial) : Type 0 where
@@ -468,6 +469,15 @@ unfolding degreeOutOfRange
 degree-passed F zero h = absurd (false-T h tt)
 degree-passed F (suc n) h = omega arith
 
+-- 10 of a list that is not empty
+pub list-degree :
+    (F : Field) (f : List ℕ)
+    → (length f ≡ 0 → ⊥)
+    → degreeOutOfRange F (length f - 1) ≡ factorDegreeOutOfRange F f
+unfolding factorDegreeOutOfRange degree
+list-degree F [] h = absurd (h refl)
+list-degree F (c ∷ f) h = refl
+
 pub accepted-degree :
     (F : Field) (f : Polynomial) → 0 < length f → factorDegreeOutOfRange F f ≡ false → 1 ≤ degree f
 unfolding factorDegreeOutOfRange
@@ -564,27 +574,15 @@ single-factor F f m l i =
 
 -- the factors that `acceptedFactors` accepts
 module _ (p : ℕ) (fs : List Polynomial) (us : List ℕ) (accepted : T (acceptedFactors p fs us)) where
-  none-of-table : NoneHolds (factorTable p fs us)
-  unfolding acceptedFactors
-  none-of-table = none-holds (factorTable p fs us) accepted
-
   pub accepted-prime : T (primeInRange p)
-  unfolding factorTable notPrime
-  accepted-prime = not-false (primeInRange p) (none-of-table .0)
+  unfolding factorTable
+  accepted-prime = prime-accepted p (accepted-passes p fs us accepted .fieldExists)
 
   pub accepted-different : Factors (prime p) fs
   unfolding factorTable
   accepted-different =
-      accepted-factors p fs
-      (none-of-table .0)
-      (none-of-table .1 .1 .0)
-      (none-of-table .1 .1 .1 .0)
-      (none-of-table .1 .1 .1 .1 .0)
-      (none-of-table .1 .1 .1 .1 .1 .0)
-
-  pub accepted-uppers : upperPowersOutOfRange (named fs us) ≡ false
-  unfolding factorTable
-  accepted-uppers = none-of-table .1 .1 .1 .1 .1 .1 .0
+      let x = accepted-passes p fs us accepted in
+      accepted-factors p fs (x .fieldExists) (x .degreesInRange) (x .monic) (x .irreducible) (x .different)
 
 module _ {F : Field} (I : IsField F) where
   pub factors-atoms :

@@ -30,7 +30,7 @@ use Rattle.meaning.specs.Result.{answered}
 use Rattle.meaning.specs.Conditions.{notPrime}
 use Rattle.meaning.specs.Free.{leastDegree, Fits, isUnique, Choice, ChosenFits, freeTable}
 use Rattle.meaning.specs.Free.{rateFree}
-use Rattle.meaning.proofs.Tables.{NoneHolds}
+use Rattle.meaning.proofs.Passes.{Passes}
 use Rattle.algebra.proofs.Ring.{Ring, inverse-unique, add-right-comm, neg-mul}
 use Rattle.algebra.proofs.Power.{power, power-zero, power-suc-left, power-add}
 use Rattle.algebra.proofs.Solver.{solve, _:=_, _:+_, _:*_, :-_, :0, :1}
@@ -49,7 +49,7 @@ use Rattle.bridge.proofs.Polynomials.{elements-getD, getD-elements}
 use Rattle.bridge.proofs.Polynomials.{length-degree, leading-length, leading-monic}
 use Rattle.bridge.proofs.Actions.{sequence, element-act}
 use Rattle.bridge.proofs.Actions.{known-getD}
-use Rattle.bridge.proofs.Fitting.{algebra-fits, fit-least, least-leastDegree, free-accepts}
+use Rattle.bridge.proofs.Fitting.{algebra-fits, fit-least, least-leastDegree, free-prime}
 use Rattle.bridge.proofs.Fitting.{free-answer}
 use Rattle.bridge.proofs.Padding.{pad, getD-pad, length-pad, pad-split}
 use Rattle.bridge.proofs.MasseySteps.{MasseyState, polynomialOf, discrepancy, correction, kept}
@@ -425,7 +425,7 @@ module _ (inverse : Field → ℕ → ℕ) (v : InvertsPrimes inverse) (p : ℕ)
 
   pub massey-answer :
       (answer work : ℕ)
-      → NoneHolds (freeTable p ts answer work)
+      → Passes (freeTable p ts answer work)
       → rateFree (masseyChoice inverse) p ts answer work
       ≡ answered
       (record {
@@ -437,7 +437,7 @@ module _ (inverse : Field → ℕ → ℕ) (v : InvertsPrimes inverse) (p : ℕ)
       })
   unfolding masseyChoice
   massey-answer answer work h =
-      let q = free-accepts p ts answer work h .0 in
+      let q = free-prime p ts answer work h in
       let I = inRange-isField p q in
       free-answer p ts answer work (masseyChoice inverse) h
       (massey-least I (inverse (prime p)) (v p q) ts)

@@ -35,13 +35,14 @@ use Rattle.meaning.specs.Polynomial.{Polynomial, degree, isMonicOver, times, po
 use Rattle.meaning.specs.Sequence.{AnnihilatesEndless, annihilatesKnown, annihilatesPeriod, periodic, known}
 use Rattle.meaning.specs.Sequence.{cut, MinimalPolynomial, LeastPower}
 use Rattle.meaning.specs.Period.{periodPower, NoPower}
+use Rattle.meaning.proofs.Tables.{isNone-none}
 use Rattle.algebra.proofs.Power.{power as algebra-power}
 use Rattle.algebra.proofs.Action.{Kills}
 use Rattle.algebra.proofs.Cut.{Periodic}
 use Rattle.algebra.proofs.Period.{valuation-le, periodic-power, periodic-size}
 use Rattle.bridge.proofs.Searches.{T-same, T-decided, least-some, least-none, least-found}
 use Rattle.bridge.proofs.Searches.{least-missing, least-exists, least-narrower, least-same}
-use Rattle.bridge.proofs.Searches.{isNone-none, none-isNone}
+use Rattle.bridge.proofs.Searches.{none-isNone}
 use Rattle.bridge.proofs.Interpretation.{IsField, prime-characteristic-number, element-zero-only}
 use Rattle.bridge.proofs.Polynomials.{monic-elements, polyRing, poly, monic-nonempty, getD-below}
 use Rattle.bridge.proofs.Products.{poly-power, power-monic, power-add, degree-power}

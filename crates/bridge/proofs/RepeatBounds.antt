@@ -16,7 +16,7 @@ use Prim.Native.Nat.{ℕ, zero, suc, _+_, _*_, _-_, _^_, _/_, _%_, _≤_, _<_}
 use mathlib.Core.Path.{_≡_, refl, sym, ap, subst, _∙_}
 use mathlib.Core.Logic.{_⊎_, inl, inr}
 use mathlib.Core.Bool.{Bool, true, false, _||_}
-use mathlib.Core.List.{[], _∷_, List·Memᴰ·head}
+use mathlib.Core.List.{[], _∷_}
 use mathlib.Core.Option.{some, Option·some-injective}
 use native.Mathlib.Nat as ℕ
 use native.Mathlib.Decide.{decLe}
@@ -24,28 +24,26 @@ use native.Mathlib.Omega.{arith}
 use lib.ListN.{length}
 use lib.Pow.{pow-add}
 use lib.Dec.{T, leb, ltb, eqb, leb→le, le→leb, nltb→le, not-T}
-use Rattle.meaning.specs.Search.{least, mapOption, holdsForSome}
+use Rattle.meaning.specs.Search.{least, mapOption}
 use Rattle.meaning.specs.Field.{Field, prime}
 use Rattle.meaning.specs.Polynomial.{Polynomial, degree, isMonicOver, power, irreducible}
 use Rattle.meaning.specs.Sequence.{Sequence, InField, actAt, AnnihilatesEndless, LeastPeriod}
 use Rattle.meaning.specs.Conditions.{degreeOutOfRange, factorDegreeOutOfRange}
 use Rattle.meaning.specs.Power.{isX, repeatBound, BoundMeaning}
-use Rattle.meaning.specs.Portion.{acceptedFactors, factorTable}
-use Rattle.meaning.proofs.Tables.{none-holds}
-use Rattle.algebra.proofs.Number.{prime-pos, least-below}
+use Rattle.algebra.proofs.Number.{least-below}
 use Rattle.algebra.proofs.Power.{power as algebra-power}
 use Rattle.algebra.proofs.Polynomial.{X}
 use Rattle.algebra.proofs.Action.{Kills}
 use Rattle.algebra.proofs.Cut.{Periodic}
 use Rattle.algebra.proofs.Order.{LeastPeriod as AlgebraLeastPeriod, power-least-period, constant-least-period}
-use Rattle.bridge.proofs.Searches.{none-member, T-true, T-false, true-T, false-T, least-found}
+use Rattle.bridge.proofs.Searches.{T-true, true-T, false-T, least-found}
 use Rattle.bridge.proofs.Searches.{mapOption-some, some-mapOption, least-some, LeastPasses}
-use Rattle.bridge.proofs.Interpretation.{IsField, element-injective, elements, inRange-prime}
+use Rattle.bridge.proofs.Interpretation.{IsField, element-injective, elements}
 use Rattle.bridge.proofs.Interpretation.{prime-size, prime-characteristic-number}
-use Rattle.bridge.proofs.Polynomials.{monic-nonempty, polyRing, poly, poly-x, monic-equal}
+use Rattle.bridge.proofs.Polynomials.{polyRing, poly, poly-x, monic-equal}
 use Rattle.bridge.proofs.Products.{poly-power, power-zero-list}
 use Rattle.bridge.proofs.Actions.{sequence, endless-kills, actAt-one}
-use Rattle.bridge.proofs.Irreducibles.{accepted-prime, accepted-different, irreducible-poly, equal-isX}
+use Rattle.bridge.proofs.Irreducibles.{irreducible-poly, equal-isX}
 use Rattle.bridge.proofs.Irreducibles.{x-monic, accepted-degree}
 
 pub record Level (p r t : ℕ) : Type 0 where
@@ -320,30 +318,6 @@ prime-repeatBound-bits p f r b l c k =
     (subst (λ n. n ≤ 251) (sym (prime-characteristic-number p)) k)
     (subst (λ n. 0 < n) (sym (prime-size p)) c)
     (subst (λ n. n ≤ 251) (sym (prime-size p)) k)
-
--- for a factor that is accepted
-pub accepted-repeatBound-bits :
-    (p : ℕ) (f : Polynomial) (u r b : ℕ)
-    → T (acceptedFactors p (f ∷ []) (u ∷ []))
-    → r * degree f ≤ 4096
-    → repeatBound (prime p) f r ≡ some b
-    → b < 2 ^ 64
-unfolding acceptedFactors factorTable holdsForSome
-accepted-repeatBound-bits p f u r b h =
-    let (k, P) = inRange-prime p (accepted-prime p (f ∷ []) (u ∷ []) h) in
-    prime-repeatBound-bits p f r b nonempty (prime-pos P) k ten
-  where
-    nonempty : 0 < length f
-    nonempty =
-        monic-nonempty (prime p) f (accepted-different p (f ∷ []) (u ∷ []) h .monic 0 (omega arith))
-
-    ten : factorDegreeOutOfRange (prime p) f ≡ false
-    ten =
-        T-false
-        (λ z.
-        none-member (factorDegreeOutOfRange (prime p)) (f ∷ [])
-        (false-T (none-holds (factorTable p (f ∷ []) (u ∷ [])) h .1 .1 .0))
-        f (List·Memᴰ·head refl) z)
 
 pub prime-repeatBound-value :
     (p : ℕ) (f : Polynomial) {r t : ℕ}

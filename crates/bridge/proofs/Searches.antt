@@ -4,6 +4,7 @@
 --   T-same         == two tests that pass together are equal
 --   all-member, member-all   == a test passes on the whole of a list exactly where it passes on each member
 --   some-member, member-some == it passes on some element exactly where it passes on a member, given with it
+--   none-cons, none-uncons == no element passes: neither the first nor one of the others
 --   none-at        == a test that passes on no element fails at each place
 --   all-range, range-all, some-range, range-some == the same for a range, by its bounds; `-first` from 0 on
 --   least-some     == what `least` finds is the least number that passes, and at most the bound
@@ -11,8 +12,6 @@
 --   least-found, least-missing == the converses
 --   together-range == `together` of the answers of a range has each of the answers, in order
 --   settle-answered, answered-settle, settle-refused == what a settled table says of its conditions
---   FirstAt n table == a condition numbered n holds and those before it do not, as a tuple with a part for
---                     each; `firstOf-before`, `settle-before`: so it is where the table refuses by n
 --   map-answered, map-refused == what `mapResult` says of a result
 --   never-answered, refused-same, answered-same == a refusal is no answer, and each is by one number or value
 --
@@ -29,11 +28,11 @@ use mathlib.Core.List.{List, [], _∷_, map, List·Memᴰ, List·Memᴰ·head, L
 use mathlib.Core.List.{List·Nodup, Pairwise·nil, Pairwise·cons}
 use mathlib.Core.Option.{Option, none, some, Option·some-injective, Option·none-ne-some, Option·some-ne-none}
 use lib.ListN.{length, getD, length-map, List·getD-map}
-use lib.Dec.{T, eqb, eqb-refl}
+use lib.Dec.{T}
 use Rattle.meaning.specs.Search.{range, holdsForAll, holdsForSome, least, mapOption, bind, isNone, together}
 use Rattle.meaning.specs.Result.{Check, Result, refused, answered, firstOf, settle, valueOf, mapResult}
-use Rattle.meaning.proofs.Tables.{firstOf-skip, firstOf-stop, firstOf-none, NoneHolds, none-holds}
-use Rattle.meaning.proofs.Tables.{settle-none, least-zero}
+use Rattle.meaning.proofs.Tables.{firstOf-skip, firstOf-stop, settle-none, least-zero}
+use Rattle.meaning.proofs.Passes.{Passes, firstOf-passes, firstOf-decides, holds, before}
 use Rattle.algebra.proofs.Number.{Least}
 
 -- A test and its outcome
@@ -145,6 +144,15 @@ module _ {A : Type 0} (t : A → Bool) where
   member-some (b ∷ l) a (List·Memᴰ·head e) h = some-head b l (subst (λ c. T (t c)) e h)
   member-some (b ∷ l) a (List·Memᴰ·tail m) h = some-tail b l (member-some l a m h)
 
+  pub none-cons : (a : A) (l : List A) → t a ≡ false → holdsForSome t l ≡ false → holdsForSome t (a ∷ l) ≡ false
+  unfolding holdsForSome
+  none-cons a l e h = rw (e, holdsForSome) h
+
+  pub none-uncons : (a : A) (l : List A) → holdsForSome t (a ∷ l) ≡ false
+      → (t a ≡ false) × (holdsForSome t l ≡ false)
+  none-uncons a l h =
+      (T-false (λ z. false-T h (some-head a l z)), T-false (λ z. false-T h (some-tail a l z)))
+
   pub none-member : (l : List A) → ¬ T (holdsForSome t l) → (a : A) → List·Memᴰ a l → ¬ T (t a)
   none-member l h a m p = h (member-some l a m p)
 
@@ -247,11 +255,6 @@ module _ (t : ℕ → Bool) where
   first-all n h = range-all 0 n (λ i _ m. h i (omega arith))
 
 -- Options
-pub isNone-none : {A : Type 0} {o : Option A} → T (isNone o) → o ≡ none
-unfolding isNone
-isNone-none {o = none} h = refl
-isNone-none {o = some a} h = absurd h
-
 pub none-isNone : {A : Type 0} {o : Option A} → o ≡ none → T (isNone o)
 unfolding isNone
 none-isNone e = subst (λ o. T (isNone o)) (sym e) tt
@@ -488,9 +491,6 @@ module _ {A : Type 0} where
 
 -- Tables
 module _ {A : Type 0} (v : Unit {0} → Option A) where
-  pub settle-nil : settle [] v ≡ valueOf (v tt)
-  settle-nil = settle-none [] v (firstOf-none [] tt)
-
   pub settle-skip :
       (c : Check) (table : List Check) → (c .1) tt ≡ false → settle (c ∷ table) v ≡ settle table v
   unfolding settle
@@ -502,7 +502,7 @@ module _ {A : Type 0} (v : Unit {0} → Option A) where
   settle-stop c table e = rw (firstOf-stop c table e, settle)
 
   pub settle-answered :
-      (table : List Check) {a : A} → settle table v ≡ answered a → NoneHolds table × (v tt ≡ some a)
+      (table : List Check) {a : A} → settle table v ≡ answered a → Passes table × (v tt ≡ some a)
   unfolding settle valueOf
   settle-answered table {a} e = go (firstOf table) refl
     where
@@ -510,77 +510,35 @@ module _ {A : Type 0} (v : Unit {0} → Option A) where
       value none f = absurd (let z : _≡_ {A = ℕ} 0 1 = cc in omega arith)
       value (some b) f = cc
 
-      go : (o : Option ℕ) → firstOf table ≡ o → NoneHolds table × (v tt ≡ some a)
-      go none f = (none-holds table (none-isNone f), value (v tt) (sym (settle-none table v f) ∙ e))
+      go : (o : Option ℕ) → firstOf table ≡ o → Passes table × (v tt ≡ some a)
+      go none f = (firstOf-passes table f, value (v tt) (sym (settle-none table v f) ∙ e))
       go (some n) f =
           let g : refused n ≡ answered a = sym (rw (f, settle)) ∙ e in
           absurd (let z : _≡_ {A = ℕ} 0 1 = cc in omega arith)
 
   pub answered-settle :
-      (table : List Check) {a : A} → NoneHolds table → v tt ≡ some a → settle table v ≡ answered a
+      (table : List Check) {a : A} → Passes table → v tt ≡ some a → settle table v ≡ answered a
   unfolding valueOf
-  answered-settle table h e = settle-none table v (firstOf-none table h) ∙ ap valueOf e
+  answered-settle table h e = settle-none table v (h .noneHolds) ∙ ap valueOf e
 
-  -- a refusal names a condition of the table that holds; the number 0 stands for a missing value
+  -- a refusal by n: n holds, and nothing before it; the number 0 stands for a missing value
   pub settle-refused :
       (table : List Check) {n : ℕ}
+      → 0 < n
       → settle table v ≡ refused n
-      → (firstOf table ≡ some n) ⊎ (NoneHolds table × (v tt ≡ none) × (n ≡ 0))
+      → Passes (before n table) × (holds n table ≡ true)
   unfolding settle valueOf
-  settle-refused table {n} e = go (firstOf table) refl
+  settle-refused table {n} l e = go (firstOf table) refl
     where
-      value : (o : Option A) → valueOf o ≡ refused n → (o ≡ none) × (n ≡ 0)
-      value none f = (refl, cc)
+      value : (o : Option A) → valueOf o ≡ refused n → n ≡ 0
+      value none f = cc
       value (some b) f = absurd (let z : _≡_ {A = ℕ} 0 1 = cc in omega arith)
 
-      go :
-          (o : Option ℕ)
-          → firstOf table ≡ o
-          → (firstOf table ≡ some n) ⊎ (NoneHolds table × (v tt ≡ none) × (n ≡ 0))
-      go none f =
-          let (h, z) = value (v tt) (sym (settle-none table v f) ∙ e) in
-          inr (none-holds table (none-isNone f), h, z)
+      go : (o : Option ℕ) → firstOf table ≡ o → Passes (before n table) × (holds n table ≡ true)
+      go none f = absurd (omega (arith, value (v tt) (sym (settle-none table v f) ∙ e)))
       go (some k) f =
           let g : refused k ≡ refused n = sym (rw (f, settle)) ∙ e in
-          inl (f ∙ ap {B = Option ℕ} some (cc))
-
--- Which condition decides: one numbered n, and none before it
-abbrev pub Turn : Bool → Bool → Type 0 → Type 0
-Turn true holds Later = (holds ≡ true) ⊎ Later
-Turn false holds Later = (holds ≡ false) × Later
-
-abbrev pub FirstAt : ℕ → List Check → Type 0
-FirstAt n [] = ⊥
-FirstAt n (c ∷ table) = Turn (eqb (c .0) n) ((c .1) tt) (FirstAt n table)
-
-turn :
-    (named holds : Bool) {Later : Type 0}
-    → (holds ≡ true → T named)
-    → (holds ≡ false → Later)
-    → Turn named holds Later
-turn true true h k = inl refl
-turn true false h k = inr (k refl)
-turn false true h k = absurd (h refl)
-turn false false h k = (refl, k refl)
-
-pub firstOf-before : (table : List Check) {n : ℕ} → firstOf table ≡ some n → FirstAt n table
-firstOf-before [] e = Option·none-ne-some _ (sym (firstOf-none [] tt) ∙ e)
-firstOf-before (c ∷ table) {n} e =
-    turn (eqb (c .0) n) ((c .1) tt)
-    (λ h.
-    subst (λ m. T (eqb (c .0) m)) (Option·some-injective _ _ (sym (firstOf-stop c table h) ∙ e))
-    (eqb-refl (c .0)))
-    (λ h. firstOf-before table (sym (firstOf-skip c table h) ∙ e))
-
-pub settle-before :
-    {A : Type 0} (v : Unit {0} → Option A) (table : List Check) {n : ℕ}
-    → 0 < n
-    → settle table v ≡ refused n
-    → FirstAt n table
-settle-before v table l e = elim (settle-refused v table e) [
-  | inl f ↦ firstOf-before table f
-  | inr (_, _, z) ↦ absurd (omega (arith, z))
-]
+          firstOf-decides n table (f ∙ ap {B = Option ℕ} some (cc))
 
 -- Results
 pub never-answered : {A : Type 0} {B : Type 0} {n : ℕ} {a : A} → refused n ≡ answered a → B

@@ -18,16 +18,17 @@ use lib.Seq.{length-take-le}
 use borrow.Author.Tests.{ltb-false, eqb-true}
 use Rattle.meaning.specs.Search.{holdsForSome}
 use Rattle.meaning.specs.Field.{Field, prime, areElements}
-use Rattle.meaning.specs.Polynomial.{Polynomial, degree, isMonic, isMonicOver}
+use Rattle.meaning.specs.Polynomial.{Polynomial, isMonic, isMonicOver}
 use Rattle.meaning.specs.Conditions.{named, degreeOutOfRange, factorDegreeOutOfRange, notMonic}
 use Rattle.meaning.specs.Period.{periodAnswer, ratePeriod}
 use Rattle.meaning.specs.Portion.{setAnswer, rateSet}
 use Rattle.meaning.specs.Route.{RouteRecord, lookUp, bodyLengths, bodies}
 use Rattle.meaning.specs.File.{WrittenFactor, fileFactor, polynomialOf, fileDegreeOutOfRange, fileNotMonic}
-use Rattle.bridge.proofs.Searches.{or-false, T-and, T-not-false, not-false, T-false, false-T, none-at}
-use Rattle.bridge.proofs.Searches.{some-head, some-tail}
+use Rattle.bridge.proofs.Searches.{or-false, T-and, T-not-false, not-false, false-T, none-at}
+use Rattle.bridge.proofs.Searches.{none-cons, none-uncons}
 use Rattle.bridge.proofs.Interpretation.{IsField}
-use Rattle.bridge.proofs.Polynomials.{leading-length, leading-monic, length-degree}
+use Rattle.bridge.proofs.Polynomials.{leading-length, leading-monic}
+use Rattle.bridge.proofs.Irreducibles.{list-degree}
 use Rattle.bridge.proofs.Records.{Whole}
 
 pub named-map : {A : Type 0} (g : A → Polynomial) (h : A → ℕ) (l : List A)
@@ -71,12 +72,6 @@ degree-limit F d h = go (eqb d 0 || ltb 32 d) refl
     go true e = absurd (false-T (rw (e, degreeOutOfRange) at h) tt)
     go false e = ltb-false 32 d (or-false (eqb d 0) (ltb 32 d) e .1)
 
-list-degree : (F : Field) (f : Polynomial) → 0 < length f
-    → factorDegreeOutOfRange F f ≡ degreeOutOfRange F (degree f)
-unfolding factorDegreeOutOfRange
-list-degree F [] l = absurd (omega arith)
-list-degree F (c ∷ f) l = refl
-
 module _ (F : Field) (f : WrittenFactor) (full : length (f .coefficients) ≡ 32)
     (ten : fileDegreeOutOfRange F f ≡ false) where
   pub polynomial-length : length (polynomialOf f) ≡ suc (f .degree)
@@ -93,9 +88,9 @@ module _ (F : Field) (f : WrittenFactor) (full : length (f .coefficients) ≡ 32
   pub polynomial-ten : factorDegreeOutOfRange F (polynomialOf f) ≡ false
   unfolding fileDegreeOutOfRange
   polynomial-ten =
-      list-degree F (polynomialOf f) (omega (arith, polynomial-length))
-      ∙ ap (degreeOutOfRange F) (length-degree (polynomialOf f) polynomial-length)
-      ∙ ten
+      let n = polynomial-length in
+      let d : length (polynomialOf f) - 1 ≡ f .degree = omega arith in
+      sym (list-degree F (polynomialOf f) (λ e. omega arith)) ∙ ap (degreeOutOfRange F) d ∙ ten
 
 pub polynomial-eleven : {F : Field} → IsField F → (f : WrittenFactor) → fileNotMonic F f ≡ false
     → notMonic F (polynomialOf f) ≡ false
@@ -110,15 +105,6 @@ polynomial-eleven {F} I f eleven =
     )
 
 -- ALL FACTORS OF A FILE
-module _ {A : Type 0} (t : A → Bool) (a : A) (l : List A) where
-  pub first-fails : holdsForSome t (a ∷ l) ≡ false → (t a ≡ false) × (holdsForSome t l ≡ false)
-  first-fails h =
-      (T-false (λ z. false-T h (some-head t a l z)), T-false (λ z. false-T h (some-tail t a l z)))
-
-  none-cons : t a ≡ false → holdsForSome t l ≡ false → holdsForSome t (a ∷ l) ≡ false
-  unfolding holdsForSome
-  none-cons e h = rw (e, holdsForSome) h
-
 module _ (F : Field) where
   pub polynomials-ten : (fs : List WrittenFactor) → AllFull fs
       → holdsForSome (fileDegreeOutOfRange F) fs ≡ false
@@ -126,7 +112,7 @@ module _ (F : Field) where
   unfolding holdsForSome
   polynomials-ten [] w h = refl
   polynomials-ten (f ∷ fs) w h =
-      let (e, k) = first-fails (fileDegreeOutOfRange F) f fs h in
+      let (e, k) = none-uncons (fileDegreeOutOfRange F) f fs h in
       none-cons (factorDegreeOutOfRange F) (polynomialOf f) (map polynomialOf fs)
       (polynomial-ten F f (w .0) e)
       (polynomials-ten fs (w .1) k)
@@ -137,7 +123,7 @@ module _ (F : Field) where
   unfolding holdsForSome
   polynomials-eleven I [] i = refl
   polynomials-eleven I (f ∷ fs) i =
-      let (g, m) = first-fails (fileNotMonic F) f fs i in
+      let (g, m) = none-uncons (fileNotMonic F) f fs i in
       none-cons (notMonic F) (polynomialOf f) (map polynomialOf fs)
       (polynomial-eleven I f g)
       (polynomials-eleven I fs m)

@@ -1,1 +1,2 @@
+pub mod factors
 pub mod lists

@@ -1,8 +1,11 @@
 // The conditions over all factors of a set, each a list of coefficients, with their upper powers: one
 // function each, for any slices of any length; no lent byte is changed. A factor without an upper power has
 // 0, and further upper powers belong to no factor.
+use crate::files::file_degree_out_of_range;
+use crate::files::file_not_monic;
 use crate::lists::factor_degree_out_of_range;
 use crate::lists::not_monic;
+use crate::lists::reducible;
 use poly::equality::same;
 use poly::factors::total_degree;
 use poly::factors::upper_at;
@@ -10,35 +13,46 @@ ghost use mathlib.Core.Path.{_≡_};
 ghost use lib.Dec.{eqb};
 ghost use lib.ListN.{drop};
 ghost use Rattle.meaning.specs.Search.{holdsForSome};
-ghost use Rattle.meaning.specs.Field.{prime};
 ghost use Rattle.meaning.specs.Polynomial.{same};
-ghost use Rattle.meaning.specs.Conditions.{named, factorDegreeOutOfRange, notMonic};
-ghost use Rattle.meaning.specs.Conditions.{twoEqual, upperPowersOutOfRange};
+ghost use Rattle.meaning.specs.Conditions.{named, twoEqual, upperPowersOutOfRange};
 ghost use Rattle.meaning.specs.Slices.{listsOf};
+ghost use Rattle.conditions.specs.factors.Factors.{holdsOf};
 
-// 10: a factor's degree is out of range.
-pub fn some_degree_out_of_range(p: u64, factors: &[&[u8]]) -> bool
-    ensures { λ r. ⌜ r ≡ holdsForSome (factorDegreeOutOfRange (prime p)) (listsOf (now (factors .entry))) ⌝ }
-{
-    let mut i = 0;
-    // none before i: the factors from i on decide
-    while i < factors.len() {
-        if factor_degree_out_of_range(p, factors[i]) {
-            return true;
-        }
-        i += 1;
-    }
-    false
+// A condition that is asked of one factor: of its coefficients, or of the body of its record in a file.
+pub enum FactorCondition {
+    // 10
+    DegreeOutOfRange,
+    // 11
+    NotMonic,
+    // 12
+    Reducible,
+    // 10, of a record
+    FileDegreeOutOfRange,
+    // 11, of a record
+    FileNotMonic,
 }
 
-// 11: a factor is not monic over the field.
-pub fn some_not_monic(p: u64, factors: &[&[u8]]) -> bool
-    ensures { λ r. ⌜ r ≡ holdsForSome (notMonic (prime p)) (listsOf (now (factors .entry))) ⌝ }
+// 10, 11 or 12, of one factor.
+pub fn holds(condition: FactorCondition, p: u64, factor: &[u8]) -> bool
+    ensures { λ r. ⌜ r ≡ holdsOf condition p (now (factor .entry)) ⌝ }
+{
+    match condition {
+        FactorCondition::DegreeOutOfRange => factor_degree_out_of_range(p, factor),
+        FactorCondition::NotMonic => not_monic(p, factor),
+        FactorCondition::Reducible => reducible(p, factor),
+        FactorCondition::FileDegreeOutOfRange => file_degree_out_of_range(p, factor),
+        FactorCondition::FileNotMonic => file_not_monic(p, factor),
+    }
+}
+
+// 10, 11 or 12: the condition holds of a factor.
+pub fn holds_for_some(condition: FactorCondition, p: u64, factors: &[&[u8]]) -> bool
+    ensures { λ r. ⌜ r ≡ holdsForSome (holdsOf condition p) (listsOf (now (factors .entry))) ⌝ }
 {
     let mut i = 0;
     // none before i: the factors from i on decide
     while i < factors.len() {
-        if not_monic(p, factors[i]) {
+        if holds(condition, p, factors[i]) {
             return true;
         }
         i += 1;

@@ -6,4 +6,3 @@ pub mod factors;
 pub mod files;
 pub mod lists;
 pub mod numbers;
-pub mod reducibility;

@@ -1,10 +1,12 @@
 // The conditions of the numbered list on one list of numbers: terms or coefficients.
 use crate::numbers::degree_out_of_range;
+use crate::numbers::not_prime;
+use irreducible::is_irreducible;
 ghost use mathlib.Core.Path.{_≡_};
 ghost use Rattle.meaning.specs.Field.{prime};
 ghost use Rattle.meaning.specs.Conditions.{termOutOfField, factorDegreeOutOfRange};
 ghost use Rattle.meaning.specs.Conditions.{continuationDegreeOutOfRange, notMonic, fewerTermsThan};
-ghost use Rattle.meaning.specs.Conditions.{startUnlikeDegree};
+ghost use Rattle.meaning.specs.Conditions.{isReducible, startUnlikeDegree};
 ghost use Rattle.conditions.specs.lists.Lists.{largest};
 
 // The largest of the numbers, or 0 where there are none.
@@ -61,6 +63,22 @@ pub fn not_monic(p: u64, factor: &[u8]) -> bool
         return true;
     }
     factor[factor.len() - 1] != 1
+}
+
+// 12, of a list: reducible. It is asked of a factor that 6, 10 and 11 let pass, and holds of no other.
+pub fn reducible(p: u64, factor: &[u8]) -> bool
+    ensures { λ r. ⌜ r ≡ isReducible p (now (factor .entry)) ⌝ }
+{
+    if not_prime(p) {
+        return false;
+    }
+    if factor_degree_out_of_range(p, factor) {
+        return false;
+    }
+    if not_monic(p, factor) {
+        return false;
+    }
+    !is_irreducible(p, factor)
 }
 
 // 15: fewer terms than the total degree d.

@@ -20,39 +20,39 @@ use Rattle.meaning.specs.Conditions.{continuationDegreeOutOfRange, startUnlikeD
 use Rattle.meaning.specs.Continuation.{continueTable, filled, continueSequence}
 use Rattle.meaning.specs.Answers.{toldFilling}
 use Rattle.meaning.specs.Calls.{bufferAfter, ContinueCall}
-use Rattle.meaning.proofs.Tables.{NoneHolds}
+use Rattle.meaning.proofs.Passes.{Passes}
 use Rattle.bridge.proofs.Searches.{or-false}
 use Rattle.bridge.proofs.Accepted.{prime-accepted, terms-accepted}
 use Rattle.bridge.proofs.Products.{accepted-monic}
 use Rattle.refusals.specs.declared.Verdict.{Verdict}
 use Rattle.refusals.specs.Verdicts.{numberIn}
-use Rattle.refusals.proofs.Settled.{accepted-holds, settle-refused, settle-accepted}
+use Rattle.refusals.proofs.Settled.{verdict-passes, settle-refused, settle-accepted}
 use Rattle.continue_sequence.specs.continuation.Continuing.{Continuable}
 
 -- a call for a buffer of `size` bytes that is accepted
 module _ (p : ℕ) (g : Polynomial) (start : List ℕ) (place size : ℕ) {v : Verdict}
     (e : numberIn v ≡ firstOf (continueTable p g start place size)) (q : v ≡ Verdict.Accepted) where
-  passed : NoneHolds (continueTable p g start place size)
-  passed = accepted-holds (continueTable p g start place size) e q
+  passes : Passes (continueTable p g start place size)
+  passes = verdict-passes (continueTable p g start place size) e q
 
   pub continue-prime : T (primeInRange p)
   unfolding continueTable
-  continue-prime = prime-accepted p (passed .0)
+  continue-prime = prime-accepted p (passes .fieldExists)
 
   pub continue-place : place ≤ size
   unfolding continueTable placeOutOfRange
   continue-place =
-      ltb-false size place (or-false (ltb size place) (countOutOfRange (size - place)) (passed .1 .0) .0)
+      ltb-false size place (or-false (ltb size place) (countOutOfRange (size - place)) (passes .countInRange) .0)
 
   pub continue-accepted : {F : Field} → F ≡ prime p → Continuable F g start
   unfolding continueTable continuationDegreeOutOfRange startUnlikeDegree
   continue-accepted h =
-      let few : degree g ≤ 4096 = ltb-false 4096 (degree g) (passed .1 .1 .1 .0) in
-      let t = not-false (eqb (length start) (degree g)) (passed .1 .1 .1 .1 .1 .0) in
+      let few : degree g ≤ 4096 = ltb-false 4096 (degree g) (passes .degreesInRange) in
+      let t = not-false (eqb (length start) (degree g)) (passes .enoughTerms) in
       let same : length start ≡ degree g = eqb-true (length start) (degree g) t in
       rw h (record {
-        monic = accepted-monic (prime p) g (passed .1 .1 .1 .1 .0);
-        elements = terms-accepted p start (passed .1 .1 .0);
+        monic = accepted-monic (prime p) g (passes .monic);
+        elements = terms-accepted p start (passes .termsInField);
         enough = same;
         few = omega arith;
       })

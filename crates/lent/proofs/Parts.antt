@@ -1,7 +1,9 @@
 -- Parts of lent bytes.
 --
 --   put-paste         == a lent part that comes back is pasted in its place
+--   lent-length       == a part that is lent
 --   zeros-length, zeros-lent == zeros that are lent from the front
+--   zeros-front       == what came back for them, lent again
 --   cleared-part      == the work bytes after their first 8,192 were lent on and came back as zeros
 --
 -- Assumes nothing.
@@ -10,10 +12,11 @@ use mathlib.Core.Path.{_≡_, refl, sym, ap, _∙_}
 use mathlib.Core.List.{List, _∷_, _++_, append-assoc}
 use native.Mathlib.Nat.{sub-zero, add-sub-cancel-left, not-suc-le-zero, le-of-suc-le-suc}
 use native.Mathlib.Omega.{arith}
-use lib.ListN.{length, take, drop, replicate, length-take, length-replicate}
-use lib.Seq.{paste, take-all, drop-drop, length-take-le}
+use lib.ListN.{length, take, drop, replicate, length-append, length-take, length-replicate}
+use lib.Seq.{paste, take-all, take-at, drop-drop, length-take-le}
 use borrow.Rule.Slice.PartMut.{putMid}
 use Rattle.meaning.specs.Result.{cleared}
+use Rattle.arith.proofs.Slices.{length-part}
 
 pub put-paste :
     (l : List ℕ) (x n : ℕ) (y : List ℕ) → length y ≡ n → putMid x (x + n - x) l y ≡ paste l x y n
@@ -22,11 +25,15 @@ put-paste l x n y e =
     ∙ sym (append-assoc (take x l) y (drop (x + n) l))
     ∙ ap (λ t. take x l ++ t ++ drop (x + n) l) (sym (take-all n y (omega arith)))
 
+-- a part as it is lent
+pub lent-length : (l : List ℕ) (x n : ℕ) → x + n ≤ length l → length (take (x + n - x) (drop x l)) ≡ n
+lent-length l x n h = ap (λ k. length (take k (drop x l))) (add-sub-cancel-left x n) ∙ length-part l x n h
+
 -- Zeros
-zeros-front : (m n : ℕ) → m ≤ n → _≡_ {A = List ℕ} (take m (replicate n 0)) (replicate m 0)
-zeros-front zero n h = refl
-zeros-front (suc m) zero h = absurd (not-suc-le-zero h)
-zeros-front (suc m) (suc n) h = ap (_∷_ 0) (zeros-front m n (le-of-suc-le-suc h))
+zeros-part : (m n : ℕ) → m ≤ n → _≡_ {A = List ℕ} (take m (replicate n 0)) (replicate m 0)
+zeros-part zero n h = refl
+zeros-part (suc m) zero h = absurd (not-suc-le-zero h)
+zeros-part (suc m) (suc n) h = ap (_∷_ 0) (zeros-part m n (le-of-suc-le-suc h))
 
 module _ (m n : ℕ) (h : m ≤ n) where
   pub zeros-length : length {A = ℕ} (take (m - 0) (replicate n 0)) ≡ m
@@ -36,7 +43,14 @@ module _ (m n : ℕ) (h : m ≤ n) where
       _≡_ {A = List ℕ} (take (m - 0) (replicate n 0))
       (replicate (length {A = ℕ} (take (m - 0) (replicate n 0))) 0)
   zeros-lent =
-      zeros-front (m - 0) n (omega arith) ∙ ap (λ k. replicate k 0) (sub-zero m ∙ sym zeros-length)
+      zeros-part (m - 0) n (omega arith) ∙ ap (λ k. replicate k 0) (sub-zero m ∙ sym zeros-length)
+
+  module _ (y : List ℕ) (e : length y ≡ length {A = ℕ} (take (m - 0) (replicate n 0))) where
+    pub zeros-front : take (m - 0) (y ++ drop (m - 0) (replicate n 0)) ≡ y
+    zeros-front = take-at y (drop (m - 0) (replicate n 0)) (m - 0) (omega (arith, zeros-length))
+
+    pub zeros-enough : m ≤ length (y ++ drop (m - 0) (replicate n 0))
+    zeros-enough = omega (arith, zeros-length, length-append y (drop (m - 0) (replicate n 0)))
 
 pub cleared-part : {ys : List ℕ} (w : List ℕ)
     → 8192 ≤ length w

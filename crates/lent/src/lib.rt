@@ -1,4 +1,5 @@
 // What is shared by all who work in lent bytes: zeros in a part of them, and the smaller of two sizes.
+pub mod blocks;
 pub mod halves;
 
 ghost use mathlib.Core.Path.{_≡_};

@@ -2,7 +2,7 @@
 --
 --   inverts-primes   == the inverse of `arith` inverts in GF(p) for every prime in range
 --   free-chosen      == the choice of the program fits, wherever the free way answers `some`
---   free-passes, free-accepted == what is known where no refusal of the free way holds
+--   free-accepted    == what is known where no refusal of the free way holds
 --   free-answered, free-lent == the answer of the free way, and the lent bytes after it
 --   free-unique, free-several == the contract of the public call, by the two words
 --
@@ -15,17 +15,18 @@ use mathlib.Core.Option.{none}
 use native.Mathlib.Decide.{decLt}
 use native.Mathlib.Omega.{arith}
 use lib.ListN.{length}
-use lib.Dec.{T, eqb, ltb, lt→ltb}
+use lib.Dec.{T, ltb, lt→ltb}
 use Rattle.meaning.specs.declared.FreeRating.{FreeRating}
 use Rattle.meaning.specs.Field.{prime, primeInRange}
-use Rattle.meaning.specs.Conditions.{notPrime, countOutOfRange, lentTooShort}
+use Rattle.meaning.specs.Conditions.{lentTooShort}
 use Rattle.meaning.specs.Result.{Result, answered, firstOf, mapResult, Rated, figuresOf, answerAfter}
 use Rattle.meaning.specs.Result.{workAfter}
 use Rattle.meaning.specs.Free.{isUnique, FreeFigures, ChosenFits, freeTable, rateFree}
 use Rattle.meaning.specs.Answers.{toldFree}
 use Rattle.meaning.specs.Calls.{LentAfter, FreeCall}
-use Rattle.meaning.proofs.Tables.{NoneHolds, none-holds}
-use Rattle.bridge.proofs.Searches.{false-T, not-false, or-false, none-isNone}
+use Rattle.meaning.proofs.Passes.{firstOf-passes}
+use Rattle.bridge.proofs.Searches.{false-T, or-false}
+use Rattle.bridge.proofs.Accepted.{prime-accepted, count-accepted}
 use Rattle.bridge.proofs.Interpretation.{inRange-isField}
 use Rattle.bridge.proofs.Fitting.{le-isUnique, gt-isUnique}
 use Rattle.bridge.proofs.MasseySteps.{masseyPolynomial}
@@ -53,17 +54,14 @@ not-below : (m n : ℕ) → ltb m n ≡ false → n ≤ m
 not-below m n e = elim (decLt m n) [ yes l ↦ absurd (false-T e (lt→ltb m n l)) | no l ↦ omega arith ]
 
 module _ (p : ℕ) (ts : List ℕ) (answer work : ℕ) (e : firstOf (freeTable p ts answer work) ≡ none) where
-  pub free-passes : NoneHolds (freeTable p ts answer work)
-  free-passes = none-holds (freeTable p ts answer work) (none-isNone e)
-
   pub free-accepted : FreeAccepted p ts answer work
-  unfolding freeTable notPrime countOutOfRange lentTooShort
+  unfolding freeTable lentTooShort
   free-accepted =
-      let (a, (b, (_, (d, _)))) = free-passes in
-      let (x, y) = or-false (ltb answer 4097) (ltb work 8192) d in
+      let h = firstOf-passes (freeTable p ts answer work) e in
+      let (x, y) = or-false (ltb answer 4097) (ltb work 8192) (h .lentEnough) in
       record {
-        isPrime = not-false (primeInRange p) a;
-        count = not-below 4096 (length ts) (or-false (eqb (length ts) 0) (ltb 4096 (length ts)) b .1);
+        isPrime = prime-accepted p (h .fieldExists);
+        count = count-accepted (length ts) (h .countInRange) .1;
         answerRoom = not-below answer 4097 x;
         workRoom = not-below work 8192 y;
       }
@@ -86,7 +84,7 @@ module _ {p : ℕ} {field : GaloisField} {ts answer work : List ℕ} {L : ℕ} {
   pub free-answered : rateFree freeChoice p ts (length answer) (length work) ≡ ratingOf L
   free-answered =
       massey-answer inverse inverts-primes p ts (length answer) (length work)
-      (free-passes p ts (length answer) (length work) e)
+      (firstOf-passes (freeTable p ts (length answer) (length work)) e)
       ∙ ap ratingOf (sym (shortest .degree))
 
   pub free-lent :

@@ -2,6 +2,7 @@
 -- whatever meets a contract is one answer.
 --
 --   refusalOf n   == the refusal with the number n, none for a number that is not 1 to 17
+--   refusal-number, refusal-found == the numbers of the list are those of the refusals
 --   …-determined  == two answers that tell the same are the same
 --   period-call-determined and its like == two runs of a call on the same input agree in the answer and in
 --                    every byte
@@ -10,7 +11,9 @@ use Prim.Native.Nat.{ℕ}
 use mathlib.Core.Path.{_≡_, refl, sym, ap, _∙_}
 use mathlib.Core.Bool.{Bool, true, false}
 use mathlib.Core.List.{List, [], _∷_}
-use mathlib.Core.Option.{Option, some}
+use mathlib.Core.Option.{Option, some, Option·none-ne-some}
+use lib.Dec.{eqb}
+use borrow.Author.Tests.{eqb-true}
 use Rattle.meaning.specs.declared.Refusal.{Refusal}
 use Rattle.meaning.specs.declared.Irreducibility.{Irreducibility}
 use Rattle.meaning.specs.declared.PowerRating.{PowerRating}
@@ -38,7 +41,7 @@ use Rattle.meaning.specs.Answers.{numberOf, toldIrreducible, toldFilling
 use Rattle.meaning.specs.Answers.{toldSet}
 use Rattle.meaning.specs.Answers.{FileTold, withPowers, withOne, withSome, toldFile, toldRecord}
 
-pub refusals : List (ℕ × Refusal)
+unfoldable pub refusals : List (ℕ × Refusal)
 refusals =
     (1, FileTooLong)
     ∷ (2, UnknownKind)
@@ -59,7 +62,7 @@ refusals =
     ∷ (17, NotAnnihilated)
     ∷ []
 
-pub refusalOf : ℕ → Option Refusal
+unfoldable pub refusalOf : ℕ → Option Refusal
 refusalOf n = lookUp n refusals
 
 pub refusal-number : (r : Refusal) → refusalOf (numberOf r) ≡ some r
@@ -82,10 +85,34 @@ refusal-number TooFewTerms = refl
 refusal-number LentTooShort = refl
 refusal-number NotAnnihilated = refl
 
--- a map that another undoes takes no two things to one
 some-same : {A : Type 0} (a b : A) → some a ≡ some b → a ≡ b
 some-same a b e = cc
 
+abbrev Numbered : List (ℕ × Refusal) → Type 0
+Numbered [] = Unit {0}
+Numbered (e ∷ l) = (numberOf (e .1) ≡ e .0) × Numbered l
+
+looked-up : (l : List (ℕ × Refusal)) (n : ℕ) {x : Refusal} → Numbered l → lookUp n l ≡ some x → numberOf x ≡ n
+unfolding lookUp
+looked-up [] n h e = absurd (Option·none-ne-some _ e)
+looked-up (c ∷ l) n {x} h e = go (looked-up l n (h .1)) (eqb n (c .0)) refl
+  where
+    go : (lookUp n l ≡ some x → numberOf x ≡ n) → (b : Bool) → eqb n (c .0) ≡ b → numberOf x ≡ n
+    go rest true q =
+        let same : c .1 ≡ x = some-same (c .1) x (rw (q, lookUp) at e) in
+        sym (ap numberOf same) ∙ h .0 ∙ sym (eqb-true n (c .0) q)
+    go rest false q = rest (rw (q, lookUp) at e)
+
+-- and so do numbers
+pub refusal-found : (n : ℕ) {x : Refusal} → refusalOf n ≡ some x → numberOf x ≡ n
+unfolding refusalOf refusals numberOf
+refusal-found n e =
+    looked-up refusals n
+    (refl, (refl, (refl, (refl, (refl, (refl, (refl, (refl, (refl, (refl, (refl, (refl, (refl, (refl, (refl,
+    (refl, (refl, tt)))))))))))))))))
+    e
+
+-- a map that another undoes takes no two things to one
 determined : {A B : Type 0} (f : A → B) (g : B → Option A) → ((a : A) → g (f a) ≡ some a)
     → (a b : A)
     → f a ≡ f b

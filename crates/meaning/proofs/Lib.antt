@@ -1,5 +1,6 @@
 pub mod Computed
 pub mod Tables
+pub mod Passes
 pub mod ZeroPeriod
 pub mod MarkedRows
 pub mod Rows

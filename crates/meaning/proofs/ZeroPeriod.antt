@@ -3,24 +3,25 @@
 use Prim.Native.Nat.{ℕ, zero, suc, _≤_}
 use native.Mathlib.Nat.{zero-mod}
 use native.Mathlib.Omega.{arith}
-use mathlib.Core.Path.{_≡_, refl, sym, _∙_, ap}
+use mathlib.Core.Path.{_≡_, refl, _∙_, ap}
 use mathlib.Core.Bool.{Bool, true, false, not, true≢false}
 use mathlib.Core.List.{List, [], _∷_}
-use mathlib.Core.Option.{none, some}
+use mathlib.Core.Option.{some}
 use lib.ListN.{length, getD, replicate, length-replicate}
 use lib.Dec.{T}
 use borrow.Author.Tests.{eq-eqb, ne-eqb, le-ltb, lt-ltb}
-use Rattle.meaning.specs.Search.{holdsForAll, holdsForSome, isNone, bind, mapOption}
+use Rattle.meaning.specs.Search.{holdsForAll, isNone, bind, mapOption}
 use Rattle.meaning.specs.Field.{prime, isElement, areElements, primeInRange, isPrime, largestPrime}
 use Rattle.meaning.specs.Polynomial.{Polynomial, power, degree}
 use Rattle.meaning.specs.Sequence.{actAt, periodic, annihilatesPeriod}
-use Rattle.meaning.specs.Result.{firstOf, valueOf, answered}
+use Rattle.meaning.specs.Result.{valueOf, answered}
 use Rattle.meaning.specs.Power.{powerRating, repeatBound}
-use Rattle.meaning.specs.Conditions.{notPrime, countOutOfRange, termOutOfField, isReducible, notMonic}
+use Rattle.meaning.specs.Conditions.{notPrime, countOutOfRange, termOutOfField, notMonic}
 use Rattle.meaning.specs.Conditions.{factorDegreeOutOfRange, lentTooShort, acceptedLent}
 use Rattle.meaning.specs.Portion.{acceptedFactors, factorTable}
 use Rattle.meaning.specs.Period.{periodPower, periodTable, periodAnswer, ratePeriod}
-use Rattle.meaning.proofs.Tables.{firstOf-none, none-holds, settle-none, holdsForAll-every, least-zero}
+use Rattle.meaning.proofs.Tables.{settle-none, holdsForAll-every, of-one, least-zero}
+use Rattle.meaning.proofs.Passes.{Passes, _&_, nothing, accepted-passes}
 
 abbrev pub zeros : ℕ → List ℕ
 zeros n = replicate n 0
@@ -55,57 +56,29 @@ unfolding termOutOfField notPrime primeInRange isPrime largestPrime
 terms-pass zero n h = absurd (true≢false h)
 terms-pass (suc p) n h = rw (zeros-elements p n)
 
--- of one factor, a test of the whole list is a test of it
-pub of-one : {A : Type 0} (t : A → Bool) (a : A) → holdsForSome t (a ∷ []) ≡ false → t a ≡ false
-unfolding holdsForSome
-of-one t a h = go (t a) refl
-  where
-    go : (b : Bool) → t a ≡ b → t a ≡ false
-    go true e = absurd (true≢false (sym (rw (e, holdsForSome)) ∙ h))
-    go false e = e
-
-pub record Passed (p : ℕ) (f : Polynomial) : Type 0 where
-  pub six : notPrime p ≡ false
-  pub ten : factorDegreeOutOfRange (prime p) f ≡ false
-  pub eleven : notMonic (prime p) f ≡ false
-  pub twelve : isReducible p f ≡ false
-
-accepted-passed : (p : ℕ) (f : Polynomial) → T (acceptedFactors p (f ∷ []) (1 ∷ [])) → Passed p f
-unfolding acceptedFactors factorTable
-accepted-passed p f h =
-    let q = none-holds (factorTable p (f ∷ []) (1 ∷ [])) h in
-    record {
-      six = q .0;
-      ten = of-one _ f (q .1 .1 .0);
-      eleven = of-one _ f (q .1 .1 .1 .0);
-      twelve = of-one _ f (q .1 .1 .1 .1 .0);
-    }
-
 not-false-of : (b : Bool) → T (not b) → b ≡ false
 not-false-of true h = absurd h
 not-false-of false h = refl
 
 -- nothing refuses a period of zeros
-nothing-holds : (p n : ℕ) (f : Polynomial) (answer work : ℕ)
-    → Passed p f
+zeros-passes : (p n : ℕ) (f : Polynomial) (answer work : ℕ)
+    → T (acceptedFactors p (f ∷ []) (1 ∷ []))
     → lentTooShort answer work ≡ false
     → 1 ≤ n
     → n ≤ 4096
-    → firstOf
-    (periodTable p (factorDegreeOutOfRange (prime p) f) (notMonic (prime p) f) f (zeros n) answer work)
-    ≡ none
-unfolding periodTable isNone
-nothing-holds p n f answer work q a l m =
-    firstOf-none _ (
-      q .six,
-      (
-        count-passes n l m,
-        (
-          terms-pass p n (q .six),
-          (q .ten, (q .eleven, (q .twelve, (a, (ap isNone (power-zero p f n), tt))))),
-        ),
-      ),
-    )
+    → Passes (periodTable p (factorDegreeOutOfRange (prime p) f) (notMonic (prime p) f) f (zeros n) answer work)
+unfolding periodTable factorTable isNone
+zeros-passes p n f answer work h a l m =
+    let q = accepted-passes p (f ∷ []) (1 ∷ []) h in
+    q .fieldExists
+    & count-passes n l m
+    & terms-pass p n (q .fieldExists)
+    & of-one _ f (q .degreesInRange)
+    & of-one _ f (q .monic)
+    & of-one _ f (q .irreducible)
+    & a
+    & ap isNone (power-zero p f n)
+    & nothing
 
 pub zero-period : (p n : ℕ) (f : Polynomial) (answer work : ℕ)
     → T (acceptedFactors p (f ∷ []) (1 ∷ []))
@@ -116,5 +89,5 @@ pub zero-period : (p n : ℕ) (f : Polynomial) (answer work : ℕ)
     ≡ answered (record { figures = record { power = 0; degree = 0; bound = 1 }; polynomial = 1 ∷ [] })
 unfolding ratePeriod periodAnswer acceptedLent valueOf bind powerRating repeatBound mapOption power degree
 zero-period p n f answer work h a l m =
-    settle-none _ _ (nothing-holds p n f answer work (accepted-passed p f h) (not-false-of _ a) l m)
+    settle-none _ _ (zeros-passes p n f answer work h (not-false-of _ a) l m .noneHolds)
     ∙ ap (λ o. valueOf (bind o (powerRating (prime p) f))) (power-zero p f n)

@@ -13,7 +13,8 @@ use Rattle.meaning.specs.Polynomial.{Polynomial, degree, power}
 use Rattle.meaning.specs.Sequence.{annihilatesPeriod}
 use Rattle.meaning.specs.Result.{cleared}
 use Rattle.meaning.specs.Period.{periodPower}
-use Rattle.bridge.proofs.Searches.{true-T, isNone-none}
+use Rattle.meaning.proofs.Tables.{isNone-none}
+use Rattle.bridge.proofs.Searches.{true-T}
 use Rattle.bridge.proofs.Polynomials.{monic-nonempty, monic-elements}
 use Rattle.bridge.proofs.KnownActions.{allZero, strideOnKnown, strideOnPeriod, prime-annihilatesPeriod}
 use Rattle.bridge.proofs.PowerSearch.{powerFound}

@@ -1,3 +1,4 @@
 pub mod Convolution
-pub mod Summing
-pub mod Stored
+pub mod Between
+pub mod Made
+pub mod Blocks

@@ -1,7 +1,7 @@
 // Products in lent bytes: a polynomial of degree n stands in the first n + 1 of them, is multiplied there,
 // and nothing beyond the new degree is read or written. f(x^q) has the coefficients of f, q places apart.
 // Assumes a well-formed field, and as many lent bytes as each function says.
-use crate::blocks::convolve;
+use crate::convolution::convolve;
 use arith::GaloisField;
 use lent::smaller;
 use lent::zero;

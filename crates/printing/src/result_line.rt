@@ -3,20 +3,23 @@
 use crate::words::put_number;
 use crate::words::put_powers;
 use crate::words::put_word;
-ghost use mathlib.Core.Path.{_≡_};
-ghost use mathlib.Core.List.{map};
-ghost use Prim.Native.Nat.{_+_, _*_, _≤_, min};
+use lent::smaller;
+ghost use mathlib.Core.List.{_++_, map};
+ghost use Prim.Native.Nat.{_+_, _*_, _≤_};
 ghost use lib.ListN.{length, take};
 ghost use Rattle.meaning.specs.Result.{refused};
 ghost use Rattle.meaning.specs.Print.{text, decimal, joined, resultLine};
 ghost use Rattle.printing.specs.result_line.ResultLines.{started, ratedLine};
 ghost use Rattle.printing.specs.words.Words.{PutWithin};
 
-// The smaller one of a number and a length.
-fn at_most(n: u64, most: usize) -> usize
-    ensures { λ r. ⌜ r ≡ min n most ⌝ }
+// A number and the word after it.
+fn put_number_and_word(n: u64, word: &[u8], out: &mut [u8], at: usize) -> usize
+    requires { ⌜ at + 20 + length (now word) ≤ length (now out) ⌝ }
+    ensures { λ r. ⌜ PutWithin (20 + length (now (word .entry))) (decimal n ++ now (word .entry))
+        at (now (out .entry)) r (now (out .exit)) ⌝ }
 {
-    if n < most as u64 { n as usize } else { most }
+    let a = put_number(n, out, at);
+    put_word(word, out, a)
 }
 
 // The result line of a refusal: the box, `refused` and the number.
@@ -25,10 +28,8 @@ pub fn put_refused(sender: u64, number: u64, out: &mut [u8], at: usize) -> usize
     ensures { λ r. ⌜ PutWithin 50 (resultLine sender (refused number))
         at (now (out .entry)) r (now (out .exit)) ⌝ }
 {
-    let a = put_number(sender, out, at);
-    let b = put_word(b" refused ", out, a);
-    let c = put_number(number, out, b);
-    put_word(b"\n", out, c)
+    let a = put_number_and_word(sender, b" refused ", out, at);
+    put_number_and_word(number, b"\n", out, a)
 }
 
 // The start of the result line of a rating: the box, `ok` and the density, up to the blank before the last
@@ -37,12 +38,9 @@ fn put_start(sender: u64, degree: u64, terms: u64, out: &mut [u8], at: usize) ->
     requires { ⌜ at + 66 ≤ length (now out) ⌝ }
     ensures { λ r. ⌜ PutWithin 66 (started sender degree terms) at (now (out .entry)) r (now (out .exit)) ⌝ }
 {
-    let a = put_number(sender, out, at);
-    let b = put_word(b" ok ", out, a);
-    let c = put_number(degree, out, b);
-    let d = put_word(b"/", out, c);
-    let e = put_number(terms, out, d);
-    put_word(b" ", out, e)
+    let a = put_number_and_word(sender, b" ok ", out, at);
+    let b = put_number_and_word(degree, b"/", out, a);
+    put_number_and_word(terms, b" ", out, b)
 }
 
 // The result line of a rating whose last word are the first `count` powers.
@@ -61,7 +59,7 @@ pub fn put_powers_line(
         at (now (out .entry)) r (now (out .exit)) ⌝ }
 {
     let a = put_start(sender, degree, terms, out, at);
-    let n = at_most(count, powers.len());
+    let n = smaller(count as usize, powers.len());
     let b = put_powers(&powers[0..n], out, a);
     put_word(b"\n", out, b)
 }

@@ -13,7 +13,7 @@ use Rattle.meaning.specs.Answers.{toldIrreducible}
 use Rattle.meaning.specs.Calls.{IrreducibleCall}
 use Rattle.refusals.specs.declared.Verdict.{Verdict}
 use Rattle.refusals.specs.Verdicts.{numberIn}
-use Rattle.refusals.proofs.Settled.{accepted-holds, settle-refused, settle-accepted}
+use Rattle.refusals.proofs.Settled.{verdict-passes, settle-refused, settle-accepted}
 use Rattle.irreducible.specs.Trial.{Accepted}
 
 module _ (p : ℕ) (f : Polynomial) {v : Verdict} (e : numberIn v ≡ firstOf (irreducibleTable p f)) where
@@ -26,8 +26,8 @@ module _ (p : ℕ) (f : Polynomial) {v : Verdict} (e : numberIn v ≡ firstOf (i
   pub question-accepted : v ≡ Verdict.Accepted → Accepted p f
   unfolding irreducibleTable
   question-accepted q =
-      let h = accepted-holds (irreducibleTable p f) e q in
-      record { fieldExists = h .0; degreeInRange = h .1 .0; monicOver = h .1 .1 .0 }
+      let h = verdict-passes (irreducibleTable p f) e q in
+      record { fieldExists = h .fieldExists; degreeInRange = h .degreesInRange; monicOver = h .monic }
 
   asked : v ≡ Verdict.Accepted → {b : Bool} → b ≡ irreducible (prime p) f → askIrreducible p f ≡ answered b
   unfolding askIrreducible valueOf

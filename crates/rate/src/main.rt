@@ -6,7 +6,7 @@ use libc::STDOUT_FILENO;
 use printing::lines::ANSWER_BYTES;
 use printing::lines::MOST_PRINTED;
 use printing::lines::print_rating;
-use rater::rate_file;
+use rate_file::rate_file;
 use route::framing::part;
 ghost use Rattle.meaning.specs.Program.{Response};
 ghost use Rattle.massey.specs.Shortest.{freeChoice};

@@ -1,7 +1,7 @@
 // The factors of a file: 10 and 11 as a file meets them, and the factors as lists of coefficients in lent
 // bytes. A `count` is the number of the factors of the file.
-use conditions::files::file_degree_out_of_range;
-use conditions::files::file_not_monic;
+use conditions::factors::FactorCondition;
+use conditions::factors::holds;
 use meaning::Refusal;
 use refusals::Verdict;
 use route::framing::body_of;
@@ -12,37 +12,21 @@ ghost use mathlib.Core.List.{map, flatten};
 ghost use Prim.Native.Nat.{_≤_};
 ghost use lib.ListN.{length, take};
 ghost use Rattle.meaning.specs.Search.{holdsForSome};
-ghost use Rattle.meaning.specs.Field.{prime};
 ghost use Rattle.meaning.specs.Result.{firstOf};
-ghost use Rattle.meaning.specs.File.{fileDegreeOutOfRange, fileNotMonic};
+ghost use Rattle.conditions.specs.factors.Factors.{holdsOf};
 ghost use Rattle.refusals.specs.Verdicts.{numberIn};
-ghost use Rattle.rate_file.specs.factors.Written.{factorsIn, polynomialsIn, writtenTable, Packed};
+ghost use Rattle.rate_file.specs.factors.Written.{bodiesIn, factorsIn, polynomialsIn};
+ghost use Rattle.rate_file.specs.factors.Written.{writtenTable, Packed};
 
-// 10: the degree of a factor is out of range.
-fn some_degree_out_of_range(p: u64, file: &[u8], count: usize) -> bool
-    requires { ⌜ count ≡ length (factorsIn (now file)) ⌝ }
-    ensures { λ r. ⌜ r ≡ holdsForSome (fileDegreeOutOfRange (prime p)) (factorsIn (now (file .entry))) ⌝ }
+// 10 or 11: the condition holds of the record of a factor.
+fn holds_for_some_record(condition: FactorCondition, p: u64, file: &[u8], count: usize) -> bool
+    requires { ⌜ count ≡ length (bodiesIn (now file)) ⌝ }
+    ensures { λ r. ⌜ r ≡ holdsForSome (holdsOf condition p) (bodiesIn (now (file .entry))) ⌝ }
 {
     let mut i = 0;
-    // none before i: the factors from i on decide
+    // none before i: the records from i on decide
     while i < count {
-        if file_degree_out_of_range(p, body_of(file, 4, i)) {
-            return true;
-        }
-        i += 1;
-    }
-    false
-}
-
-// 11: a factor is not monic over the field.
-fn some_not_monic(p: u64, file: &[u8], count: usize) -> bool
-    requires { ⌜ count ≡ length (factorsIn (now file)) ⌝ }
-    ensures { λ r. ⌜ r ≡ holdsForSome (fileNotMonic (prime p)) (factorsIn (now (file .entry))) ⌝ }
-{
-    let mut i = 0;
-    // none before i: the factors from i on decide
-    while i < count {
-        if file_not_monic(p, body_of(file, 4, i)) {
+        if holds(condition, p, body_of(file, 4, i)) {
             return true;
         }
         i += 1;
@@ -55,10 +39,10 @@ pub fn written_factors_verdict(p: u64, file: &[u8], count: usize) -> Verdict
     requires { ⌜ count ≡ length (factorsIn (now file)) ⌝ }
     ensures { λ r. ⌜ numberIn r ≡ firstOf (writtenTable p (factorsIn (now (file .entry)))) ⌝ }
 {
-    if some_degree_out_of_range(p, file, count) {
+    if holds_for_some_record(FactorCondition::FileDegreeOutOfRange, p, file, count) {
         return Verdict::Refused(Refusal::DegreeOutOfRange);
     }
-    if some_not_monic(p, file, count) {
+    if holds_for_some_record(FactorCondition::FileNotMonic, p, file, count) {
         return Verdict::Refused(Refusal::NotMonic);
     }
     Verdict::Accepted

@@ -24,7 +24,7 @@ use Rattle.meaning.specs.Power.{powerRating}
 use Rattle.meaning.specs.Period.{periodPower, periodTable, periodAnswer, ratePeriod}
 use Rattle.meaning.specs.Answers.{numberOf, toldPower}
 use Rattle.meaning.specs.Calls.{PeriodCall}
-use Rattle.meaning.proofs.Tables.{NoneHolds}
+use Rattle.meaning.proofs.Passes.{Passes}
 use Rattle.bridge.proofs.Interpretation.{inRange-isField}
 use Rattle.bridge.proofs.Irreducibles.{accepted-irreducible}
 use Rattle.bridge.proofs.Accepted.{prime-accepted, count-accepted, terms-accepted}
@@ -32,7 +32,7 @@ use Rattle.irreducible.specs.Trial.{Accepted}
 use Rattle.irreducible.proofs.Accepted.{accepted-short}
 use Rattle.refusals.specs.declared.Verdict.{Verdict}
 use Rattle.refusals.specs.Verdicts.{numberIn, allButLast, periodChecks}
-use Rattle.refusals.proofs.Settled.{accepted-holds, settle-early, period-last}
+use Rattle.refusals.proofs.Settled.{verdict-passes, settle-early, period-last}
 use Rattle.period_way.specs.declared.Found.{Found}
 use Rattle.period_way.specs.Period.{told, PeriodInput, PeriodFound}
 use Rattle.period_way.proofs.Sizes.{period-small}
@@ -63,39 +63,38 @@ module _ (p : ℕ) (f : Polynomial) (ts : List ℕ) (answer work : ℕ) where
     period-early q = period-settled ∙ settle-early (periodChecks p f ts answer work) _ _ e q
 
     module _ (q : v ≡ Verdict.Accepted) where
-      period-passed : NoneHolds (periodChecks p f ts answer work)
-      period-passed = accepted-holds (periodChecks p f ts answer work) e q
+      passes : Passes (periodChecks p f ts answer work)
+      passes = verdict-passes (periodChecks p f ts answer work) e q
 
       pub period-prime : T (primeInRange p)
       unfolding periodChecks allButLast periodTable
-      period-prime = prime-accepted p (period-passed .0)
+      period-prime = prime-accepted p (passes .fieldExists)
 
       period-factor : Accepted p f
       unfolding periodChecks allButLast periodTable
       period-factor =
           record {
-            fieldExists = period-passed .0;
-            degreeInRange = period-passed .1 .1 .1 .0;
-            monicOver = period-passed .1 .1 .1 .1 .0;
+            fieldExists = passes .fieldExists;
+            degreeInRange = passes .degreesInRange;
+            monicOver = passes .monic;
           }
 
       pub period-lent : (4097 ≤ answer) × (8192 ≤ work)
       unfolding periodChecks allButLast periodTable
-      period-lent = lent-enough answer work (period-passed .1 .1 .1 .1 .1 .1 .0)
+      period-lent = lent-enough answer work (passes .lentEnough)
 
       accepted-period : PeriodInput (prime p) f ts
       unfolding periodChecks allButLast periodTable
       accepted-period =
-          let (some-terms, few) = count-accepted (length ts) (period-passed .1 .0) in
+          let (some-terms, few) = count-accepted (length ts) (passes .countInRange) in
           record {
             monic = factor-monic period-factor;
             positive = factor-positive period-factor;
             irreducibility =
-                accepted-irreducible p f (period-passed .0) (period-passed .1 .1 .1 .0)
-                (period-passed .1 .1 .1 .1 .0)
-                (period-passed .1 .1 .1 .1 .1 .0);
+                accepted-irreducible p f (passes .fieldExists) (passes .degreesInRange) (passes .monic)
+                (passes .irreducible);
             short = omega (arith, accepted-short period-factor);
-            inField = terms-accepted p ts (period-passed .1 .1 .0);
+            inField = terms-accepted p ts (passes .termsInField);
             atLeastOne = some-terms;
             notMany = few;
           }

@@ -26,7 +26,7 @@ use Rattle.meaning.specs.Power.{powerRating}
 use Rattle.meaning.specs.Portion.{leastAt, portionTable, ratePortion}
 use Rattle.meaning.specs.Answers.{numberOf, toldPower}
 use Rattle.meaning.specs.Calls.{PortionCall}
-use Rattle.meaning.proofs.Tables.{NoneHolds}
+use Rattle.meaning.proofs.Passes.{Passes}
 use Rattle.bridge.proofs.Interpretation.{inRange-isField}
 use Rattle.bridge.proofs.Products.{monics-nonempty}
 use Rattle.bridge.proofs.Irreducibles.{accepted-irreducible, single-factor}
@@ -35,7 +35,7 @@ use Rattle.bridge.proofs.Accepted.{prime-accepted, count-accepted, terms-accept
 use Rattle.irreducible.specs.Trial.{Accepted}
 use Rattle.refusals.specs.declared.Verdict.{Verdict}
 use Rattle.refusals.specs.Verdicts.{numberIn, allButLast, portionChecks}
-use Rattle.refusals.proofs.Settled.{accepted-holds, settle-early, portion-last}
+use Rattle.refusals.proofs.Settled.{verdict-passes, settle-early, portion-last}
 use Rattle.period_way.specs.declared.Found.{Found}
 use Rattle.period_way.specs.Period.{told}
 use Rattle.set_way.specs.actions.SetActions.{SetInput}
@@ -98,25 +98,25 @@ module _ (p : ℕ) (f : Polynomial) (u : ℕ) (ts : List ℕ) (answer work : ℕ
     portion-early q = portion-settled ∙ settle-early (portionChecks p f u ts answer work) _ _ e q
 
     module _ (q : v ≡ Verdict.Accepted) where
-      portion-passed : NoneHolds (portionChecks p f u ts answer work)
-      portion-passed = accepted-holds (portionChecks p f u ts answer work) e q
+      passes : Passes (portionChecks p f u ts answer work)
+      passes = verdict-passes (portionChecks p f u ts answer work) e q
 
       pub portion-prime : T (primeInRange p)
       unfolding portionChecks allButLast portionTable
-      portion-prime = prime-accepted p (portion-passed .0)
+      portion-prime = prime-accepted p (passes .fieldExists)
 
       portion-factor : Accepted p f
       unfolding portionChecks allButLast portionTable
       portion-factor =
           record {
-            fieldExists = portion-passed .0;
-            degreeInRange = portion-passed .1 .1 .1 .0;
-            monicOver = portion-passed .1 .1 .1 .1 .0;
+            fieldExists = passes .fieldExists;
+            degreeInRange = passes .degreesInRange;
+            monicOver = passes .monic;
           }
 
       pub portion-lent : (4097 ≤ answer) × (8192 ≤ work)
       unfolding portionChecks allButLast portionTable
-      portion-lent = lent-enough answer work (portion-passed .1 .1 .1 .1 .1 .1 .1 .1 .0)
+      portion-lent = lent-enough answer work (passes .lentEnough)
 
       accepted-portion : SetInput (prime p) (f ∷ []) (u ∷ []) ts
       unfolding portionChecks allButLast portionTable named
@@ -124,14 +124,13 @@ module _ (p : ℕ) (f : Polynomial) (u : ℕ) (ts : List ℕ) (answer work : ℕ
           record {
             factors =
                 single-factor (prime p) f (factor-monic portion-factor) (factor-positive portion-factor)
-                (accepted-irreducible p f (portion-passed .0) (portion-passed .1 .1 .1 .0)
-                (portion-passed .1 .1 .1 .1 .0)
-                (portion-passed .1 .1 .1 .1 .1 .0));
+                (accepted-irreducible p f (passes .fieldExists) (passes .degreesInRange) (passes .monic)
+                (passes .irreducible));
             eight = omega arith;
-            uppers = portion-passed .1 .1 .1 .1 .1 .1 .0;
-            enough = enough-accepted _ ts (portion-passed .1 .1 .1 .1 .1 .1 .1 .0);
-            inField = terms-accepted p ts (portion-passed .1 .1 .0);
-            notMany = count-accepted (length ts) (portion-passed .1 .0) .1;
+            uppers = passes .uppersInRange;
+            enough = enough-accepted _ ts (passes .enoughTerms);
+            inField = terms-accepted p ts (passes .termsInField);
+            notMany = count-accepted (length ts) (passes .countInRange) .1;
           }
 
       portion-least : (r : ℕ) × (leastAt (prime p) ((f, u) ∷ []) ts 0 ≡ some r)

@@ -28,7 +28,7 @@ use Rattle.meaning.specs.Result.{written, cleared}
 use Rattle.meaning.specs.Portion.{SetFigures, setPowers, setRating, setTable, setAnswer, rateSet, factorsOf}
 use Rattle.meaning.specs.Answers.{numberOf, toldSet, setFiguresTold, padded, setPadded}
 use Rattle.meaning.specs.Calls.{LentAfter, SetCall}
-use Rattle.meaning.proofs.Tables.{NoneHolds}
+use Rattle.meaning.proofs.Passes.{Passes}
 use Rattle.bridge.proofs.Searches.{or-false, mapOption-some}
 use Rattle.bridge.proofs.Interpretation.{IsField}
 use Rattle.bridge.proofs.Accepted.{prime-accepted, count-accepted, terms-accepted, enough-accepted}
@@ -37,7 +37,7 @@ use Rattle.bridge.proofs.Irreducibles.{accepted-factors}
 use Rattle.bridge.proofs.Portions.{setPowers-exists}
 use Rattle.refusals.specs.declared.Verdict.{Verdict}
 use Rattle.refusals.specs.Verdicts.{numberIn, allButLast, setChecks}
-use Rattle.refusals.proofs.Settled.{accepted-holds, settle-early, settle-last, settle-over, set-last}
+use Rattle.refusals.proofs.Settled.{verdict-passes, settle-early, settle-last, settle-over, set-last}
 use Rattle.powers.specs.product.Writing.{ProductInput, ProductWritten}
 use Rattle.set_way.specs.declared.SetPowers.{SetPowers}
 use Rattle.set_way.specs.actions.SetActions.{SetInput}
@@ -111,33 +111,32 @@ module _ (p : ℕ) (fs : List Polynomial) (us ts : List ℕ) (answer work : ℕ)
   set-early q = rw (set-last p ts answer work fs us) (settle-early _ _ _ e q)
 
   module _ (q : v ≡ Verdict.Accepted) where
-    passed : NoneHolds (setChecks p fs us ts answer work)
-    passed = accepted-holds _ e q
+    passes : Passes (setChecks p fs us ts answer work)
+    passes = verdict-passes _ e q
 
     pub set-prime : T (primeInRange p)
     unfolding setChecks allButLast setTable
-    set-prime = prime-accepted p (passed .0)
+    set-prime = prime-accepted p (passes .fieldExists)
 
     pub set-lent : (4097 ≤ answer) × (8192 ≤ work)
     unfolding setChecks allButLast setTable
-    set-lent = lent-enough answer work (passed .1 .1 .1 .1 .1 .1 .1 .1 .1 .1 .0)
+    set-lent = lent-enough answer work (passes .lentEnough)
 
     accepted-input : SetInput (prime p) fs us ts
     unfolding setChecks allButLast setTable factorCountOutOfRange
     accepted-input =
         let n = length (named fs us) in
-        let few = ltb-false 8 n (or-false (eqb n 0) (ltb 8 n) (passed .1 .1 .1 .0) .1) in
+        let few = ltb-false 8 n (or-false (eqb n 0) (ltb 8 n) (passes .factorCount) .1) in
         record {
           factors =
-              accepted-factors p fs (passed .0) (passed .1 .1 .1 .1 .0) (passed .1 .1 .1 .1 .1 .0)
-              (ap (holdsForSome (isReducible p)) (sym (factorsOf-named fs us))
-              ∙ passed .1 .1 .1 .1 .1 .1 .0)
-              (ap twoEqual (sym (factorsOf-named fs us)) ∙ passed .1 .1 .1 .1 .1 .1 .1 .0);
+              accepted-factors p fs (passes .fieldExists) (passes .degreesInRange) (passes .monic)
+              (ap (holdsForSome (isReducible p)) (sym (factorsOf-named fs us)) ∙ passes .irreducible)
+              (ap twoEqual (sym (factorsOf-named fs us)) ∙ passes .different);
           eight = omega (arith, length-named fs us, few);
-          uppers = passed .1 .1 .1 .1 .1 .1 .1 .1 .0;
-          enough = enough-accepted (totalDegree (named fs us)) ts (passed .1 .1 .1 .1 .1 .1 .1 .1 .1 .0);
-          inField = terms-accepted p ts (passed .1 .1 .0);
-          notMany = count-accepted (length ts) (passed .1 .0) .1;
+          uppers = passes .uppersInRange;
+          enough = enough-accepted (totalDegree (named fs us)) ts (passes .enoughTerms);
+          inField = terms-accepted p ts (passes .termsInField);
+          notMany = count-accepted (length ts) (passes .countInRange) .1;
         }
 
     not-annihilated :

@@ -9,9 +9,9 @@
 -- Assumes nothing.
 use Prim.Native.Nat.{ℕ, _≤_}
 use mathlib.Core.Path.{_≡_, refl, sym, ap, _∙_}
-use mathlib.Core.Bool.{Bool, true, false, true≢false}
+use mathlib.Core.Bool.{Bool, true, false}
 use mathlib.Core.List.{List, [], _∷_}
-use mathlib.Core.Option.{some, Option·some-injective}
+use mathlib.Core.Option.{some, Option·some-injective, Option·none-ne-some}
 use lib.Dec.{eqb, ltb}
 use borrow.Author.Tests.{ltb-false}
 use Rattle.meaning.specs.declared.Refusal.{Refusal}
@@ -21,10 +21,10 @@ use Rattle.meaning.specs.Result.{answerAfter, workAfter}
 use Rattle.meaning.specs.Conditions.{lentTooShort}
 use Rattle.meaning.specs.Answers.{numberOf}
 use Rattle.meaning.specs.Calls.{LentAfter}
-use Rattle.bridge.proofs.Searches.{or-false}
+use Rattle.meaning.proofs.Tables.{firstOf-none, firstOf-skip, firstOf-stop}
+use Rattle.bridge.proofs.Searches.{or-false, none-uncons}
 use Rattle.refusals.specs.declared.Verdict.{Verdict}
 use Rattle.refusals.specs.Verdicts.{numberIn}
-use Rattle.refusals.proofs.Order.{first-here, first-skip}
 
 pub lent-enough : (answer work : ℕ) → lentTooShort answer work ≡ false → (4097 ≤ answer) × (8192 ≤ work)
 unfolding lentTooShort
@@ -35,30 +35,16 @@ lent-enough answer work h =
 abbrev pub names : ℕ → List Check → Bool
 names n table = holdsForSome (λ c. eqb (c .0) n) table
 
-module _ (n : ℕ) (c : Check) (table : List Check) where
-  named-here : eqb (c .0) n ≡ true → names n (c ∷ table) ≡ true
-  unfolding holdsForSome
-  named-here e = rw (e, holdsForSome)
-
-  named-later : eqb (c .0) n ≡ false → names n (c ∷ table) ≡ names n table
-  unfolding holdsForSome
-  named-later e = rw (e, holdsForSome)
-
-first-named : (n m : ℕ) (table : List Check) → names n table ≡ false → some m ≡ firstOf table → eqb m n ≡ false
-unfolding firstOf
-first-named n m [] h e = cc
-first-named n m (c ∷ table) h e = go (first-named n m table) (eqb (c .0) n) ((c .1) tt) refl refl
+first-named : (n m : ℕ) (table : List Check) → names n table ≡ false → firstOf table ≡ some m → eqb m n ≡ false
+first-named n m [] h e = absurd (Option·none-ne-some m (sym (firstOf-none [] tt) ∙ e))
+first-named n m (c ∷ table) h e =
+    let (i, k) = none-uncons (λ c. eqb (c .0) n) c table h in go (first-named n m table k) ((c .1) tt) refl i
   where
-    go :
-        (names n table ≡ false → some m ≡ firstOf table → eqb m n ≡ false)
-        → (b d : Bool)
-        → eqb (c .0) n ≡ b
-        → (c .1) tt ≡ d
+    go : (firstOf table ≡ some m → eqb m n ≡ false) → (b : Bool) → (c .1) tt ≡ b → eqb (c .0) n ≡ false
         → eqb m n ≡ false
-    go rest true d i j = absurd (true≢false (sym (named-here n c table i) ∙ h))
-    go rest false true i j =
-        ap (λ k. eqb k n) (Option·some-injective m (c .0) (e ∙ sym (first-here c table refl j))) ∙ i
-    go rest false false i j = rest (sym (named-later n c table i) ∙ h) (e ∙ first-skip c table refl j)
+    go rest true j i =
+        ap (λ k. eqb k n) (Option·some-injective m (c .0) (sym e ∙ firstOf-stop c table j)) ∙ i
+    go rest false j i = rest (sym (firstOf-skip c table j) ∙ e)
 
 pub never-refused :
     (n : ℕ) (table : List Check) {v : Verdict} {x : Refusal}
@@ -67,7 +53,7 @@ pub never-refused :
     → v ≡ Verdict.Refused x
     → eqb (numberOf x) n ≡ false
 unfolding numberIn
-never-refused n table {x = x} h e q = first-named n (numberOf x) table h (sym (ap numberIn q) ∙ e)
+never-refused n table {x = x} h e q = first-named n (numberOf x) table h (sym e ∙ ap numberIn q)
 
 module _ {A : Type 0} {result : Result (Rated A)} {answer work : List ℕ} where
   lent :

@@ -10,6 +10,7 @@ use mathlib.Core.Option.{Option, none, some}
 use lib.ListN.{drop}
 use Rattle.meaning.specs.declared.Refusal.{Refusal}
 use Rattle.meaning.specs.Result.{Check, firstOf}
+use Rattle.meaning.proofs.Tables.{firstOf-none, firstOf-skip, firstOf-stop}
 use Rattle.refusals.specs.declared.Verdict.{Verdict}
 use Rattle.refusals.specs.Verdicts.{numberIn}
 
@@ -17,48 +18,32 @@ abbrev pub Passed : ℕ → List Check → Type 0
 Passed k table = firstOf table ≡ firstOf (drop k table)
 
 pub first-nowhere : none ≡ firstOf []
-unfolding firstOf
-first-nowhere = refl
+first-nowhere = sym (firstOf-none [] tt)
 
 -- A test b of the next condition: it holds, or the rest decides.
 module _ (c : Check) (table : List Check) {b : Bool} (e : b ≡ (c .1) tt) where
   pub first-here : b ≡ true → some (c .0) ≡ firstOf (c ∷ table)
-  unfolding firstOf
-  first-here h = rw (sym e ∙ h, firstOf)
+  first-here h = sym (firstOf-stop c table (sym e ∙ h))
 
   pub first-skip : b ≡ false → firstOf (c ∷ table) ≡ firstOf table
-  unfolding firstOf
-  first-skip h = rw (sym e ∙ h, firstOf)
+  first-skip h = firstOf-skip c table (sym e ∙ h)
 
 -- Tables one after the other: the first decides, or else the second.
 abbrev otherwise : Option ℕ → Option ℕ → Option ℕ
 otherwise none y = y
 otherwise (some n) y = some n
 
-abbrev pick : Bool → ℕ → Option ℕ → Option ℕ
-pick true n y = some n
-pick false n y = y
-
-first-cons : (c : Check) (table : List Check) → firstOf (c ∷ table) ≡ pick ((c .1) tt) (c .0) (firstOf table)
-unfolding firstOf
-first-cons c table = by ((c .1) tt)
-  where
-    by : (b : Bool) → elim b [ true ↦ some (c .0) | false ↦ firstOf table ] ≡ pick b (c .0) (firstOf table)
-    by true = refl
-    by false = refl
-
-pick-otherwise : (b : Bool) (n : ℕ) (x y : Option ℕ) → pick b n (otherwise x y) ≡ otherwise (pick b n x) y
-pick-otherwise true n x y = refl
-pick-otherwise false n x y = refl
-
 first-append : (A B : List Check) → firstOf (A ++ B) ≡ otherwise (firstOf A) (firstOf B)
-unfolding firstOf
-first-append [] B = refl
-first-append (c ∷ A) B =
-    first-cons c (A ++ B)
-    ∙ ap (pick ((c .1) tt) (c .0)) (first-append A B)
-    ∙ pick-otherwise ((c .1) tt) (c .0) (firstOf A) (firstOf B)
-    ∙ ap (λ (x : Option ℕ). otherwise x (firstOf B)) (sym (first-cons c A))
+first-append [] B = rw (firstOf-none [] tt)
+first-append (c ∷ A) B = go (first-append A B) ((c .1) tt) refl
+  where
+    go :
+        firstOf (A ++ B) ≡ otherwise (firstOf A) (firstOf B)
+        → (b : Bool)
+        → (c .1) tt ≡ b
+        → firstOf (c ∷ (A ++ B)) ≡ otherwise (firstOf (c ∷ A)) (firstOf B)
+    go rest true e = rw (firstOf-stop c (A ++ B) e, firstOf-stop c A e)
+    go rest false e = rw (firstOf-skip c (A ++ B) e, firstOf-skip c A e) rest
 
 -- A verdict v by the table A, before a table B.
 told-before : (A B : List Check) (v : Verdict) → numberIn v ≡ firstOf A

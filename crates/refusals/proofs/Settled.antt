@@ -1,7 +1,7 @@
 -- What a verdict settles: the result of a call whose table it has tried, but for the last condition where
 -- the call meets 17.
 --
---   accepted-holds   == an accepted call meets no condition of the table, as a tuple with a part for each
+--   verdict-passes   == an accepted call meets no condition of the table
 --   settle-…         == the result of the call: for a whole table, and for one whose last condition is open
 --   period-last, portion-last, set-last == the tables of the three ways end with 17
 -- Assumes nothing.
@@ -20,7 +20,8 @@ use Rattle.meaning.specs.Result.{refused, Check, firstOf, settle, valueOf}
 use Rattle.meaning.specs.Period.{periodTable, periodPower}
 use Rattle.meaning.specs.Portion.{portionTable, setTable}
 use Rattle.meaning.specs.Answers.{numberOf}
-use Rattle.meaning.proofs.Tables.{settle-none, NoneHolds, none-holds}
+use Rattle.meaning.proofs.Tables.{settle-none}
+use Rattle.meaning.proofs.Passes.{Passes, firstOf-passes}
 use Rattle.refusals.specs.declared.Verdict.{Verdict}
 use Rattle.refusals.specs.Verdicts.{numberIn, allButLast, periodChecks, portionChecks, setChecks}
 use Rattle.refusals.proofs.Order.{refused-before, accepted-before, first-here, first-skip}
@@ -33,10 +34,10 @@ unfolding settle numberIn
 settle-some table v r e = rw (sym e, settle)
 
 -- what an accepted call has passed: no condition of the table holds
-pub accepted-holds : (table : List Check) {r : Verdict} → numberIn r ≡ firstOf table → r ≡ Verdict.Accepted
-    → NoneHolds table
-unfolding numberIn isNone
-accepted-holds table e q = none-holds table (rw (sym e ∙ ap numberIn q, isNone) tt)
+pub verdict-passes : (table : List Check) {r : Verdict} → numberIn r ≡ firstOf table → r ≡ Verdict.Accepted
+    → Passes table
+unfolding numberIn
+verdict-passes table e q = firstOf-passes table (sym e ∙ ap numberIn q)
 
 -- a whole table
 module _ {A : Type 0} (table : List Check) (v : Unit {0} → Option A) {r : Verdict}

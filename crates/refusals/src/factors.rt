@@ -1,13 +1,12 @@
 // The conditions on factors in their order: 10, 11, 12 for one factor, 9 to 13 for several.
 use crate::Verdict;
-use conditions::factors::some_degree_out_of_range;
-use conditions::factors::some_not_monic;
+use conditions::factors::FactorCondition;
+use conditions::factors::holds_for_some;
 use conditions::factors::two_equal;
 use conditions::lists::factor_degree_out_of_range;
 use conditions::lists::not_monic;
+use conditions::lists::reducible;
 use conditions::numbers::factor_count_out_of_range;
-use conditions::reducibility::reducible;
-use conditions::reducibility::some_reducible;
 use meaning::Refusal;
 ghost use mathlib.Core.Path.{_≡_};
 ghost use Rattle.meaning.specs.Result.{firstOf};
@@ -37,13 +36,13 @@ pub fn factors_verdict(p: u64, factors: &[&[u8]]) -> Verdict
     if factor_count_out_of_range(factors.len()) {
         return Verdict::Refused(Refusal::FactorCount);
     }
-    if some_degree_out_of_range(p, factors) {
+    if holds_for_some(FactorCondition::DegreeOutOfRange, p, factors) {
         return Verdict::Refused(Refusal::DegreeOutOfRange);
     }
-    if some_not_monic(p, factors) {
+    if holds_for_some(FactorCondition::NotMonic, p, factors) {
         return Verdict::Refused(Refusal::NotMonic);
     }
-    if some_reducible(p, factors) {
+    if holds_for_some(FactorCondition::Reducible, p, factors) {
         return Verdict::Refused(Refusal::Reducible);
     }
     if two_equal(factors) {

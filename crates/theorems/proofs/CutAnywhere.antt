@@ -23,6 +23,7 @@ use Rattle.meaning.specs.Portion.{acceptedFactors, factorTable, factorsOf, setP
 use Rattle.meaning.specs.Portion.{ratePortion}
 use Rattle.meaning.specs.Answers.{toldPower, setFiguresTold}
 use Rattle.meaning.specs.Calls.{LentAfter}
+use Rattle.meaning.proofs.Passes.{accepted-passes}
 use Rattle.theorems.specs.Ratings.{GF, Returns}
 use Rattle.theorems.specs.CutAnywhere.{SetReturns, PortionReturns, PeriodReturns, FreeReturns}
 use Rattle.theorems.specs.CutAnywhere.{CutAnywherePromise}
@@ -30,18 +31,17 @@ use Rattle.bridge.proofs.Interpretation.{IsField, inRange-isField, characterist
 use Rattle.bridge.proofs.Polynomials.{monic-nonempty}
 use Rattle.bridge.proofs.Products.{MonicFactors, monics-nonempty, factorsOf-named, length-factorsOf}
 use Rattle.bridge.proofs.Products.{product-elements, product-single}
-use Rattle.bridge.proofs.Irreducibles.{Factors, factors-monics, accepted-prime, accepted-uppers}
-use Rattle.bridge.proofs.Irreducibles.{accepted-different}
+use Rattle.bridge.proofs.Irreducibles.{Factors, factors-monics, accepted-prime, accepted-different}
 use Rattle.bridge.proofs.Searches.{or-false, false-T, some-head}
 use Rattle.bridge.proofs.Actions.{length-cut, cut-elements, endless-known, periodic-cut, actAt-shift}
 use Rattle.bridge.proofs.Minimal.{minimal-unique, leastPower-exists}
 use Rattle.bridge.proofs.Periods.{least-periodPower, periodPower-minimal}
-use Rattle.bridge.proofs.Fitting.{stretch-answer, accepts-free}
+use Rattle.bridge.proofs.Fitting.{stretch-answer}
 use Rattle.bridge.proofs.Portions.{setPowers-exists, setPowers-minimal, onward-cut, portion-found}
 use Rattle.bridge.proofs.Portions.{portion-minimal}
 use Rattle.bridge.proofs.RepeatBounds.{repeatBound-exists}
 use Rattle.theorems.proofs.Ways.{written-returns, one-factor, one-total}
-use Rattle.bridge.proofs.Accepted.{AcceptedTerms, set-answer, accepted-count, portion-answer, period-answer}
+use Rattle.bridge.proofs.Accepted.{AcceptedTerms, accepts-free, set-answer, portion-answer, period-answer}
 use Rattle.bridge.proofs.Accepted.{rating-of, rating-degree, rating-polynomial}
 use Rattle.bridge.proofs.Cutting.{shifted, shifted-minimal, product-constant}
 
@@ -71,11 +71,12 @@ nonzero-upper f v l h e =
 
 positive :
     (p : ℕ) (fs : List Polynomial) (vs : List ℕ) → T (acceptedFactors p fs vs) → 1 ≤ totalDegree (named fs vs)
-unfolding named totalDegree factorCountOutOfRange
-positive p [] vs h = absurd (true≢false (accepted-count p [] vs h))
-positive p (f ∷ fs) [] h = absurd (nonzero-upper f 0 (named fs []) (accepted-uppers p (f ∷ fs) [] h) refl)
+unfolding named totalDegree factorCountOutOfRange factorTable
+positive p [] vs h = absurd (true≢false (accepted-passes p [] vs h .factorCount))
+positive p (f ∷ fs) [] h =
+    absurd (nonzero-upper f 0 (named fs []) (accepted-passes p (f ∷ fs) [] h .uppersInRange) refl)
 positive p (f ∷ fs) (v ∷ vs) h =
-    let u = nonzero-upper f v (named fs vs) (accepted-uppers p (f ∷ fs) (v ∷ vs) h) in
+    let u = nonzero-upper f v (named fs vs) (accepted-passes p (f ∷ fs) (v ∷ vs) h .uppersInRange) in
     let d = accepted-different p (f ∷ fs) (v ∷ vs) h .positive 0 (omega arith) in
     omega (arith, mul-pos {m = v} {n = degree f} (omega arith) d)
 
@@ -289,8 +290,7 @@ module _
         let result =
         stretch-answer p (product (GF p) l) g s annihilated (product-elements I l) constant minimal k m twice
         (length answer) (length work) pick
-        (accepts-free p (cut s k m) (length answer) (length work) (accepted-prime p fs vs accepted)
-        (t .atLeastOne) (t .notMany) (t .inField) lent) in (
+        (accepts-free p (cut s k m) (length answer) (length work) (accepted-prime p fs vs accepted) t lent) in (
           record { degree = degree g; unique = true },
           c .rating ∙ ap figuresOf result,
           written-returns g g answer answer′ (monic-nonempty (GF p) g (minimal .monic)) refl

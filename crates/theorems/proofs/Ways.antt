@@ -4,7 +4,6 @@ use Prim.Native.Nat.{ℕ, zero, suc, _*_, _^_, _≤_, _<_}
 use native.Mathlib.Nat.{mul-le-mul-right, le-trans, add-zero}
 use native.Mathlib.Omega.{arith}
 use mathlib.Core.Path.{_≡_, refl, sym, ap, subst, _∙_}
-use mathlib.Core.Logic.{_⊎_, inl, inr}
 use mathlib.Core.Bool.{Bool, true, false, not}
 use mathlib.Core.List.{List, [], _∷_}
 use mathlib.Core.Option.{some, Option·some-injective}
@@ -24,18 +23,19 @@ use Rattle.meaning.specs.Conditions.{named, totalDegree, notPrime, factorDegree
 use Rattle.meaning.specs.Conditions.{isReducible}
 use Rattle.meaning.specs.Power.{PowerFigures, repeatBound}
 use Rattle.meaning.specs.Period.{NoPower, periodPower, ratePeriod, periodAnswer, periodTable}
-use Rattle.meaning.specs.Portion.{acceptedFactors, factorsOf, leastAt, onward, portionTable, ratePortion}
+use Rattle.meaning.specs.Portion.{acceptedFactors, factorTable, factorsOf, leastAt, onward, portionTable, ratePortion}
 use Rattle.meaning.specs.Portion.{SetFigures, setRating, setPowers, setTable, setAnswer, rateSet}
 use Rattle.meaning.specs.Free.{Choice, Fits, leastDegree, isUnique, freePolynomial, freeRating, freeTable}
 use Rattle.meaning.specs.Free.{rateFree, IsLeastDegree}
 use Rattle.meaning.specs.Answers.{SetTold, toldPower, toldSet, setFiguresTold, setPadded}
 use Rattle.meaning.specs.Calls.{PeriodCall, PortionCall, SetCall}
-use Rattle.meaning.proofs.Tables.{NoneHolds}
+use Rattle.meaning.proofs.Tables.{of-one, isNone-none}
+use Rattle.meaning.proofs.Passes.{Passes, accepted-passes}
 use Rattle.theorems.specs.Ratings.{GF, listIn, Returns, BoundTold, PeriodPromise, PeriodAnswered}
 use Rattle.theorems.specs.Ratings.{PortionPromise, PortionAnswered, SetPromise, SetAnswered}
 use Rattle.theorems.specs.Ratings.{FreePromise, FreeAnswered, NoneBegins}
-use Rattle.bridge.proofs.Searches.{settle-answered, settle-before, map-answered, map-refused, some-bind}
-use Rattle.bridge.proofs.Searches.{some-mapOption, true-T, not-false, isNone-none}
+use Rattle.bridge.proofs.Searches.{settle-answered, settle-refused, map-answered, map-refused, some-bind}
+use Rattle.bridge.proofs.Searches.{some-mapOption, true-T, not-false}
 use Rattle.bridge.proofs.Interpretation.{IsField, prime-pos, inRange-isField, inRange-prime}
 use Rattle.bridge.proofs.Polynomials.{monic-nonempty, getD-below}
 use Rattle.bridge.proofs.Minimal.{minimal-degree}
@@ -51,7 +51,7 @@ use Rattle.bridge.proofs.Fitting.{leastDegree-least, fits-only, isUnique-le, le
 use Rattle.bridge.proofs.Fitting.{polynomial-some, least-bound}
 use Rattle.bridge.proofs.RepeatBounds.{prime-repeatBound-bits, repeatBound-meaning}
 use Rattle.bridge.proofs.Accepted.{count-accepted, terms-accepted, prime-accepted, enough-accepted}
-use Rattle.bridge.proofs.Accepted.{total-accepted, rating-of, rating-polynomial, rated-power, one-passes}
+use Rattle.bridge.proofs.Accepted.{total-accepted, rating-of, rating-polynomial, rated-power}
 
 -- What a call returns, from the bytes that it leaves.
 whole : (h : Polynomial) → 0 < length h → length h ≡ suc (degree h)
@@ -75,7 +75,7 @@ written-returns g h answer answer′ l e b =
 pub record OneFactor (p : ℕ) (f : Polynomial) : Type 1 where
   pub isField : IsField (GF p)
   pub inRange : T (primeInRange p)
-  pub ten : factorDegreeOutOfRange (GF p) f ≡ false
+  pub degreeInRange : factorDegreeOutOfRange (GF p) f ≡ false
   pub monic : T (isMonicOver (GF p) f)
   pub positive : 1 ≤ degree f
   pub irreducibility : T (irreducible (GF p) f)
@@ -92,15 +92,18 @@ one-factor-of p f six ten eleven twelve =
     record {
       isField = inRange-isField p (prime-accepted p six);
       inRange = prime-accepted p six;
-      ten = ten;
+      degreeInRange = ten;
       monic = m;
       positive = accepted-degree (GF p) f (monic-nonempty (GF p) f m) ten;
       irreducibility = accepted-irreducible p f six ten eleven twelve;
     }
 
 pub one-factor : (p : ℕ) (f : Polynomial) (vs : List ℕ) → T (acceptedFactors p (f ∷ []) vs) → OneFactor p f
+unfolding factorTable
 one-factor p f vs h =
-    let x = one-passes p f vs h in one-factor-of p f (x .six) (x .ten) (x .eleven) (x .twelve)
+    let x = accepted-passes p (f ∷ []) vs h in
+    one-factor-of p f (x .fieldExists) (of-one _ f (x .degreesInRange)) (of-one _ f (x .monic))
+    (of-one _ f (x .irreducible))
 
 -- the bound that is told
 bound-told :
@@ -115,7 +118,7 @@ bound-told :
 bound-told p f x r b s inField min few e =
     let (small, P) = inRange-prime p (x .inRange) in
     let bits : b < 2 ^ 64 =
-    prime-repeatBound-bits p f r b (monic-nonempty (GF p) f (x .monic)) (prime-pos P) small (x .ten) few e in
+    prime-repeatBound-bits p f r b (monic-nonempty (GF p) f (x .monic)) (prime-pos P) small (x .degreeInRange) few e in
     record {
       value = e;
       bits64 = bits;
@@ -149,11 +152,6 @@ power-returns p f r b s result answer answer′ min e lent =
     written-returns g g answer answer′ (monic-nonempty (GF p) g (min .monic)) refl
     (lent ∙ ap (λ y. answerAfter y answer) e ∙ ap (λ h. written h answer) (rating-polynomial p f r b))
 
--- the last condition of a table
-the-last : {A : Type 0} → A ⊎ ⊥ → A
-the-last (inl a) = a
-the-last (inr b) = absurd b
-
 not-continued :
     (p : ℕ) (g : Polynomial) (ts : List ℕ) → not (annihilatesKnown (GF p) g ts) ≡ true → NoneBegins p g ts
 not-continued p g ts h =
@@ -179,10 +177,10 @@ period-rated p f ts answer work r answer′ work′ c a e =
     settle-answered _
     (periodTable p (factorDegreeOutOfRange (GF p) f) (notMonic (GF p) f) f ts (length answer) (length work))
     q in
-    let x = one-factor-of p f (h .0) (h .1 .1 .1 .0) (h .1 .1 .1 .1 .0) (h .1 .1 .1 .1 .1 .0) in
+    let x = one-factor-of p f (h .fieldExists) (h .degreesInRange) (h .monic) (h .irreducible) in
     let (n, bound, y, z, t) = rated-power p f (periodPower (GF p) f ts) w in
-    let count = count-accepted (length ts) (h .1 .0) in
-    let els = terms-accepted p ts (h .1 .1 .0) in
+    let count = count-accepted (length ts) (h .countInRange) in
+    let els = terms-accepted p ts (h .termsInField) in
     let min =
     periodPower-minimal (x .isField) f (x .monic) (x .positive) (x .irreducibility) ts (count .0) y in
     let few =
@@ -207,13 +205,13 @@ pub period-none :
     → NoPower (GF p) f ts
 unfolding ratePeriod periodAnswer periodTable
 period-none p f ts answer work e =
-    let h =
-    settle-before _
+    let (h, z) =
+    settle-refused _
     (periodTable p (factorDegreeOutOfRange (GF p) f) (notMonic (GF p) f) f ts answer work) (omega arith) e in
-    let x = one-factor-of p f (h .0) (h .1 .1 .1 .0) (h .1 .1 .1 .1 .0) (h .1 .1 .1 .1 .1 .0) in
-    let count = count-accepted (length ts) (h .1 .0) in
+    let x = one-factor-of p f (h .fieldExists) (h .degreesInRange) (h .monic) (h .irreducible) in
+    let count = count-accepted (length ts) (h .countInRange) in
     periodPower-none (x .isField) f (x .monic) (x .positive) (x .irreducibility) ts (count .0)
-    (isNone-none (true-T (the-last (h .1 .1 .1 .1 .1 .1 .1))))
+    (isNone-none (true-T z))
 
 pub period-promise : PeriodPromise
 unfolding figuresOf
@@ -244,10 +242,10 @@ portion-rated p f v ts answer work r answer′ work′ c a e =
     let one : List (Polynomial × ℕ) = (f, v) ∷ [] in
     let (b, q, u) = map-answered (λ x. x .figures) result (sym (c .rating) ∙ e) in
     let (h, w) = settle-answered _ (portionTable p f v ts (length answer) (length work)) q in
-    let x = one-factor-of p f (h .0) (h .1 .1 .1 .0) (h .1 .1 .1 .1 .0) (h .1 .1 .1 .1 .1 .0) in
+    let x = one-factor-of p f (h .fieldExists) (h .degreesInRange) (h .monic) (h .irreducible) in
     let (n, bound, y, z, t) = rated-power p f (leastAt (GF p) one ts 0) w in
-    let els = terms-accepted p ts (h .1 .1 .0) in
-    let enough = enough-accepted (totalDegree one) ts (h .1 .1 .1 .1 .1 .1 .1 .0) in
+    let els = terms-accepted p ts (h .termsInField) in
+    let enough = enough-accepted (totalDegree one) ts (h .enoughTerms) in
     let size : v * degree f ≤ length ts = subst (λ d. d ≤ length ts) (one-total f v) enough in
     let monics =
     factors-monics (x .isField) one (single-factor (GF p) f (x .monic) (x .positive) (x .irreducibility)) in
@@ -257,7 +255,7 @@ portion-rated p f v ts answer work r answer′ work′ c a e =
     let upper : n ≤ v = leastAt-upper (x .isField) one (monics-nonempty (GF p) one monics) ts 0 y in
     let few : n * degree f ≤ 4096 =
     le-trans (mul-le-mul-right (degree f) upper)
-    (subst (λ d. d ≤ 4096) (one-total f v) (total-accepted one (h .1 .1 .1 .1 .1 .1 .0))) in
+    (subst (λ d. d ≤ 4096) (one-total f v) (total-accepted one (h .uppersInRange))) in
     let returns =
     power-returns p f n bound s result answer answer′ min (q ∙ ap answered (sym t)) (c .lent .answerBytes) in
     subst (λ a. PortionAnswered p f v ts a answer′) (ap (λ b. b .figures) t ∙ u)
@@ -271,7 +269,7 @@ portion-rated p f v ts answer work r answer′ work′ c a e =
       atMost = upper;
       agrees =
           annihilated-agrees (x .isField) one monics ts els enough
-          (not-false (annihilatesKnown (GF p) (product (GF p) one) ts) (h .1 .1 .1 .1 .1 .1 .1 .1 .1 .0));
+          (not-false (annihilatesKnown (GF p) (product (GF p) one) ts) (h .annihilated));
       least = portion-least (x .isField) f (x .monic) v ts els size y;
       minimal = subst (λ h. MinimalPolynomial (GF p) h s) (sym (returns .coefficients)) min;
       returns = returns;
@@ -286,10 +284,10 @@ portion-none :
     → NoneBegins p (power (GF p) f v) ts
 unfolding ratePortion portionTable
 portion-none p f v ts answer work e s z =
-    let h = settle-before _ (portionTable p f v ts answer work) (omega arith) e in
-    let x = one-factor-of p f (h .0) (h .1 .1 .1 .0) (h .1 .1 .1 .1 .0) (h .1 .1 .1 .1 .1 .0) in
+    let (h, k) = settle-refused _ (portionTable p f v ts answer work) (omega arith) e in
+    let x = one-factor-of p f (h .fieldExists) (h .degreesInRange) (h .monic) (h .irreducible) in
     let same = product-single (x .isField) f v (monic-nonempty (GF p) f (x .monic)) in
-    not-continued p (product (GF p) ((f, v) ∷ [])) ts (the-last (h .1 .1 .1 .1 .1 .1 .1 .1 .1)) s
+    not-continued p (product (GF p) ((f, v) ∷ [])) ts k s
     (subst (λ g. AnnihilatesEndless (GF p) g s) (sym same) z)
 
 pub portion-promise : PortionPromise
@@ -329,15 +327,15 @@ module _ (p : ℕ) (fs : List Polynomial) (vs ts answer work : List ℕ) (r : Se
         setTable p (holdsForSome (factorDegreeOutOfRange (GF p)) fs) (holdsForSome (notMonic (GF p)) fs) l ts
         (length answer) (length work)
 
-    set-factors : NoneHolds table → Factors (GF p) (factorsOf l)
+    set-factors : Passes table → Factors (GF p) (factorsOf l)
     unfolding setTable
     set-factors h =
         let same = factorsOf-named fs vs in
-        accepted-factors p (factorsOf l) (h .0)
-        (ap (holdsForSome (factorDegreeOutOfRange (GF p))) same ∙ h .1 .1 .1 .1 .0)
-        (ap (holdsForSome (notMonic (GF p))) same ∙ h .1 .1 .1 .1 .1 .0)
-        (h .1 .1 .1 .1 .1 .1 .0)
-        (h .1 .1 .1 .1 .1 .1 .1 .0)
+        accepted-factors p (factorsOf l) (h .fieldExists)
+        (ap (holdsForSome (factorDegreeOutOfRange (GF p))) same ∙ h .degreesInRange)
+        (ap (holdsForSome (notMonic (GF p))) same ∙ h .monic)
+        (h .irreducible)
+        (h .different)
 
     set-rated :
         (a : SetTold) → toldSet (r .outcome) ≡ answered a → SetAnswered p fs vs ts a (r .powers) answer′
@@ -347,10 +345,10 @@ module _ (p : ℕ) (fs : List Polynomial) (vs ts answer work : List ℕ) (r : Se
         let (b, q, u) = map-answered (λ x. x .figures) result q′ in
         let (h, w) = settle-answered _ table q in
         let (rs, y, t) = some-mapOption (setRating (GF p) l) (setPowers (GF p) l ts) w in
-        let I = inRange-isField p (prime-accepted p (h .0)) in
+        let I = inRange-isField p (prime-accepted p (h .fieldExists)) in
         let factors = set-factors h in
-        let els = terms-accepted p ts (h .1 .1 .0) in
-        let enough = enough-accepted (totalDegree l) ts (h .1 .1 .1 .1 .1 .1 .1 .1 .1 .0) in
+        let els = terms-accepted p ts (h .termsInField) in
+        let enough = enough-accepted (totalDegree l) ts (h .enoughTerms) in
         let meaning = setPowers-minimal I l factors ts els enough y in
         let monics = factors-monics I l factors in
         let nonempties = monics-nonempty (GF p) l monics in
@@ -373,7 +371,7 @@ module _ (p : ℕ) (fs : List Polynomial) (vs ts answer work : List ℕ) (r : Se
               (minimal-degree I g (onward (GF p) l ts) (meaning .minimal) (product (GF p) l)
               (product-monic I l monics) (one .annihilated))
               (subst (λ d. d ≤ 4096) (sym (degree-product I l nonempties))
-              (total-accepted l (h .1 .1 .1 .1 .1 .1 .1 .1 .0)));
+              (total-accepted l (h .uppersInRange)));
           continuation = record { continues = one; only = onward-unique I l monics ts els enough };
           atMost =
               λ i k.
@@ -381,8 +379,7 @@ module _ (p : ℕ) (fs : List Polynomial) (vs ts answer work : List ℕ) (r : Se
               subst (λ v. getD rs i 0 ≤ v) (powerAt-named fs vs i k) (leastAt-upper I l nonempties ts i found);
           agrees =
               annihilated-agrees I l monics ts els enough
-              (not-false (annihilatesKnown (GF p) (product (GF p) l) ts)
-              (h .1 .1 .1 .1 .1 .1 .1 .1 .1 .1 .1 .0));
+              (not-false (annihilatesKnown (GF p) (product (GF p) l) ts) (h .annihilated));
           meaning = meaning;
           minimal =
               subst (λ h. MinimalPolynomial (GF p) h (onward (GF p) l ts))
@@ -398,11 +395,11 @@ pub set-none :
     → NoneBegins p (product (GF p) (named fs vs)) ts
 unfolding rateSet setAnswer setTable
 set-none p fs vs ts answer work e =
-    let h =
-    settle-before _
+    let (_, z) =
+    settle-refused _
     (setTable p (holdsForSome (factorDegreeOutOfRange (GF p)) fs) (holdsForSome (notMonic (GF p)) fs)
     (named fs vs) ts answer work) (omega arith) e in
-    not-continued p (product (GF p) (named fs vs)) ts (the-last (h .1 .1 .1 .1 .1 .1 .1 .1 .1 .1 .1))
+    not-continued p (product (GF p) (named fs vs)) ts z
 
 pub set-promise : SetPromise
 unfolding figuresOf
@@ -442,16 +439,16 @@ free-promise pick p ts answer work r answer′ work′ c a e =
     let (h, w) = settle-answered _ (freeTable p ts (length answer) (length work)) q in
     let (L, y, z) = some-bind (leastDegree (GF p) ts) (freeRating pick p ts) w in
     let (g, s, t) = some-mapOption _ (freePolynomial pick p ts L) z in
-    let I = inRange-isField p (prime-accepted p (h .0)) in
+    let I = inRange-isField p (prime-accepted p (h .fieldExists)) in
     let least = leastDegree-least I y in
-    let fits = free-fits p I pick ts L g least (c .chosen (h .0) (h .1 .0) (h .1 .1 .0) L y) s in
+    let fits = free-fits p I pick ts L g least (c .chosen (h .fieldExists) (h .countInRange) (h .termsInField) L y) s in
     let back : listIn answer′ L ≡ g =
     subst (λ d. listIn answer′ d ≡ g) (fits .ofDegree)
     (written-returns g g answer answer′ (monic-nonempty (GF p) g (fits .monic)) refl
     (c .lent .answerBytes ∙ ap (λ x. answerAfter x answer) (q ∙ ap answered (sym t))) .coefficients) in
     subst (λ a. FreeAnswered p ts a answer′) (ap (λ b. b .figures) t ∙ u)
     (record {
-      small = le-trans (least-bound I least) (count-accepted (length ts) (h .1 .0) .1);
+      small = le-trans (least-bound I least) (count-accepted (length ts) (h .countInRange) .1);
       least = least;
       fits = subst (Fits (GF p) ts L) (sym back) fits;
       word = (isUnique-le ts L, le-isUnique ts L);

@@ -47,9 +47,9 @@ pub irreducible-promise : IrreduciblePromise
 unfolding askIrreducible irreducibleTable
 irreducible-promise p f r c said e =
     let (h, w) = settle-answered _ (irreducibleTable p f) (sym (c .answer) ∙ e) in
-    let I = inRange-isField p (prime-accepted p (h .0)) in
-    let m = accepted-monic (GF p) f (h .1 .1 .0) in
-    let d = bridge.accepted-degree (GF p) f (monic-nonempty (GF p) f m) (h .1 .0) in
+    let I = inRange-isField p (prime-accepted p (h .fieldExists)) in
+    let m = accepted-monic (GF p) f (h .monic) in
+    let d = bridge.accepted-degree (GF p) f (monic-nonempty (GF p) f m) (h .degreesInRange) in
     let same : irreducible (GF p) f ≡ said = Option·some-injective _ _ w in (
       λ t. bridge.irreducible-words I f m d (subst T (sym same) t),
       λ n. subst T same (bridge.words-irreducible I f n),
@@ -69,12 +69,12 @@ continue-promise p g start buffer place r buffer′ c =
           let (after, q, _) =
           map-answered (λ _. tt) (continueSequence p g start place buffer) (sym (c .filling) ∙ e) in
           let (h, w) = settle-answered _ (continueTable p g start place (length buffer)) q in
-          let I = inRange-isField p (prime-accepted p (h .0)) in
-          let m = accepted-monic (GF p) g (h .1 .1 .1 .1 .0) in
-          let size = start-length g start (h .1 .1 .1 .1 .1 .0) in
+          let I = inRange-isField p (prime-accepted p (h .fieldExists)) in
+          let m = accepted-monic (GF p) g (h .monic) in
+          let size = start-length g start (h .enoughTerms) in
           record {
             sequence = continuation (GF p) g start;
-            continues = continuation-continues I g m start size (terms-accepted p start (h .1 .1 .0));
+            continues = continuation-continues I g m start size (terms-accepted p start (h .termsInField));
             only = λ s x. continues-unique I g m start size s x;
             bytes =
                 c .bufferBytes ∙ ap (λ x. bufferAfter x buffer) q ∙ sym (Option·some-injective _ _ w);

@@ -11,19 +11,13 @@ use lib.ListN.{length, getD}
 use borrow.Author.Tests.{le-ltb}
 use Rattle.meaning.specs.Search.{holdsForAll}
 use Rattle.meaning.specs.Field.{Field, areElements}
-use Rattle.meaning.specs.Polynomial.{degree, leading, isMonic}
-use Rattle.meaning.specs.Conditions.{termOutOfField, degreeOutOfRange, factorDegreeOutOfRange, notMonic}
+use Rattle.meaning.specs.Polynomial.{leading, isMonic}
+use Rattle.meaning.specs.Conditions.{termOutOfField, factorDegreeOutOfRange, notMonic}
 
 pub empty-degree-passes : (F : Field) (f : List ℕ) → length f ≡ 0 → false ≡ factorDegreeOutOfRange F f
 unfolding factorDegreeOutOfRange
 empty-degree-passes F [] h = refl
 empty-degree-passes F (c ∷ f) h = absurd (omega arith)
-
-pub list-degree : (F : Field) (f : List ℕ) → (length f ≡ 0 → ⊥)
-    → degreeOutOfRange F (length f - 1) ≡ factorDegreeOutOfRange F f
-unfolding factorDegreeOutOfRange degree
-list-degree F [] h = absurd (h refl)
-list-degree F (c ∷ f) h = refl
 
 pub leading-last : (f : List ℕ) → leading f ≡ getD f (length f - 1) 0
 unfolding leading

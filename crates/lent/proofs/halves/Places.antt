@@ -3,31 +3,20 @@
 --   copied            == a list copied over another of its length
 --   writing-block     == a turn of a loop that writes m numbers of a list at once
 --   kept-half, placed == numbers pasted at the front of a half: what stands in the two halves and beyond
---   lent-length, block-acted == the terms that are lent to an action, and the block of its values that comes
---                          back
 --
 -- Assumes nothing.
 use Prim.Native.Nat.{ℕ, _+_, _*_, _-_, _≤_}
 use mathlib.Core.Path.{_≡_, sym, ap, ap₂, subst, _∙_}
-use mathlib.Core.Bool.{Bool}
 use mathlib.Core.List.{List, _++_, append-assoc, append-nil}
-use native.Mathlib.Nat.{add-sub-cancel-left}
 use native.Mathlib.Decide.{decLt}
 use native.Mathlib.Omega.{arith}
 use lib.ListN.{length, take, drop, drop-of-length-le}
 use lib.Seq.{take-length, take-take, take-add, drop-drop}
 use lib.Seq.{paste, take-paste, drop-paste, length-paste}
-use borrow.Rule.Slice.PartMut.{putMid}
-use Rattle.meaning.specs.Field.{Field}
-use Rattle.meaning.specs.Polynomial.{Polynomial}
-use Rattle.meaning.specs.Sequence.{cut, periodic}
-use Rattle.bridge.proofs.Actions.{actStride, length-cut}
-use Rattle.bridge.proofs.KnownActions.{allZero}
 use Rattle.arith.specs.Slices.{part}
-use Rattle.arith.proofs.Slices.{length-part, part-paste-inside, part-paste-before, part-paste-after}
+use Rattle.arith.proofs.Slices.{part-paste-inside, part-paste-before, part-paste-after}
 use Rattle.arith.proofs.Writing.{Writing}
-use Rattle.lent.proofs.Parts.{put-paste}
-use Rattle.lent.specs.halves.Halves.{half, Halves, Placed, values, BlockActed}
+use Rattle.lent.specs.halves.Halves.{half, Placed}
 
 pub copied : (l t : List ℕ) → length l ≤ length t → take (length t) t ++ drop (length t) l ≡ t
 copied l t h = ap₂ _++_ (take-length t) (drop-of-length-le l h) ∙ append-nil t
@@ -103,36 +92,3 @@ module _
           beyond = drop-beyond w (4096 * h) t (length t) 8192 (omega arith) (omega arith) (omega arith);
           size = length-paste w (4096 * h) t (length t) (omega arith) (omega arith);
         }
-
--- A block of values that comes back to the place i of the other half, for the terms of half h that were lent
-module _ {w : List ℕ} {h n : ℕ} (p : Halves w h n) where
-  lent-half : part w (4096 * h) (4096 * h + n - 4096 * h) ≡ half w h n
-  lent-half = ap (part w (4096 * h)) (add-sub-cancel-left (4096 * h) n)
-
-  pub lent-length : length (part w (4096 * h) (4096 * h + n - 4096 * h)) ≡ n
-  lent-length = ap length lent-half ∙ length-part w (4096 * h) n (omega (arith, p .enough, p .which, p .few))
-
-  module _ (i : ℕ) where
-    abbrev to : ℕ
-    to = 4096 * (1 - h) + i
-
-    pub block-length : (m : ℕ) → i + m ≤ n → length (part w to (to + m - to)) ≡ m
-    block-length m l =
-        ap (λ k. length (part w to k)) (add-sub-cancel-left to m)
-        ∙ length-part w to m (omega (arith, p .enough, p .which, p .few))
-
-    pub block-acted :
-        (F : Field) (f : Polynomial) (q m : ℕ) {v y : List ℕ} {r : Bool}
-        → y ≡ v
-        → v ≡ cut (actStride F f q (periodic (part w (4096 * h) (4096 * h + n - 4096 * h)))) i m
-        → r ≡ allZero y
-        → BlockActed F w h n i m f q (putMid to (to + m - to) w y) r
-    block-acted F f q m {v} {y} {r} g e z =
-        record {
-          bytes =
-              put-paste w to m y (ap length all ∙ length-cut _ i m) ∙ ap (λ u. paste w to u m) all;
-          zero = z ∙ ap allZero all;
-        }
-      where
-        all : y ≡ values F w h n i m f q
-        all = g ∙ e ∙ ap (λ t. cut (actStride F f q (periodic t)) i m) lent-half

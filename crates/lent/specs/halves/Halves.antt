@@ -8,21 +8,12 @@
 --                        bytes beyond the two halves, and the length
 --   Acted w h v w′ r  == the values v were placed in the half other than h, which is as it was, and r says
 --                        whether they are all 0
---   values F w h n i m f q == the m values from the place i on of the action of f with the stride q on the
---                        first n bytes of half h, read as a period
---   BlockActed F w h n i m f q w′ r == w has become w′: these values stand in the half other than h at the m
---                        places from i on, all other bytes are as they were, and r says whether the values are
---                        all 0
-use Prim.Native.Nat.{ℕ, _+_, _*_, _-_, _≤_, _<_}
+use Prim.Native.Nat.{ℕ, _*_, _-_, _≤_, _<_}
 use mathlib.Core.Path.{_≡_}
 use mathlib.Core.Bool.{Bool}
 use mathlib.Core.List.{List}
 use lib.ListN.{length, drop}
-use lib.Seq.{paste}
-use Rattle.meaning.specs.Field.{Field}
 use Rattle.meaning.specs.Polynomial.{Polynomial}
-use Rattle.meaning.specs.Sequence.{cut, periodic}
-use Rattle.bridge.proofs.Actions.{actStride}
 use Rattle.bridge.proofs.KnownActions.{allZero}
 use Rattle.arith.specs.Slices.{part}
 
@@ -48,12 +39,3 @@ pub record Placed (w : List ℕ) (h k : ℕ) (v w′ : List ℕ) : Type 0 where
 pub record Acted (w : List ℕ) (h : ℕ) (v w′ : List ℕ) (r : Bool) : Type 0 where
   pub placed : Placed w (1 - h) h v w′
   pub zero : r ≡ allZero v
-
-abbrev pub values : Field → List ℕ → ℕ → ℕ → ℕ → ℕ → Polynomial → ℕ → List ℕ
-values F w h n i m f q = cut (actStride F f q (periodic (half w h n))) i m
-
-pub record BlockActed
-    (F : Field) (w : List ℕ) (h n i m : ℕ) (f : Polynomial) (q : ℕ) (w′ : List ℕ) (r : Bool)
-    : Type 0 where
-  pub bytes : w′ ≡ paste w (4096 * (1 - h) + i) (values F w h n i m f q) m
-  pub zero : r ≡ allZero (values F w h n i m f q)

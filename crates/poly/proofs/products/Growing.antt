@@ -26,7 +26,7 @@ use Rattle.bridge.proofs.Spread.{spread, spread-nonempty, length-spread}
 use Rattle.bridge.proofs.Actions.{known-getD}
 use Rattle.poly.specs.convolution.Convolution.{convolved, convolvedWithin, Below}
 use Rattle.poly.proofs.convolution.Convolution.{convolved-local}
-use Rattle.poly.proofs.blocks.Between.{Between, between-paste}
+use Rattle.poly.proofs.convolution.Between.{Between, between-paste}
 use Rattle.poly.specs.products.Product.{places, Padded}
 use Rattle.poly.proofs.products.Convolution.{convolved-skip, convolved-zero, times-convolved}
 

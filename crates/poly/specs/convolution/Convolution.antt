@@ -5,8 +5,8 @@
 --                        at least q·deg f
 --   convolvedWithin F f q w at to m == w with these numbers of w itself, for the m places from `at` on, in
 --                        the m places from `to` on
---   Behind f q a at m == all numbers that are read for the m places from `at` on stand in a
---   Below f q w at to m == they stand in w, and none of them after the place in w where its number goes
+--   Below f q w at to m == all numbers that are read for these places stand in w, and none of them after the
+--                        place where its number goes
 use Prim.Native.Nat.{ℕ, _+_, _*_, _-_, _≤_}
 use mathlib.Core.List.{List, [], _∷_}
 use lib.ListN.{length}
@@ -20,10 +20,6 @@ convolved F (c ∷ f) q s k = (F .add) ((F .mul) c (s k)) (convolved F f q s (k 
 
 abbrev pub convolvedWithin : Field → List ℕ → ℕ → List ℕ → ℕ → ℕ → ℕ → List ℕ
 convolvedWithin F f q w at to m = paste w to (cut (convolved F f q (known w)) at m) m
-
-pub record Behind (f : List ℕ) (q : ℕ) (a : List ℕ) (at m : ℕ) : Type 0 where
-  pub reach : q * (length f - 1) ≤ at
-  pub within : at + m ≤ length a
 
 pub record Below (f : List ℕ) (q : ℕ) (w : List ℕ) (at to m : ℕ) : Type 0 where
   pub reach : q * (length f - 1) ≤ at

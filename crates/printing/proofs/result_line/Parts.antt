@@ -15,13 +15,13 @@ use Rattle.meaning.specs.Print.{text, decimal, joined, line, resultLine}
 use Rattle.printing.specs.result_line.ResultLines.{started, ratedLine}
 
 pub refused-parts :
-    (box n : ℕ) → ((decimal box ++ text " refused ") ++ decimal n) ++ text "\n" ≡ resultLine box (refused n)
+    (box n : ℕ) → (decimal box ++ text " refused ") ++ (decimal n ++ text "\n") ≡ resultLine box (refused n)
 unfolding resultLine line joined text
 refused-parts box n = simp append-assoc
 
 pub started-parts :
     (box d m : ℕ)
-    → ((((decimal box ++ text " ok ") ++ decimal d) ++ text "/") ++ decimal m) ++ text " " ≡ started box d m
+    → ((decimal box ++ text " ok ") ++ (decimal d ++ text "/")) ++ (decimal m ++ text " ") ≡ started box d m
 unfolding started text
 started-parts box d m = simp append-assoc
 

@@ -4,7 +4,7 @@
 use Prim.Native.Nat.{ℕ, suc, _+_, _≤_, _<_}
 use native.Mathlib.Numerals.{add-one}
 use native.Mathlib.Omega.{arith}
-use mathlib.Core.Path.{_≡_, sym, ap, _∙_}
+use mathlib.Core.Path.{_≡_, refl, sym, ap, _∙_}
 use mathlib.Core.Bool.{Bool, true, false}
 use mathlib.Core.List.{List, [], _∷_, _++_, map, flatten, map-map}
 use lib.ListN.{length, getD, take, drop, set, length-append, length-map, drop-of-length-le}
@@ -12,36 +12,34 @@ use lib.ListN.{List·getD-map}
 use lib.Seq.{take-all, take-suc, take-suc-set, drop-cons, sets}
 use Rattle.meaning.specs.Search.{holdsForSome}
 use Rattle.meaning.specs.Polynomial.{Polynomial}
-use Rattle.meaning.specs.Route.{bodies}
 use Rattle.meaning.specs.File.{WrittenFactor, fileFactor, polynomialOf}
 use Rattle.bridge.proofs.Monics.{getD-mapped}
-use Rattle.route.specs.framing.Framing.{recordsFrom}
 use Rattle.route.specs.payload.Payload.{LaidFactor}
 use Rattle.route.proofs.payload.Stores.{sets-append}
-use Rattle.conditions.proofs.factors.Scan.{some-scan, scan-found, scan-next, scan-over}
-use Rattle.rate_file.specs.factors.Written.{factorsIn, polynomialsIn, noFactor, Packed}
+use Rattle.rate_file.specs.factors.Written.{bodiesIn, factorsIn, polynomialsIn, noFactor, Packed}
 
-abbrev bodiesIn : List ℕ → List (List ℕ)
-bodiesIn file = bodies 4 (recordsFrom file 0)
+some-map : {A B : Type 0} (t : B → Bool) (g : A → B) (l : List A)
+    → holdsForSome t (map g l) ≡ holdsForSome (λ a. t (g a)) l
+unfolding holdsForSome
+some-map t g [] = refl
+some-map t g (a ∷ l) = ap (λ b. elim (t (g a)) [ true ↦ true | false ↦ b ]) (some-map t g l)
 
-pub factors-count : (file : List ℕ) → length (factorsIn file) ≡ length (bodies 4 (recordsFrom file 0))
+pub factors-count : (file : List ℕ) → length (factorsIn file) ≡ length (bodiesIn file)
 unfolding factorsIn
 factors-count file = length-map (bodiesIn file) fileFactor
 
+-- a test of the factors is one of the bodies of their records
+pub some-factor : (t : WrittenFactor → Bool) (file : List ℕ)
+    → holdsForSome (λ body. t (fileFactor body)) (bodiesIn file)
+    ≡ holdsForSome t (factorsIn file)
+unfolding factorsIn
+some-factor t file = sym (some-map t fileFactor (bodiesIn file))
+
 -- the body of record i of the kind 4
-module _ (file : List ℕ) (i : ℕ) (body : List ℕ) (b : body ≡ getD (bodies 4 (recordsFrom file 0)) i []) where
+module _ (file : List ℕ) (i : ℕ) (body : List ℕ) (b : body ≡ getD (bodiesIn file) i []) where
   pub factor-body : getD (factorsIn file) i noFactor ≡ fileFactor body
   unfolding factorsIn noFactor
   factor-body = List·getD-map fileFactor (bodiesIn file) i [] ∙ ap fileFactor (sym b)
-
-  -- no factor before i passes the test: those from i on decide
-  module _ (t : WrittenFactor → Bool) {x : Bool} (e : holdsForSome t (drop i (factorsIn file)) ≡ x)
-      (inside : i < length (factorsIn file)) where
-    pub body-found : t (fileFactor body) ≡ true → true ≡ x
-    body-found q = scan-found (some-scan t) noFactor (factorsIn file) i e inside (rw factor-body q)
-
-    pub body-next : t (fileFactor body) ≡ false → holdsForSome t (drop (i + 1) (factorsIn file)) ≡ x
-    body-next q = scan-next (some-scan t) noFactor (factorsIn file) i e inside (rw factor-body q)
 
   -- one more number of each factor
   pub number-next : (g : WrittenFactor → ℕ) (ns : List ℕ) (n : ℕ) → i < length ns
@@ -69,14 +67,8 @@ numbers-all file g i n ns same all e =
     ∙ e
     ∙ take-all i (map g (factorsIn file)) (rw length-map (omega arith))
 
-pub factors-over : (file : List ℕ) (i : ℕ) (t : WrittenFactor → Bool) {x : Bool}
-    → holdsForSome t (drop i (factorsIn file)) ≡ x
-    → length (factorsIn file) ≤ i
-    → false ≡ x
-factors-over file i t e h = scan-over (some-scan t) noFactor (factorsIn file) i e h
-
 -- the polynomials from i on: that of factor i, and then the others
-module _ (file : List ℕ) (i : ℕ) (body : List ℕ) (b : body ≡ getD (bodies 4 (recordsFrom file 0)) i [])
+module _ (file : List ℕ) (i : ℕ) (body : List ℕ) (b : body ≡ getD (bodiesIn file) i [])
     (inside : i < length (factorsIn file)) where
   pub polynomial-at : (d : Polynomial) → getD (polynomialsIn file) i d ≡ polynomialOf (fileFactor body)
   polynomial-at d =

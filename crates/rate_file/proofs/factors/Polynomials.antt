@@ -8,11 +8,12 @@ use mathlib.Core.List.{List, [], _∷_, map, flatten}
 use lib.ListN.{length, getD, length-append, length-drop}
 use Rattle.meaning.specs.Search.{holdsForSome}
 use Rattle.meaning.specs.Field.{Field}
-use Rattle.meaning.specs.Route.{lookUp, bodyLengths, bodies}
+use Rattle.meaning.specs.Route.{lookUp, bodyLengths}
 use Rattle.meaning.specs.File.{WrittenFactor, fileFactor, polynomialOf, fileDegreeOutOfRange}
-use Rattle.bridge.proofs.WrittenFactors.{AllFull, polynomial-short, first-fails}
-use Rattle.route.specs.framing.Framing.{orElse, bodyLength, recordsFrom}
-use Rattle.rate_file.specs.factors.Written.{factorsIn, noFactor}
+use Rattle.bridge.proofs.Searches.{none-uncons}
+use Rattle.bridge.proofs.WrittenFactors.{AllFull, polynomial-short}
+use Rattle.route.specs.framing.Framing.{orElse, bodyLength}
+use Rattle.rate_file.specs.factors.Written.{bodiesIn, factorsIn, noFactor}
 use Rattle.rate_file.proofs.factors.Places.{factors-count, factor-body}
 
 pub polynomials-fit : (F : Field) (fs : List WrittenFactor) → AllFull fs
@@ -21,7 +22,7 @@ pub polynomials-fit : (F : Field) (fs : List WrittenFactor) → AllFull fs
 unfolding flatten
 polynomials-fit F [] w h = omega arith
 polynomials-fit F (f ∷ fs) w h =
-    let (e, k) = first-fails (fileDegreeOutOfRange F) f fs h in
+    let (e, k) = none-uncons (fileDegreeOutOfRange F) f fs h in
     let n = length-append (polynomialOf f) (flatten (map polynomialOf fs)) in
     let s = polynomial-short F f (w .0) e in
     let m = polynomials-fit F fs (w .1) k in
@@ -36,15 +37,14 @@ all-places (f ∷ fs) h = (h 0 (omega arith), all-places fs (λ i l. h (suc i) (
 
 -- the bodies of the factors' records have 35 bytes
 pub factors-whole : (file : List ℕ)
-    → ((i : ℕ) → i < length (bodies 4 (recordsFrom file 0))
-    → length (getD (bodies 4 (recordsFrom file 0)) i []) ≡ bodyLength 4)
+    → ((i : ℕ) → i < length (bodiesIn file) → length (getD (bodiesIn file) i []) ≡ bodyLength 4)
     → AllFull (factorsIn file)
 unfolding fileFactor bodyLength orElse lookUp bodyLengths
 factors-whole file w =
     all-places (factorsIn file)
     (λ i h.
-    let b = getD (bodies 4 (recordsFrom file 0)) i [] in
-    let n : i < length (bodies 4 (recordsFrom file 0)) = omega (arith, factors-count file) in
+    let b = getD (bodiesIn file) i [] in
+    let n : i < length (bodiesIn file) = omega (arith, factors-count file) in
     ap (λ (f : WrittenFactor). length (f .coefficients)) (factor-body file i b refl)
     ∙ length-drop 3 b
     ∙ ap (λ (m : ℕ). m - 3) (w i n))

@@ -33,7 +33,7 @@ use Rattle.bridge.proofs.WrittenFactors.{AllFull, period-lists, set-lists}
 use Rattle.refusals.specs.declared.Verdict.{Verdict}
 use Rattle.refusals.specs.Verdicts.{numberIn, termsTable}
 use Rattle.refusals.proofs.Order.{first-skip, refused-before, refused-second}
-use Rattle.refusals.proofs.Settled.{settle-refused, accepted-holds}
+use Rattle.refusals.proofs.Settled.{settle-refused, verdict-passes}
 use Rattle.rate_file.specs.factors.Written.{writtenTable}
 
 count-passes : (n : ℕ) → 1 ≤ n → n ≤ 8 → factorCountOutOfRange n ≡ false
@@ -108,7 +108,7 @@ module _ (p : ℕ) (fs : List WrittenFactor) (ts : List ℕ) (answer work : ℕ)
     module _ (accepted : u ≡ Verdict.Accepted) where
       fieldExists : IsField (prime p)
       unfolding termsTable
-      fieldExists = inRange-isField p (prime-accepted p (accepted-holds (termsTable p ts) eu accepted .0))
+      fieldExists = inRange-isField p (prime-accepted p (verdict-passes (termsTable p ts) eu accepted .fieldExists))
 
       -- the terms are accepted, and v is the verdict on the factors
       module _ {v : Verdict} (ev : numberIn v ≡ firstOf (writtenTable p fs)) where
@@ -137,7 +137,7 @@ module _ (p : ℕ) (fs : List WrittenFactor) (ts : List ℕ) (answer work : ℕ)
         module _ (q : v ≡ Verdict.Accepted) (full : AllFull fs) where
           passed : (ten ≡ false) × (eleven ≡ false)
           unfolding writtenTable
-          passed = let h = accepted-holds (writtenTable p fs) ev q in (h .0, h .1 .0)
+          passed = let h = verdict-passes (writtenTable p fs) ev q in (h .degreesInRange, h .monic)
 
           pub period-way : (pick : Choice) → 1 ≤ length fs
               → rateMode pick periodMode p fs ts answer work

@@ -22,7 +22,7 @@ use Rattle.meaning.specs.Answers.{numberOf}
 use Rattle.route.specs.framing.Framing.{recordsFrom}
 use Rattle.refusals.specs.declared.Verdict.{Verdict}
 use Rattle.refusals.specs.Verdicts.{numberIn, termsTable}
-use Rattle.refusals.proofs.Settled.{accepted-holds}
+use Rattle.refusals.proofs.Settled.{verdict-passes}
 use Rattle.refusals.proofs.Lent.{never-refused}
 use Rattle.rate_file.specs.factors.Written.{factorsIn, polynomialsIn, writtenTable}
 use Rattle.rate_file.proofs.factors.Places.{factors-count}
@@ -140,7 +140,7 @@ module _ (pick : Choice) (file ts : List ℕ) (answer work : ℕ) {p : ℕ} (ok 
       module _ (q : v ≡ Verdict.Accepted) where
         degrees : holdsForSome (fileDegreeOutOfRange (prime p)) (factorsIn file) ≡ false
         unfolding writtenTable
-        degrees = accepted-holds (writtenTable p (factorsIn file)) ev q .0
+        degrees = verdict-passes (writtenTable p (factorsIn file)) ev q .degreesInRange
 
         pub records-period : mode ≡ 1
             → rateRecords pick (recordsFrom file 0) answer work

@@ -19,7 +19,7 @@ use Rattle.route.specs.payload.Payload.{Gathered}
 use Rattle.route.proofs.payload.Stores.{sets-front}
 use Rattle.refusals.specs.declared.Verdict.{Verdict}
 use Rattle.refusals.specs.Verdicts.{numberIn, termsTable}
-use Rattle.refusals.proofs.Settled.{accepted-holds}
+use Rattle.refusals.proofs.Settled.{verdict-passes}
 
 abbrev pub cutTerms : List ℕ → List ℕ
 cutTerms ts = take 4097 ts
@@ -49,7 +49,7 @@ module _ (p : ℕ) (ts : List ℕ) where
       → cutTerms ts ≡ ts
   unfolding termsTable
   cut-accepted e q =
-      let n = count-accepted (length ts) (accepted-holds (termsTable p ts) (e ∙ cut-terms) q .1 .0) in
+      let n = count-accepted (length ts) (verdict-passes (termsTable p ts) (e ∙ cut-terms) q .countInRange) in
       take-all 4097 ts (omega arith)
 
 -- the terms as they were gathered in 4,097 bytes

@@ -1,5 +1,6 @@
 -- What the contracts of a file's factors cite.
 --
+--   bodiesIn file      == the bodies of the records of its factors, in order
 --   factorsIn file     == the factors of the file, as it writes them, in order
 --   polynomialsIn file == their polynomials
 --   noFactor           == what a place beyond the last factor reads as
@@ -20,8 +21,11 @@ use Rattle.meaning.specs.Route.{bodies}
 use Rattle.meaning.specs.File.{WrittenFactor, fileFactor, polynomialOf, fileDegreeOutOfRange, fileNotMonic}
 use Rattle.route.specs.framing.Framing.{recordsFrom}
 
+abbrev pub bodiesIn : List ℕ → List (List ℕ)
+bodiesIn file = bodies 4 (recordsFrom file 0)
+
 unfoldable pub factorsIn : List ℕ → List WrittenFactor
-factorsIn file = map fileFactor (bodies 4 (recordsFrom file 0))
+factorsIn file = map fileFactor (bodiesIn file)
 
 abbrev pub polynomialsIn : List ℕ → List Polynomial
 polynomialsIn file = map polynomialOf (factorsIn file)

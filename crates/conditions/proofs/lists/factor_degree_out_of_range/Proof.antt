@@ -3,7 +3,8 @@
 use native.Mathlib.Omega.{arith}
 use mathlib.Core.Path.{_∙_}
 use borrow.Author.Needs.{needs}
-use Rattle.conditions.proofs.lists.Coefficients.{empty-degree-passes, list-degree}
+use Rattle.bridge.proofs.Irreducibles.{list-degree}
+use Rattle.conditions.proofs.lists.Coefficients.{empty-degree-passes}
 use Rattle.conditions.proofs.lists.factor_degree_out_of_range.Statement.{statement}
 use Rattle.conditions.proofs.lists.factor_degree_out_of_range.Tie as tie
 

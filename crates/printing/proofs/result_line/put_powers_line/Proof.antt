@@ -16,8 +16,8 @@ use Rattle.printing.proofs.result_line.put_powers_line.Tie as tie
 put-start-requires : tie.Need-put-start-requires
 put-start-requires c κs = omega (arith, c .before .before .before .pre)
 
-at-most-requires : tie.Need-at-most-requires
-at-most-requires c κs = search needs
+smaller-requires : tie.Need-smaller-requires
+smaller-requires c κs = search needs
 
 sub-put-powers : tie.Need-sub-put-powers
 sub-put-powers c = search needs
@@ -33,7 +33,7 @@ put-powers-requires c κs =
     let n = c .before .before in
     let x = n .before .before .before in
     let s = x .before .before .before .before in
-    let most = length-take (n .at-most .result - 0) (s .args .powers .now) in
+    let most = length-take (n .smaller .result - 0) (s .args .powers .now) in
     omega (arith, s .pre, x .put-start .ensures .within, x .put-start .kept .1 .1 .1 .0, most)
 
 slice-aggregate-put-word : tie.Need-slice-aggregate-put-word
@@ -50,7 +50,7 @@ put-word-requires c κs =
       s .pre,
       x .put-start .ensures .within,
       x .put-start .kept .1 .1 .1 .0,
-      length-take (n .at-most .result - 0) (s .args .powers .now),
+      length-take (n .smaller .result - 0) (s .args .powers .now),
       y .put-powers .ensures .within,
       y .put-powers .kept .1 .0,
     )
@@ -67,7 +67,7 @@ returns c =
     let x = n .before .before .before in
     let a = x .before .before .before .before .args in
     let rs = a .powers .now in
-    let k = n .at-most in
+    let k = n .smaller in
     let first : take (k .result - 0) rs ≡ take (a .count) rs =
     ap (λ i. take i rs) (sub-zero (k .result) ∙ k .ensures) ∙ take-most (a .count) rs in
     let powers = put-as (ap (λ l. joined (text ",") (map decimal l)) first) (y .put-powers .ensures .put) in
@@ -90,7 +90,7 @@ put-powers-line-spec =
     tie.close
     (tie.spec
     put-start-requires
-    at-most-requires
+    smaller-requires
     sub-put-powers
     part-put-powers-start
     part-put-powers-end

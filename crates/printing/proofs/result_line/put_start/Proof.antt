@@ -4,129 +4,40 @@ use native.Mathlib.Omega.{arith}
 use borrow.Author.Needs.{needs}
 use Rattle.meaning.specs.Print.{text}
 use Rattle.printing.proofs.words.Putting.{put-join, put-as}
-use Rattle.printing.proofs.words.Decimals.{word-digits}
 use Rattle.printing.proofs.result_line.Parts.{started-parts}
 use Rattle.printing.proofs.result_line.put_start.Statement.{statement}
 use Rattle.printing.proofs.result_line.put_start.Tie as tie
 
-put-number-requires : tie.Need-put-number-requires
-put-number-requires c κs =
-    let s = c .before .before in
+slice-aggregate-put-number-and-word : tie.Need-slice-aggregate-put-number-and-word
+slice-aggregate-put-number-and-word c = search needs
+
+put-number-and-word-requires : tie.Need-put-number-and-word-requires
+put-number-and-word-requires c κs = omega (arith, c .before .before .before .pre)
+
+slice-aggregate-put-number-and-word-2 : tie.Need-slice-aggregate-put-number-and-word-2
+slice-aggregate-put-number-and-word-2 c = search needs
+
+put-number-and-word-requires-2 : tie.Need-put-number-and-word-requires-2
+put-number-and-word-requires-2 c κs =
+    let x = c .before .before .before .before in
+    let s = x .before .before .before .before in
+    omega (arith, s .pre, x .put-number-and-word .ensures .within, x .put-number-and-word .kept .1 .1 .0)
+
+slice-aggregate-put-number-and-word-3 : tie.Need-slice-aggregate-put-number-and-word-3
+slice-aggregate-put-number-and-word-3 c = search needs
+
+put-number-and-word-requires-3 : tie.Need-put-number-and-word-requires-3
+put-number-and-word-requires-3 c κs =
+    let y = c .before .before .before .before in
+    let x = y .before .before .before .before .before in
+    let s = x .before .before .before .before in
     omega (
       arith,
       s .pre,
-      word-digits (s .fits .sender),
-      word-digits (s .fits .degree),
-      word-digits (s .fits .terms),
-    )
-
-slice-aggregate-put-word : tie.Need-slice-aggregate-put-word
-slice-aggregate-put-word c = search needs
-
-put-word-requires : tie.Need-put-word-requires
-put-word-requires c κs =
-    let n₁ = c .before .before .before .before in
-    let s = n₁ .before .before .before in
-    omega (
-      arith,
-      s .pre,
-      word-digits (s .fits .sender),
-      word-digits (s .fits .degree),
-      word-digits (s .fits .terms),
-      n₁ .put-number .ensures .place,
-      n₁ .put-number .kept .1 .0,
-    )
-
-put-number-requires-2 : tie.Need-put-number-requires-2
-put-number-requires-2 c κs =
-    let w₁ = c .before .before .before in
-    let n₁ = w₁ .before .before .before .before .before in
-    let s = n₁ .before .before .before in
-    omega (
-      arith,
-      s .pre,
-      word-digits (s .fits .sender),
-      word-digits (s .fits .degree),
-      word-digits (s .fits .terms),
-      n₁ .put-number .ensures .place,
-      w₁ .put-word .ensures .place,
-      n₁ .put-number .kept .1 .0,
-      w₁ .put-word .kept .1 .0,
-    )
-
-slice-aggregate-put-word-2 : tie.Need-slice-aggregate-put-word-2
-slice-aggregate-put-word-2 c = search needs
-
-put-word-requires-2 : tie.Need-put-word-requires-2
-put-word-requires-2 c κs =
-    let n₂ = c .before .before .before .before in
-    let w₁ = n₂ .before .before .before .before in
-    let n₁ = w₁ .before .before .before .before .before in
-    let s = n₁ .before .before .before in
-    omega (
-      arith,
-      s .pre,
-      word-digits (s .fits .sender),
-      word-digits (s .fits .degree),
-      word-digits (s .fits .terms),
-      n₁ .put-number .ensures .place,
-      w₁ .put-word .ensures .place,
-      n₂ .put-number2 .ensures .place,
-      n₁ .put-number .kept .1 .0,
-      w₁ .put-word .kept .1 .0,
-      n₂ .put-number2 .kept .1 .0,
-    )
-
-put-number-requires-3 : tie.Need-put-number-requires-3
-put-number-requires-3 c κs =
-    let w₂ = c .before .before .before in
-    let n₂ = w₂ .before .before .before .before .before in
-    let w₁ = n₂ .before .before .before .before in
-    let n₁ = w₁ .before .before .before .before .before in
-    let s = n₁ .before .before .before in
-    omega (
-      arith,
-      s .pre,
-      word-digits (s .fits .sender),
-      word-digits (s .fits .degree),
-      word-digits (s .fits .terms),
-      n₁ .put-number .ensures .place,
-      w₁ .put-word .ensures .place,
-      n₂ .put-number2 .ensures .place,
-      w₂ .put-word2 .ensures .place,
-      n₁ .put-number .kept .1 .0,
-      w₁ .put-word .kept .1 .0,
-      n₂ .put-number2 .kept .1 .0,
-      w₂ .put-word2 .kept .1 .0,
-    )
-
-slice-aggregate-put-word-3 : tie.Need-slice-aggregate-put-word-3
-slice-aggregate-put-word-3 c = search needs
-
-put-word-requires-3 : tie.Need-put-word-requires-3
-put-word-requires-3 c κs =
-    let n₃ = c .before .before .before .before in
-    let w₂ = n₃ .before .before .before .before in
-    let n₂ = w₂ .before .before .before .before .before in
-    let w₁ = n₂ .before .before .before .before in
-    let n₁ = w₁ .before .before .before .before .before in
-    let s = n₁ .before .before .before in
-    omega (
-      arith,
-      s .pre,
-      word-digits (s .fits .sender),
-      word-digits (s .fits .degree),
-      word-digits (s .fits .terms),
-      n₁ .put-number .ensures .place,
-      w₁ .put-word .ensures .place,
-      n₂ .put-number2 .ensures .place,
-      w₂ .put-word2 .ensures .place,
-      n₃ .put-number3 .ensures .place,
-      n₁ .put-number .kept .1 .0,
-      w₁ .put-word .kept .1 .0,
-      n₂ .put-number2 .kept .1 .0,
-      w₂ .put-word2 .kept .1 .0,
-      n₃ .put-number3 .kept .1 .0,
+      x .put-number-and-word .ensures .within,
+      x .put-number-and-word .kept .1 .1 .0,
+      y .put-number-and-word2 .ensures .within,
+      y .put-number-and-word2 .kept .1 .1 .0,
     )
 
 same-length : tie.Need-same-length
@@ -135,37 +46,22 @@ same-length c = search needs
 returns : tie.Need-returns
 unfolding text
 returns c =
-    let w₃ = c .before .before in
-    let n₃ = w₃ .before .before .before .before .before in
-    let w₂ = n₃ .before .before .before .before in
-    let n₂ = w₂ .before .before .before .before .before in
-    let w₁ = n₂ .before .before .before .before in
-    let n₁ = w₁ .before .before .before .before .before in
-    let s = n₁ .before .before .before in
+    let z = c .before .before in
+    let y = z .before .before .before .before .before in
+    let x = y .before .before .before .before .before in
+    let s = x .before .before .before .before in
     record {
       put =
           put-as (started-parts (s .args .sender) (s .args .degree) (s .args .terms))
           (put-join
-          (put-join
-          (put-join
-          (put-join
-          (put-join (n₁ .put-number .ensures) (w₁ .put-word .ensures))
-          (n₂ .put-number2 .ensures))
-          (w₂ .put-word2 .ensures))
-          (n₃ .put-number3 .ensures))
-          (w₃ .put-word3 .ensures));
+          (put-join (x .put-number-and-word .ensures .put) (y .put-number-and-word2 .ensures .put))
+          (z .put-number-and-word3 .ensures .put));
       within =
           omega (
             arith,
-            word-digits (s .fits .sender),
-            word-digits (s .fits .degree),
-            word-digits (s .fits .terms),
-            n₁ .put-number .ensures .place,
-            w₁ .put-word .ensures .place,
-            n₂ .put-number2 .ensures .place,
-            w₂ .put-word2 .ensures .place,
-            n₃ .put-number3 .ensures .place,
-            w₃ .put-word3 .ensures .place,
+            x .put-number-and-word .ensures .within,
+            y .put-number-and-word2 .ensures .within,
+            z .put-number-and-word3 .ensures .within,
           );
     }
 
@@ -173,14 +69,11 @@ pub put-start-spec : {M : Type 1} → statement M
 put-start-spec =
     tie.close
     (tie.spec
-    put-number-requires
-    slice-aggregate-put-word
-    put-word-requires
-    put-number-requires-2
-    slice-aggregate-put-word-2
-    put-word-requires-2
-    put-number-requires-3
-    slice-aggregate-put-word-3
-    put-word-requires-3
+    slice-aggregate-put-number-and-word
+    put-number-and-word-requires
+    slice-aggregate-put-number-and-word-2
+    put-number-and-word-requires-2
+    slice-aggregate-put-number-and-word-3
+    put-number-and-word-requires-3
     same-length
     returns)

@@ -6,9 +6,12 @@ use denote.Ref.{now}
 use borrow.Author.Needs.{needs}
 use Rattle.meaning.specs.Result.{Check}
 use Rattle.meaning.specs.Answers.{numberOf}
+use Rattle.meaning.specs.Field.{prime}
+use Rattle.meaning.specs.File.{fileDegreeOutOfRange, fileNotMonic}
 use Rattle.refusals.specs.Verdicts.{numberIn}
 use Rattle.refusals.proofs.Order.{Passed, first-here, first-skip, first-nowhere}
 use Rattle.rate_file.specs.factors.Written.{factorsIn, writtenTable}
+use Rattle.rate_file.proofs.factors.Places.{factors-count, some-factor}
 use Rattle.rate_file.proofs.factors.written_factors_verdict.Statement.{statement}
 use Rattle.rate_file.proofs.factors.written_factors_verdict.Tie as tie
 
@@ -17,22 +20,22 @@ table s = writtenTable (s .args .p) (factorsIn (now (s .args .file)))
 
 passed-1 : (c : tie.Else1) → Passed 1 (table (c .before .before .before))
 unfolding writtenTable
-passed-1 c = first-skip _ _ (c .before .some-degree-out-of-range .ensures) (c .if1 .left)
+passed-1 c = first-skip _ _ (c .before .holds-for-some-record .ensures ∙ some-factor (fileDegreeOutOfRange (prime _)) _) (c .if1 .left)
 
-some-degree-out-of-range-requires : tie.Need-some-degree-out-of-range-requires
-some-degree-out-of-range-requires c κs = search needs
+holds-for-some-record-requires : tie.Need-holds-for-some-record-requires
+holds-for-some-record-requires c κs = c .before .pre ∙ factors-count _
 
 returns : tie.Need-returns
 unfolding numberIn numberOf writtenTable
-returns c = first-here _ _ (c .before .some-degree-out-of-range .ensures) (c .if1 .taken)
+returns c = first-here _ _ (c .before .holds-for-some-record .ensures ∙ some-factor (fileDegreeOutOfRange (prime _)) _) (c .if1 .taken)
 
-some-not-monic-requires : tie.Need-some-not-monic-requires
-some-not-monic-requires c κs = search needs
+holds-for-some-record-requires-2 : tie.Need-holds-for-some-record-requires-2
+holds-for-some-record-requires-2 c κs = c .before .before .before .pre ∙ factors-count _
 
 returns-2 : tie.Need-returns-2
 unfolding numberIn numberOf writtenTable
 returns-2 c =
-    first-here _ _ (c .before .some-not-monic .ensures) (c .if2 .taken)
+    first-here _ _ (c .before .holds-for-some-record2 .ensures ∙ some-factor (fileNotMonic (prime _)) _) (c .if2 .taken)
     ∙ sym (passed-1 (c .before .before))
 
 returns-3 : tie.Need-returns-3
@@ -40,14 +43,14 @@ unfolding numberIn writtenTable
 returns-3 c =
     first-nowhere
     ∙ sym
-    (passed-1 (c .before .before) ∙ first-skip _ _ (c .before .some-not-monic .ensures) (c .if2 .left))
+    (passed-1 (c .before .before) ∙ first-skip _ _ (c .before .holds-for-some-record2 .ensures ∙ some-factor (fileNotMonic (prime _)) _) (c .if2 .left))
 
 pub written-factors-verdict-spec : {M : Type 1} → statement M
 written-factors-verdict-spec =
     tie.close
     (tie.spec
-    some-degree-out-of-range-requires
+    holds-for-some-record-requires
     returns
-    some-not-monic-requires
+    holds-for-some-record-requires-2
     returns-2
     returns-3)

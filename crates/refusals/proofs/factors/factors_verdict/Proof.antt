@@ -1,8 +1,7 @@
 -- `factors::factors_verdict` meets its contract: each condition that does not hold is passed over.
 -- Assumes nothing.
-use mathlib.Core.Path.{sym, _∙_}
+use mathlib.Core.Path.{_≡_, sym, ap, _∙_}
 use mathlib.Core.List.{List}
-use mathlib.Core.Path.{_≡_, ap}
 use lib.ListN.{length}
 use denote.Ref.{now}
 use borrow.Author.Needs.{needs}
@@ -40,7 +39,7 @@ passed-2 : (c : tie.Else2) → Passed 2 (table (at-2 c))
 unfolding factorsTable
 passed-2 c =
     passed-1 (c .before .before)
-    ∙ first-skip _ _ (c .before .some-degree-out-of-range .ensures) (c .if2 .left)
+    ∙ first-skip _ _ (c .before .holds-for-some .ensures) (c .if2 .left)
 
 abbrev at-3 : tie.Else3 → tie.Start
 at-3 c = at-2 (c .before .before)
@@ -49,7 +48,7 @@ passed-3 : (c : tie.Else3) → Passed 3 (table (at-3 c))
 unfolding factorsTable
 passed-3 c =
     passed-2 (c .before .before)
-    ∙ first-skip _ _ (c .before .some-not-monic .ensures) (c .if3 .left)
+    ∙ first-skip _ _ (c .before .holds-for-some2 .ensures) (c .if3 .left)
 
 abbrev at-4 : tie.Else4 → tie.Start
 at-4 c = at-3 (c .before .before)
@@ -58,7 +57,7 @@ passed-4 : (c : tie.Else4) → Passed 4 (table (at-4 c))
 unfolding factorsTable
 passed-4 c =
     passed-3 (c .before .before)
-    ∙ first-skip _ _ (c .before .some-reducible .ensures) (c .if4 .left)
+    ∙ first-skip _ _ (c .before .holds-for-some3 .ensures) (c .if4 .left)
 
 abbrev at-5 : tie.Else5 → tie.Start
 at-5 c = at-4 (c .before .before)
@@ -76,31 +75,31 @@ returns : tie.Need-returns
 unfolding numberIn numberOf factorsTable
 returns c = first-here _ _ (counted (c .before)) (c .if1 .taken)
 
-some-degree-out-of-range-requires : tie.Need-some-degree-out-of-range-requires
-some-degree-out-of-range-requires c κs = search needs
+holds-for-some-requires : tie.Need-holds-for-some-requires
+holds-for-some-requires c κs = search needs
 
 returns-2 : tie.Need-returns-2
 unfolding numberIn numberOf factorsTable
 returns-2 c =
-    first-here _ _ (c .before .some-degree-out-of-range .ensures) (c .if2 .taken)
+    first-here _ _ (c .before .holds-for-some .ensures) (c .if2 .taken)
     ∙ sym (passed-1 (c .before .before))
 
-some-not-monic-requires : tie.Need-some-not-monic-requires
-some-not-monic-requires c κs = search needs
+holds-for-some-requires-2 : tie.Need-holds-for-some-requires-2
+holds-for-some-requires-2 c κs = search needs
 
 returns-3 : tie.Need-returns-3
 unfolding numberIn numberOf factorsTable
 returns-3 c =
-    first-here _ _ (c .before .some-not-monic .ensures) (c .if3 .taken)
+    first-here _ _ (c .before .holds-for-some2 .ensures) (c .if3 .taken)
     ∙ sym (passed-2 (c .before .before))
 
-some-reducible-requires : tie.Need-some-reducible-requires
-some-reducible-requires c κs = search needs
+holds-for-some-requires-3 : tie.Need-holds-for-some-requires-3
+holds-for-some-requires-3 c κs = search needs
 
 returns-4 : tie.Need-returns-4
 unfolding numberIn numberOf factorsTable
 returns-4 c =
-    first-here _ _ (c .before .some-reducible .ensures) (c .if4 .taken)
+    first-here _ _ (c .before .holds-for-some3 .ensures) (c .if4 .taken)
     ∙ sym (passed-3 (c .before .before))
 
 two-equal-requires : tie.Need-two-equal-requires
@@ -122,11 +121,11 @@ factors-verdict-spec =
     (tie.spec
     factor-count-out-of-range-requires
     returns
-    some-degree-out-of-range-requires
+    holds-for-some-requires
     returns-2
-    some-not-monic-requires
+    holds-for-some-requires-2
     returns-3
-    some-reducible-requires
+    holds-for-some-requires-3
     returns-4
     two-equal-requires
     returns-5

@@ -23,7 +23,7 @@ abbrev factors : tie.Start → List Check
 factors s = oneFactorTable (s .args .p) (now (s .args .factor))
 
 abbrev rest : tie.Start → List Check
-rest s = lentTable (s .args .p) (now (s .args .terms)) (s .args .answer) (s .args .work)
+rest s = lentTable (s .args .answer) (s .args .work)
 
 abbrev checks : tie.Start → List Check
 checks s =
