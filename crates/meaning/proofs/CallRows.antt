@@ -1,16 +1,14 @@
--- Computed rows for the contracts: each is met by the right answer with the right bytes, accepted and
--- refused, and not by the wrong raters that paper 01 names.
+-- Computed rows for the contracts: each is met by the right answer with the right bytes, accepted and refused.
+-- (WrongRaters.antt has the wrong answers that do not meet them.)
 --
 --   CallRows  == the table of answers that meet their contracts      call-rows  == every row holds
---   WrongRaters == the table of wrong answers that do not            wrong-raters == every row holds
 -- Assumes nothing.
 use Prim.Native.Nat.{ℕ}
-use native.Mathlib.Omega.{arith}
-use mathlib.Core.Path.{_≡_, refl, sym, ap, subst, _∙_}
+use mathlib.Core.Path.{_≡_, refl, ap, subst, _∙_}
 use mathlib.Core.Bool.{Bool, true, false, true≢false}
 use mathlib.Core.List.{List, [], _∷_, _++_}
 use mathlib.Core.Option.{Option, none, some}
-use lib.ListN.{replicate, getD}
+use lib.ListN.{replicate}
 use lib.Dec.{eqb}
 use borrow.Author.Tests.{eqb-false}
 use Rattle.meaning.specs.declared.Refusal.{Refusal}
@@ -22,38 +20,44 @@ use Rattle.meaning.specs.declared.Filling.{Filling}
 use Rattle.meaning.specs.declared.FileOutcome.{FileOutcome}
 use Rattle.meaning.specs.declared.RecordOutcome.{RecordOutcome}
 use Rattle.meaning.specs.Result.{Result, refused, answered}
-use Rattle.meaning.specs.Power.{PowerFigures}
-use Rattle.meaning.specs.Free.{Choice, FreeFigures, isUnique, Fits, ChosenFits}
+use Rattle.meaning.specs.Free.{Choice, isUnique, Fits, ChosenFits}
 use Rattle.meaning.specs.Field.{prime}
 use Rattle.meaning.specs.Route.{RouteRecord, Mode, periodMode, setMode, freeMode, modeOf, byteOf}
 use Rattle.meaning.specs.File.{termsOf, FileChosenFits}
 use Rattle.meaning.specs.Calls.{PrimeCall, IrreducibleCall, PeriodCall, PortionCall, SetCall, FreeCall}
-use Rattle.meaning.specs.Calls.{ContinueCall, FileCall, RecordCall}
+use Rattle.meaning.specs.Calls.{ContinueCall, FileCall, RecordCall, ProgramCall}
+use Rattle.meaning.specs.Print.{text}
 use Rattle.meaning.proofs.Computed.{computed}
-use Rattle.meaning.proofs.Rows.{box, field, mode, factor, terms, end, x+1, x²+1, x²+x+1}
+use Rattle.meaning.proofs.Rows.{box, field, mode, factor, terms, end, caseA, x+1, x²+1, x²+x+1}
 
 -- lent bytes, two more than are asked for
-abbrev answer : List ℕ
+abbrev pub answer : List ℕ
 answer = replicate 4099 7
 
-abbrev work : List ℕ
+abbrev pub work : List ℕ
 work = replicate 8194 9
 
-abbrev cleared : List ℕ
+abbrev pub cleared : List ℕ
 cleared = replicate 8192 0 ++ (9 ∷ 9 ∷ [])
 
 -- x², a polynomial of row I
-abbrev square : Choice
+abbrev pub square : Choice
 square p ts = 0 ∷ 0 ∷ 1 ∷ []
 
--- row B as a file, and row I as a file
-abbrev fileB : List ℕ
+-- the rows A, B, H and I as files
+abbrev pub fileA : List ℕ
+fileA = caseA 3 (1 ∷ 1 ∷ [])
+
+abbrev pub fileB : List ℕ
 fileB = box 7 ++ (field 2 ++ (mode 1 ++ (factor 1 0 (1 ∷ []) ++ (terms (0 ∷ 0 ∷ 0 ∷ 1 ∷ []) ++ end))))
 
-abbrev fileI : List ℕ
+abbrev pub fileI : List ℕ
 fileI = box 7 ++ (field 2 ++ (mode 3 ++ (terms (0 ∷ 1 ∷ []) ++ end)))
 
-abbrev eightZeros : List ℕ
+abbrev pub fileH : List ℕ
+fileH = box 7 ++ (field 2 ++ (mode 3 ++ (terms (1 ∷ 0 ∷ []) ++ end)))
+
+abbrev pub eightZeros : List ℕ
 eightZeros = replicate 8 0
 
 pub record CallRows : Type 0 where
@@ -112,6 +116,14 @@ pub record CallRows : Type 0 where
       (record { sender = 7; outcome = FileOutcome.Powers 4 4 1; powers = 4 ∷ 0 ∷ 0 ∷ 0 ∷ 0 ∷ 0 ∷ 0 ∷ 0 ∷ [] })
       (1 ∷ 0 ∷ 0 ∷ 0 ∷ 1 ∷ replicate 4094 7)
       cleared
+  pub ratedA : FileCall square fileA answer work
+      (record { sender = 7; outcome = FileOutcome.Powers 12 18 1; powers = 4 ∷ 0 ∷ 0 ∷ 0 ∷ 0 ∷ 0 ∷ 0 ∷ 0 ∷ [] })
+      (1 ∷ 0 ∷ 0 ∷ 0 ∷ 1 ∷ 0 ∷ 0 ∷ 0 ∷ 0 ∷ 0 ∷ 0 ∷ 0 ∷ 1 ∷ replicate 4086 7)
+      cleared
+  pub ratedH : FileCall square fileH answer work
+      (record { sender = 7; outcome = FileOutcome.Unique 1 2; powers = eightZeros })
+      (0 ∷ 1 ∷ replicate 4097 7)
+      cleared
   pub ratedI : FileCall square fileI answer work
       (record { sender = 7; outcome = FileOutcome.Several 2 2; powers = eightZeros })
       (0 ∷ 0 ∷ 1 ∷ replicate 4096 7)
@@ -122,13 +134,17 @@ pub record CallRows : Type 0 where
       work
   pub recordTwo : RecordCall fileB 2 (RecordOutcome.Found 3) (1 ∷ [])
   pub recordRefused : RecordCall (box 7) 0 (RecordOutcome.Refused Refusal.FileCutShort) []
+  pub programA : ProgramCall square fileA
+      (text "box result density powers\n7 ok 12/18 4\npoly 1 0 0 0 1 0 0 0 0 0 0 0 1\n")
+  pub programH : ProgramCall square fileH (text "box result density powers\n7 ok 1/2 one\npoly 0 1\n")
 
 is-refused : {A : Type 0} → Result A → Bool
 is-refused (refused n) = true
 is-refused (answered a) = false
 
-lit-distinct : _≡_ {A = ℕ} 1 3 → ⊥
-lit-distinct e = omega arith
+-- two numbers that differ
+pub differ : (m n : ℕ) → m ≡ n → eqb m n ≡ false → ⊥
+differ m n e h = eqb-false m n h e
 
 -- the choice x² fits row I, the only one of these calls that answers `some`
 some-number : (m n : ℕ) → _≡_ {A = Option ℕ} (some m) (some n) → m ≡ n
@@ -154,14 +170,30 @@ mode-number (some periodMode) = 1
 mode-number (some setMode) = 2
 mode-number (some freeMode) = 3
 
--- a file in the period mode leaves no choice
+-- a file in another mode leaves no choice
+square-fileA : FileChosenFits square fileA
+unfolding computed mode-number
+square-fileA rs found free =
+    absurd
+    (differ 2 3
+    (ap (λ (ss : List RouteRecord). mode-number (modeOf (byteOf 3 ss))) (records-same _ rs found)
+    ∙ ap mode-number free)
+    refl)
+
 square-fileB : FileChosenFits square fileB
 unfolding computed mode-number
 square-fileB rs found free =
     absurd
-    (lit-distinct
+    (differ 1 3
     (ap (λ (ss : List RouteRecord). mode-number (modeOf (byteOf 3 ss))) (records-same _ rs found)
-    ∙ ap mode-number free))
+    ∙ ap mode-number free)
+    refl)
+
+square-fileH : FileChosenFits square fileH
+unfolding computed
+square-fileH rs found free =
+    subst (λ (ss : List RouteRecord). ChosenFits square (byteOf 2 ss) (termsOf ss)) (records-same _ rs found)
+    square-H
 
 square-fileI : FileChosenFits square fileI
 unfolding computed
@@ -206,6 +238,22 @@ call-rows =
             chosen = square-fileB;
             lent = record { answerBytes = refl; workBytes = refl };
           };
+      ratedA =
+          record {
+            sender = refl;
+            rating = refl;
+            powers = refl;
+            chosen = square-fileA;
+            lent = record { answerBytes = refl; workBytes = refl };
+          };
+      ratedH =
+          record {
+            sender = refl;
+            rating = refl;
+            powers = refl;
+            chosen = square-fileH;
+            lent = record { answerBytes = refl; workBytes = refl };
+          };
       ratedI =
           record {
             sender = refl;
@@ -224,82 +272,6 @@ call-rows =
           };
       recordTwo = record { found = refl; part = refl };
       recordRefused = record { found = refl; part = refl };
-    }
-
--- THE WRONG RATERS, on row A (a portion, with x³ + x + 1 and the upper power 6) and on row B (a period, with
--- x + 1)
-
-abbrev termsA : List ℕ
-termsA = 0 ∷ 1 ∷ 0 ∷ 1 ∷ 0 ∷ 0 ∷ 0 ∷ 0 ∷ 1 ∷ 0 ∷ 1 ∷ 1 ∷ 0 ∷ 1 ∷ 0 ∷ 1 ∷ 1 ∷ 0 ∷ []
-
--- what a wrong rater answers on row A or B; the bytes afterwards may be any
-abbrev AnswersA : PowerRating → Type 0
-AnswersA r =
-    (answer′ work′ : List ℕ)
-    → PortionCall 2 (1 ∷ 1 ∷ 0 ∷ 1 ∷ []) 6 termsA answer work r answer′ work′
-    → ⊥
-
-abbrev AnswersB : PowerRating → Type 0
-AnswersB r = (answer′ work′ : List ℕ) → PeriodCall 2 x+1 (0 ∷ 0 ∷ 0 ∷ 1 ∷ []) answer work r answer′ work′ → ⊥
-
-pub record WrongRaters : Type 0 where
-  -- finds the top digit of r − 1 = 11 (base 2) and invents the other
-  pub top-digit-only : AnswersA (PowerRating.Rated 3 9 28)
-  -- returns f^v
-  pub upper-power : AnswersA (PowerRating.Rated 6 18 56)
-  pub invented-power : AnswersB (PowerRating.Rated 3 3 4)
-  pub invented-bound : AnswersB (PowerRating.Rated 4 4 5)
-  pub seventeen-for-all : AnswersB (PowerRating.Refused Refusal.NotAnnihilated)
-  pub one-for-all : AnswersB (PowerRating.Rated 0 0 1)
-  pub refuses-all : AnswersB (PowerRating.Refused Refusal.NotPrime)
-  -- tells the right figures and writes nothing, or something else
-  pub nothing-written : (work′ : List ℕ)
-      → PeriodCall 2 x+1 (0 ∷ 0 ∷ 0 ∷ 1 ∷ []) answer work (PowerRating.Rated 4 4 4) answer work′
-      → ⊥
-  pub work-not-cleared : (answer′ : List ℕ)
-      → PeriodCall 2 x+1 (0 ∷ 0 ∷ 0 ∷ 1 ∷ []) answer work (PowerRating.Rated 4 4 4) answer′ work
-      → ⊥
-  pub refused-and-written : (answer′ work′ : List ℕ)
-      → answer′ ≡ 1 ∷ replicate 4098 7
-      → PeriodCall 2 x²+1 (0 ∷ []) answer work (PowerRating.Refused Refusal.Reducible) answer′ work′
-      → ⊥
-  -- answers row H with x², which fits the two terms, but with a degree that is not the least
-  pub degree-not-least : (answer′ work′ : List ℕ)
-      → FreeCall square 2 (1 ∷ 0 ∷ []) answer work (FreeRating.Several 2) answer′ work′
-      → ⊥
-
--- a figure of a result, 1000 where it is refused
-figure : (PowerFigures → ℕ) → Result PowerFigures → ℕ
-figure f (refused n) = 1000
-figure f (answered a) = f a
-
-power-of : Result PowerFigures → ℕ
-power-of r = figure (λ a. a .power) r
-
-bound-of : Result PowerFigures → ℕ
-bound-of r = figure (λ a. a .bound) r
-
-free-degree : Result FreeFigures → ℕ
-free-degree (refused n) = 1000
-free-degree (answered a) = a .degree
-
-differ : (m n : ℕ) → m ≡ n → eqb m n ≡ false → ⊥
-differ m n e h = eqb-false m n h e
-
-pub wrong-raters : WrongRaters
-unfolding computed figure power-of bound-of free-degree
-wrong-raters =
-    record {
-      top-digit-only = λ a w c. differ 3 4 (ap power-of (c .rating)) refl;
-      upper-power = λ a w c. differ 6 4 (ap power-of (c .rating)) refl;
-      invented-power = λ a w c. differ 3 4 (ap power-of (c .rating)) refl;
-      invented-bound = λ a w c. differ 5 4 (ap bound-of (c .rating)) refl;
-      seventeen-for-all = λ a w c. differ 1000 4 (ap power-of (c .rating)) refl;
-      one-for-all = λ a w c. differ 0 4 (ap power-of (c .rating)) refl;
-      refuses-all = λ a w c. differ 1000 4 (ap power-of (c .rating)) refl;
-      nothing-written = λ w c. differ 7 1 (ap (λ (l : List ℕ). getD l 0 0) (c .lent .answerBytes)) refl;
-      work-not-cleared = λ a c. differ 9 0 (ap (λ (l : List ℕ). getD l 0 0) (c .lent .workBytes)) refl;
-      refused-and-written =
-          λ a w e c. differ 1 7 (ap (λ (l : List ℕ). getD l 0 0) (sym e ∙ c .lent .answerBytes)) refl;
-      degree-not-least = λ a w c. differ 2 1 (ap free-degree (c .rating)) refl;
+      programA = record { lines = refl; chosen = square-fileA };
+      programH = record { lines = refl; chosen = square-fileH };
     }

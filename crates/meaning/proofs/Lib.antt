@@ -11,5 +11,6 @@ pub mod Lines
 pub mod Lent
 pub mod Determined
 pub mod CallRows
+pub mod WrongRaters
 pub mod Stretches
 pub mod Slices

@@ -1,0 +1,260 @@
+-- The wrong raters that paper 01 names, refuted by rows: what each of them answers does not meet the contract,
+-- whatever it leaves in the lent bytes of which nothing is said.
+--
+--   WrongRaters == the period, the portion and the free call      wrong-raters == every row holds
+--   WrongSets, WrongFiles, WrongPrograms == the set call, the file call, the program
+-- Assumes nothing.
+use Prim.Native.Nat.{ℕ}
+use mathlib.Core.Path.{_≡_, refl, sym, ap, _∙_}
+use mathlib.Core.List.{List, [], _∷_, _++_}
+use lib.ListN.{replicate, getD}
+use Rattle.meaning.specs.declared.Refusal.{Refusal}
+use Rattle.meaning.specs.declared.PowerRating.{PowerRating}
+use Rattle.meaning.specs.declared.SetOutcome.{SetOutcome}
+use Rattle.meaning.specs.declared.FreeRating.{FreeRating}
+use Rattle.meaning.specs.declared.FileOutcome.{FileOutcome}
+use Rattle.meaning.specs.Polynomial.{Polynomial}
+use Rattle.meaning.specs.Result.{Result, refused, answered}
+use Rattle.meaning.specs.Power.{PowerFigures}
+use Rattle.meaning.specs.Free.{FreeFigures}
+use Rattle.meaning.specs.Print.{text}
+use Rattle.meaning.specs.Answers.{SetTold, FileTold, withPowers, withOne, withSome}
+use Rattle.meaning.specs.Calls.{PeriodCall, PortionCall, SetCall, FreeCall, FileCall, ProgramCall}
+use Rattle.meaning.proofs.Computed.{computed}
+use Rattle.meaning.proofs.Rows.{x+1, x²+1, x²+x+1}
+use Rattle.meaning.proofs.CallRows.{answer, work, square, fileA, fileH, fileI, eightZeros, differ}
+
+-- THE PORTION, THE PERIOD AND THE FREE CALL, on row A (a portion, with x³ + x + 1 and the upper power 6) and on
+-- row B (a period, with x + 1)
+
+abbrev termsA : List ℕ
+termsA = 0 ∷ 1 ∷ 0 ∷ 1 ∷ 0 ∷ 0 ∷ 0 ∷ 0 ∷ 1 ∷ 0 ∷ 1 ∷ 1 ∷ 0 ∷ 1 ∷ 0 ∷ 1 ∷ 1 ∷ 0 ∷ []
+
+abbrev x³+x+1 : Polynomial
+x³+x+1 = 1 ∷ 1 ∷ 0 ∷ 1 ∷ []
+
+-- what a wrong rater answers on row A or B; the bytes afterwards may be any
+abbrev AnswersA : PowerRating → Type 0
+AnswersA r = (answer′ work′ : List ℕ) → PortionCall 2 x³+x+1 6 termsA answer work r answer′ work′ → ⊥
+
+abbrev AnswersB : PowerRating → Type 0
+AnswersB r = (answer′ work′ : List ℕ) → PeriodCall 2 x+1 (0 ∷ 0 ∷ 0 ∷ 1 ∷ []) answer work r answer′ work′ → ⊥
+
+pub record WrongRaters : Type 0 where
+  -- finds the top digit of r − 1 = 11 (base 2) and invents the other
+  pub top-digit-only : AnswersA (PowerRating.Rated 3 9 28)
+  -- returns f^v
+  pub upper-power : AnswersA (PowerRating.Rated 6 18 56)
+  pub invented-power : AnswersB (PowerRating.Rated 3 3 4)
+  pub invented-bound : AnswersB (PowerRating.Rated 4 4 5)
+  pub seventeen-for-all : AnswersB (PowerRating.Refused Refusal.NotAnnihilated)
+  pub one-for-all : AnswersB (PowerRating.Rated 0 0 1)
+  pub refuses-all : AnswersB (PowerRating.Refused Refusal.NotPrime)
+  -- tells the right figures and writes nothing, or something else
+  pub nothing-written : (work′ : List ℕ)
+      → PeriodCall 2 x+1 (0 ∷ 0 ∷ 0 ∷ 1 ∷ []) answer work (PowerRating.Rated 4 4 4) answer work′
+      → ⊥
+  pub work-not-cleared : (answer′ : List ℕ)
+      → PeriodCall 2 x+1 (0 ∷ 0 ∷ 0 ∷ 1 ∷ []) answer work (PowerRating.Rated 4 4 4) answer′ work
+      → ⊥
+  pub refused-and-written : (answer′ work′ : List ℕ)
+      → answer′ ≡ 1 ∷ replicate 4098 7
+      → PeriodCall 2 x²+1 (0 ∷ []) answer work (PowerRating.Refused Refusal.Reducible) answer′ work′
+      → ⊥
+  -- answers row H with x², which fits the two terms, but with a degree that is not the least
+  pub degree-not-least : (answer′ work′ : List ℕ)
+      → FreeCall square 2 (1 ∷ 0 ∷ []) answer work (FreeRating.Several 2) answer′ work′
+      → ⊥
+
+-- a figure of a result, 1000 where it is refused
+figure : {A : Type 0} → (A → ℕ) → Result A → ℕ
+figure f (refused n) = 1000
+figure f (answered a) = f a
+
+power-of : Result PowerFigures → ℕ
+power-of r = figure (λ a. a .power) r
+
+bound-of : Result PowerFigures → ℕ
+bound-of r = figure (λ a. a .bound) r
+
+free-degree : Result FreeFigures → ℕ
+free-degree r = figure (λ a. a .degree) r
+
+-- what stands at a place
+at : ℕ → List ℕ → ℕ
+at i l = getD l i 0
+
+pub wrong-raters : WrongRaters
+unfolding computed figure power-of bound-of free-degree at
+wrong-raters =
+    record {
+      top-digit-only = λ a w c. differ 3 4 (ap power-of (c .rating)) refl;
+      upper-power = λ a w c. differ 6 4 (ap power-of (c .rating)) refl;
+      invented-power = λ a w c. differ 3 4 (ap power-of (c .rating)) refl;
+      invented-bound = λ a w c. differ 5 4 (ap bound-of (c .rating)) refl;
+      seventeen-for-all = λ a w c. differ 1000 4 (ap power-of (c .rating)) refl;
+      one-for-all = λ a w c. differ 0 4 (ap power-of (c .rating)) refl;
+      refuses-all = λ a w c. differ 1000 4 (ap power-of (c .rating)) refl;
+      nothing-written = λ w c. differ 7 1 (ap (at 0) (c .lent .answerBytes)) refl;
+      work-not-cleared = λ a c. differ 9 0 (ap (at 0) (c .lent .workBytes)) refl;
+      refused-and-written = λ a w e c. differ 1 7 (ap (at 0) (sym e ∙ c .lent .answerBytes)) refl;
+      degree-not-least = λ a w c. differ 2 1 (ap free-degree (c .rating)) refl;
+    }
+
+-- THE SET CALL, on row A with its one factor and on row K: x + 1 and x² + x + 1, each 1, terms 0, 1, 1, of which
+-- the powers are 0 and 1
+
+-- one power in the first of the eight places
+abbrev first : ℕ → List ℕ
+first r = r ∷ replicate 7 0
+
+abbrev SetA : SetOutcome → List ℕ → List ℕ → List ℕ → Type 0
+SetA o eight answer′ work′ =
+    SetCall 2 (x³+x+1 ∷ []) (6 ∷ []) termsA answer work (record { outcome = o; powers = eight }) answer′ work′
+
+abbrev AnswersSetA : SetOutcome → List ℕ → Type 0
+AnswersSetA o eight = (answer′ work′ : List ℕ) → SetA o eight answer′ work′ → ⊥
+
+abbrev AnswersSetK : SetOutcome → List ℕ → Type 0
+AnswersSetK o eight =
+    (answer′ work′ : List ℕ)
+    → SetCall 2 (x+1 ∷ x²+x+1 ∷ []) (1 ∷ 1 ∷ []) (0 ∷ 1 ∷ 1 ∷ []) answer work
+    (record { outcome = o; powers = eight }) answer′ work′
+    → ⊥
+
+pub record WrongSets : Type 0 where
+  pub top-digit-only : AnswersSetA (SetOutcome.Rated 9 1) (first 3)
+  -- returns the product of the upper powers
+  pub upper-powers : AnswersSetA (SetOutcome.Rated 18 1) (first 6)
+  pub both-upper-powers : AnswersSetK (SetOutcome.Rated 3 2) (1 ∷ first 1)
+  -- tells another power beside the right degree; the powers in the other order
+  pub invented-power : AnswersSetA (SetOutcome.Rated 12 1) (first 5)
+  pub powers-exchanged : AnswersSetK (SetOutcome.Rated 2 2) (1 ∷ replicate 7 0)
+  pub seventeen-for-all : AnswersSetA (SetOutcome.Refused Refusal.NotAnnihilated) eightZeros
+  pub one-for-all : AnswersSetA (SetOutcome.Rated 0 1) eightZeros
+  pub refuses-all : AnswersSetA (SetOutcome.Refused Refusal.NotPrime) eightZeros
+  pub nothing-written : (work′ : List ℕ) → SetA (SetOutcome.Rated 12 1) (first 4) answer work′ → ⊥
+  pub work-not-cleared : (answer′ : List ℕ) → SetA (SetOutcome.Rated 12 1) (first 4) answer′ work → ⊥
+  pub refused-and-written : (answer′ work′ : List ℕ)
+      → answer′ ≡ 1 ∷ replicate 4098 7
+      → SetCall 2 [] [] (0 ∷ []) answer work
+      (record { outcome = SetOutcome.Refused Refusal.FactorCount; powers = eightZeros }) answer′ work′
+      → ⊥
+
+set-degree : Result SetTold → ℕ
+set-degree r = figure (λ a. a .degree) r
+
+pub wrong-sets : WrongSets
+unfolding computed figure set-degree at
+wrong-sets =
+    record {
+      top-digit-only = λ a w c. differ 9 12 (ap set-degree (c .rating)) refl;
+      upper-powers = λ a w c. differ 18 12 (ap set-degree (c .rating)) refl;
+      both-upper-powers = λ a w c. differ 3 2 (ap set-degree (c .rating)) refl;
+      invented-power = λ a w c. differ 5 4 (ap (at 0) (c .powers)) refl;
+      powers-exchanged = λ a w c. differ 1 0 (ap (at 0) (c .powers)) refl;
+      seventeen-for-all = λ a w c. differ 1000 12 (ap set-degree (c .rating)) refl;
+      one-for-all = λ a w c. differ 0 12 (ap set-degree (c .rating)) refl;
+      refuses-all = λ a w c. differ 1000 12 (ap set-degree (c .rating)) refl;
+      nothing-written = λ w c. differ 7 1 (ap (at 0) (c .lent .answerBytes)) refl;
+      work-not-cleared = λ a c. differ 9 0 (ap (at 0) (c .lent .workBytes)) refl;
+      refused-and-written = λ a w e c. differ 1 7 (ap (at 0) (sym e ∙ c .lent .answerBytes)) refl;
+    }
+
+-- THE FILE CALL, on row A as a file of box 7 in mode 2, and on the rows H and I as files in mode 3, of which H
+-- has `one` and I has `some`
+
+abbrev FileOf : List ℕ → FileOutcome → List ℕ → List ℕ → List ℕ → Type 0
+FileOf file o eight answer′ work′ =
+    FileCall square file answer work (record { sender = 7; outcome = o; powers = eight }) answer′ work′
+
+abbrev AnswersFile : List ℕ → FileOutcome → List ℕ → Type 0
+AnswersFile file o eight = (answer′ work′ : List ℕ) → FileOf file o eight answer′ work′ → ⊥
+
+pub record WrongFiles : Type 0 where
+  pub top-digit-only : AnswersFile fileA (FileOutcome.Powers 9 18 1) (first 3)
+  pub upper-powers : AnswersFile fileA (FileOutcome.Powers 18 18 1) (first 6)
+  pub invented-power : AnswersFile fileA (FileOutcome.Powers 12 18 1) (first 5)
+  pub seventeen-for-all : AnswersFile fileA (FileOutcome.Refused Refusal.NotAnnihilated) eightZeros
+  pub one-for-all : AnswersFile fileA (FileOutcome.Powers 0 18 1) eightZeros
+  pub refuses-all : AnswersFile fileA (FileOutcome.Refused Refusal.ModeUnsuited) eightZeros
+  pub nothing-written : (work′ : List ℕ) → FileOf fileA (FileOutcome.Powers 12 18 1) (first 4) answer work′ → ⊥
+  pub work-not-cleared : (answer′ : List ℕ)
+      → FileOf fileA (FileOutcome.Powers 12 18 1) (first 4) answer′ work
+      → ⊥
+  -- the word, the number of terms and the box
+  pub some-for-one : AnswersFile fileH (FileOutcome.Several 1 2) eightZeros
+  pub one-for-some : AnswersFile fileI (FileOutcome.Unique 2 2) eightZeros
+  pub terms-miscounted : AnswersFile fileA (FileOutcome.Powers 12 17 1) (first 4)
+  pub box-forgotten : (answer′ work′ : List ℕ)
+      → FileCall square fileA answer work
+      (record { sender = 0; outcome = FileOutcome.Powers 12 18 1; powers = first 4 }) answer′ work′
+      → ⊥
+
+-- the degree that is told; the number of terms; 1 for the word `one`
+degree-told : FileTold → ℕ
+degree-told (withPowers d m n) = d
+degree-told (withOne d m) = d
+degree-told (withSome d m) = d
+
+terms-told : FileTold → ℕ
+terms-told (withPowers d m n) = m
+terms-told (withOne d m) = m
+terms-told (withSome d m) = m
+
+word-told : FileTold → ℕ
+word-told (withPowers d m n) = 0
+word-told (withOne d m) = 1
+word-told (withSome d m) = 2
+
+pub wrong-files : WrongFiles
+unfolding computed figure degree-told terms-told word-told at
+wrong-files =
+    record {
+      top-digit-only = λ a w c. differ 9 12 (ap (figure degree-told) (c .rating)) refl;
+      upper-powers = λ a w c. differ 18 12 (ap (figure degree-told) (c .rating)) refl;
+      invented-power = λ a w c. differ 5 4 (ap (at 0) (c .powers)) refl;
+      seventeen-for-all = λ a w c. differ 1000 12 (ap (figure degree-told) (c .rating)) refl;
+      one-for-all = λ a w c. differ 0 12 (ap (figure degree-told) (c .rating)) refl;
+      refuses-all = λ a w c. differ 1000 12 (ap (figure degree-told) (c .rating)) refl;
+      nothing-written = λ w c. differ 7 1 (ap (at 0) (c .lent .answerBytes)) refl;
+      work-not-cleared = λ a c. differ 9 0 (ap (at 0) (c .lent .workBytes)) refl;
+      some-for-one = λ a w c. differ 2 1 (ap (figure word-told) (c .rating)) refl;
+      one-for-some = λ a w c. differ 1 2 (ap (figure word-told) (c .rating)) refl;
+      terms-miscounted = λ a w c. differ 17 18 (ap (figure terms-told) (c .rating)) refl;
+      box-forgotten = λ a w c. differ 0 7 (c .sender) refl;
+    }
+
+-- THE PROGRAM, on the file of row A: it prints the line `7 ok 12/18 4`. A wrong program prints another, and then
+-- anything
+
+abbrev PrintsA : List ℕ → Type 0
+PrintsA front = (rest : List ℕ) → ProgramCall square fileA (front ++ rest) → ⊥
+
+pub record WrongPrograms : Type 0 where
+  pub top-digit-only : PrintsA (text "box result density powers\n7 ok 9/18 3\n")
+  pub upper-powers : PrintsA (text "box result density powers\n7 ok 18/18 6\n")
+  pub invented-power : PrintsA (text "box result density powers\n7 ok 12/18 5\n")
+  pub seventeen-for-all : PrintsA (text "box result density powers\n7 refused 17\n")
+  pub one-for-all : PrintsA (text "box result density powers\n7 ok 0/18 0\npoly 1\n")
+  pub refuses-all : PrintsA (text "box result density powers\n7 refused 6\n")
+  pub nothing-written : ProgramCall square fileA [] → ⊥
+  -- the coefficients leading first; the density turned
+  pub leading-first : PrintsA
+      (text "box result density powers\n7 ok 12/18 4\npoly 1 0 0 0 0 0 0 0 1 0 0 0 1\n")
+  pub density-turned : PrintsA (text "box result density powers\n7 ok 18/12 4\n")
+
+pub wrong-programs : WrongPrograms
+unfolding computed at
+wrong-programs =
+    record {
+      top-digit-only = λ l c. differ 57 49 (ap (at 31) (c .lines)) refl;
+      upper-powers = λ l c. differ 56 50 (ap (at 32) (c .lines)) refl;
+      invented-power = λ l c. differ 53 52 (ap (at 37) (c .lines)) refl;
+      seventeen-for-all = λ l c. differ 114 111 (ap (at 28) (c .lines)) refl;
+      one-for-all = λ l c. differ 48 49 (ap (at 31) (c .lines)) refl;
+      refuses-all = λ l c. differ 114 111 (ap (at 28) (c .lines)) refl;
+      nothing-written = λ c. differ 0 98 (ap (at 0) (c .lines)) refl;
+      leading-first = λ l c. differ 48 49 (ap (at 52) (c .lines)) refl;
+      density-turned = λ l c. differ 56 50 (ap (at 32) (c .lines)) refl;
+    }
