@@ -122,7 +122,7 @@ pub record CallRows : Type 0 where
       cleared
   pub ratedH : FileCall square fileH answer work
       (record { sender = 7; outcome = FileOutcome.Unique 1 2; powers = eightZeros })
-      (0 ∷ 1 ∷ replicate 4097 7)
+      ((0 ∷ 1 ∷ []) ++ replicate 4097 7)
       cleared
   pub ratedI : FileCall square fileI answer work
       (record { sender = 7; outcome = FileOutcome.Several 2 2; powers = eightZeros })

@@ -1,6 +1,7 @@
 pub mod Words
 pub mod Ways
 pub mod CutAnywhere
-pub mod Promises
 pub mod Instance
 pub mod Examples
+pub mod Telling
+pub mod Answering

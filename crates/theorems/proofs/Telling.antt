@@ -9,11 +9,12 @@
 -- Assumes nothing.
 use Prim.Native.Nat.{ℕ, suc, _≤_}
 use native.Mathlib.Omega.{arith}
+use native.Mathlib.Decide.{ℕ-discrete}
 use mathlib.Core.Path.{_≡_, refl, sym, ap, subst, _∙_}
 use mathlib.Core.Logic.{_⊎_, inl, inr}
 use mathlib.Core.Bool.{Bool, true, false}
 use mathlib.Core.List.{List, [], _∷_, _++_, map}
-use mathlib.Core.Option.{Option, some, Option·some-injective, Option·none-ne-some}
+use mathlib.Core.Option.{Option, none, some, Option·some-injective, Option·none-ne-some}
 use lib.ListN.{length, take, drop, replicate, length-append, length-drop, length-replicate}
 use lib.Seq.{take-at, drop-at}
 use lib.Dec.{T, eqb, eqb-refl, eqb→eq}
@@ -21,12 +22,13 @@ use borrow.Author.Tests.{ne-eqb}
 use Rattle.meaning.specs.declared.Refusal.{Refusal}
 use Rattle.meaning.specs.Search.{holdsForAll, isNone}
 use Rattle.meaning.specs.Result.{Check, Result, Rated, answered, refused, firstOf, settle, figuresOf, mapResult}
-use Rattle.meaning.specs.Result.{answerAfter, workAfter, written, cleared}
+use Rattle.meaning.specs.Result.{valueOf, answerAfter, workAfter, written, cleared}
 use Rattle.meaning.specs.Answers.{numberOf}
 use Rattle.meaning.specs.Calls.{LentAfter}
 use Rattle.meaning.proofs.Determined.{refusalOf, refusal-found}
-use Rattle.meaning.proofs.Tables.{NoneHolds, firstOf-skip, firstOf-stop, firstOf-none}
-use Rattle.bridge.proofs.Searches.{settle-refused, some-head, some-tail, some-member, all-member, T-false}
+use Rattle.meaning.proofs.Tables.{firstOf-skip, firstOf-stop, settle-none}
+use Rattle.meaning.proofs.Passes.{Passes, firstOf-passes}
+use Rattle.bridge.proofs.Searches.{some-head, some-tail, some-member, all-member}
 use Rattle.bridge.proofs.Searches.{never-answered, refused-same, answered-same}
 use Rattle.theorems.specs.Answering.{Answered, OneOf, Tells, RatingAnswers}
 
@@ -35,7 +37,8 @@ abbrev pub numbersOf : List Check → List ℕ
 numbersOf table = map (λ c. c .0) table
 
 among : (table : List Check) {n : ℕ} → firstOf table ≡ some n → OneOf n (numbersOf table)
-among [] e = absurd (Option·none-ne-some _ (sym (firstOf-none [] tt) ∙ e))
+unfolding firstOf
+among [] e = absurd (Option·none-ne-some _ e)
 among (c ∷ table) {n} e = go (among table) ((c .1) tt) refl
   where
     go :
@@ -52,16 +55,15 @@ among (c ∷ table) {n} e = go (among table) ((c .1) tt) refl
 
 pub settle-tells :
     {A : Type 0} (v : Unit {0} → Option A) (table : List Check)
-    → (NoneHolds table → (a : A) × (v tt ≡ some a))
+    → (Passes table → (a : A) × (v tt ≡ some a))
     → Tells (numbersOf table) (settle table v)
-settle-tells {A} v table value = go (settle table v) refl
+unfolding settle valueOf
+settle-tells v table value = go (firstOf table) refl
   where
-    go : (x : Result A) → settle table v ≡ x → Tells (numbersOf table) (settle table v)
-    go (answered a) e = inl (a, e)
-    go (refused n) e = elim (settle-refused v table e) [
-      | inl f ↦ inr (n, e, among table f)
-      | inr (h, z, _) ↦ absurd (let (a, q) = value h in Option·none-ne-some a (sym z ∙ q))
-    ]
+    go : (o : Option ℕ) → firstOf table ≡ o → Tells (numbersOf table) (settle table v)
+    go none f =
+        let (a, q) = value (firstOf-passes table f) in inl (a, settle-none table v f ∙ ap valueOf q)
+    go (some n) f = inr (n, rw (f, settle), among table f)
 
 pub map-tells :
     {A B : Type 0} (numbers : List ℕ) (g : A → B) (x : Result A) {y : Result B}
@@ -158,7 +160,7 @@ by-seventeen : (n : ℕ) → (n ≡ 17) ⊎ (n ≡ 17 → ⊥)
 by-seventeen n = elim (ℕ-discrete n 17) [ yes e ↦ inl e | no e ↦ inr e ]
 
 refused-lent :
-    {A B : Type 0} (numbers : List ℕ) (degreeIn : B → ℕ) (n : ℕ) (told : Result B)
+    {B : Type 0} (numbers : List ℕ) (degreeIn : B → ℕ) (n : ℕ) (told : Result B)
     (answer work answer′ work′ : List ℕ)
     → told ≡ refused n
     → OneOf n numbers
@@ -196,6 +198,10 @@ unfolding written
 written-length g answer l =
     length-append g (drop (length g) answer) ∙ omega (arith, length-drop (length g) answer, l)
 
+written-after : (g answer : List ℕ) (n : ℕ) → length g ≡ n → drop n (written g answer) ≡ drop n answer
+unfolding written
+written-after g answer n e = drop-at g (drop (length g) answer) n e ∙ ap (λ k. drop k answer) e
+
 -- what is told of a result: a refusal by its number, an answer by its figures
 pub rating-answers :
     {A B : Type 0} (numbers : List ℕ) (degreeIn : B → ℕ) (g : A → B) (result : Result (Rated A))
@@ -205,7 +211,7 @@ pub rating-answers :
     → Sized (λ a. degreeIn (g a)) result (length answer) (length work)
     → LentAfter result answer work answer′ work′
     → RatingAnswers numbers degreeIn told answer work answer′ work′
-unfolding mapResult figuresOf answerAfter
+unfolding mapResult figuresOf answerAfter workAfter
 rating-answers {A} numbers degreeIn g (refused n) told answer work answer′ work′ e t sized lent =
     refused-lent numbers degreeIn n told answer work answer′ work′ e (elim t [
       | inl (a, q) ↦ never-answered q
@@ -228,7 +234,7 @@ rating-answers numbers degreeIn g (answered b) told answer work answer′ work�
           let n : length (b .polynomial) ≡ suc (degreeIn a) =
           size ∙ ap (λ c. suc (degreeIn c)) (sym same) in
           ap (drop (suc (degreeIn a))) (lent .answerBytes)
-          ∙ after (b .polynomial) answer (suc (degreeIn a)) n;
+          ∙ written-after (b .polynomial) answer (suc (degreeIn a)) n;
       answer-length =
           ap length (lent .answerBytes)
           ∙ written-length (b .polynomial) answer (omega (arith, size, sized .small b refl, room .0));
@@ -237,7 +243,3 @@ rating-answers numbers degreeIn g (answered b) told answer work answer′ work�
       work-beyond = ap (drop 8192) cleared-work ∙ cleared-beyond work;
       work-length = ap length cleared-work ∙ cleared-length work (room .1);
     }
-  where
-    after : (l bytes : List ℕ) (n : ℕ) → length l ≡ n → drop n (written l bytes) ≡ drop n bytes
-    unfolding written
-    after l bytes n e = drop-at l (drop (length l) bytes) n e ∙ ap (λ k. drop k bytes) e

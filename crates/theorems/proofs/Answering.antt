@@ -1,0 +1,571 @@
+-- Demand 1 for the calls on numbers and slices, from their contracts alone.
+--
+--   …-tells          == the definition answers, or refuses by a number of the call
+--   …-sized          == its polynomial and its lent bytes have their sizes
+--   …-answers        == the promise
+-- Assumes nothing.
+use Prim.Native.Nat.{ℕ, zero, suc, _-_, _≤_}
+use native.Mathlib.Omega.{arith}
+use mathlib.Core.Path.{_≡_, refl, sym, ap, subst, _∙_}
+use mathlib.Core.Logic.{_⊎_, inl, inr}
+use mathlib.Core.Bool.{Bool, true, false, true≢false, _||_}
+use mathlib.Core.List.{List, [], _∷_, _++_}
+use mathlib.Core.Option.{Option, none, some, Option·some-injective}
+use lib.ListN.{length, take, length-append}
+use lib.Seq.{length-take-le}
+use lib.Dec.{T, ltb, eqb}
+use borrow.Author.Tests.{ltb-false}
+use Rattle.meaning.specs.declared.PowerRating.{PowerRating}
+use Rattle.meaning.specs.declared.SetOutcome.{SetOutcome}
+use Rattle.meaning.specs.declared.SetRating.{SetRating}
+use Rattle.meaning.specs.declared.FreeRating.{FreeRating}
+use Rattle.meaning.specs.declared.Filling.{Filling}
+use Rattle.meaning.specs.declared.Irreducibility.{Irreducibility}
+use Rattle.meaning.specs.Search.{holdsForAll, holdsForSome, isNone, bind}
+use Rattle.meaning.specs.Field.{primeInRange}
+use Rattle.meaning.specs.Polynomial.{Polynomial}
+use Rattle.meaning.specs.Sequence.{cut, continuation}
+use Rattle.meaning.specs.Result.{Result, Rated, answered, refused, figuresOf, mapResult, answerAfter, workAfter}
+use Rattle.meaning.specs.Conditions.{named, totalDegree, factorDegreeOutOfRange, notMonic, lentTooShort}
+use Rattle.meaning.specs.Conditions.{placeOutOfRange, countOutOfRange}
+use Rattle.meaning.specs.Power.{PowerFigures, powerRating}
+use Rattle.meaning.specs.Period.{periodPower, periodTable, periodAnswer, ratePeriod}
+use Rattle.meaning.specs.Portion.{SetFigures, factorsOf, leastAt, portionTable, ratePortion, setPowers}
+use Rattle.meaning.specs.Portion.{setRating, setTable, setAnswer, rateSet}
+use Rattle.meaning.specs.Free.{Choice, FreeFigures, ChosenFits, leastDegree, isUnique, freePolynomial}
+use Rattle.meaning.specs.Free.{freeRating, freeTable, rateFree}
+use Rattle.meaning.specs.Continuation.{continueSequence, continueTable, filled}
+use Rattle.meaning.specs.Irreducibility.{askIrreducible, irreducibleTable}
+use Rattle.meaning.specs.Answers.{setFiguresTold, SetTold, setPadded, toldPower, toldSet, toldFree}
+use Rattle.meaning.specs.Answers.{toldFilling, toldIrreducible}
+use Rattle.meaning.specs.Calls.{PeriodCall, PortionCall, SetCall, FreeCall, ContinueCall, bufferAfter}
+use Rattle.meaning.proofs.Determined.{refusals, refusalOf}
+use Rattle.meaning.proofs.Determined.{period-call-determined, portion-call-determined, set-call-determined}
+use Rattle.meaning.proofs.Determined.{free-call-determined, continue-call-determined}
+use Rattle.meaning.proofs.Determined.{irreducible-call-determined}
+use Rattle.meaning.proofs.Passes.{Passes}
+use Rattle.meaning.specs.Route.{lookUp}
+use Rattle.bridge.proofs.Searches.{settle-refused, settle-answered, bind-some, mapOption-some, map-answered}
+use Rattle.bridge.proofs.Searches.{map-refused, or-false}
+use Rattle.bridge.proofs.Interpretation.{IsField, inRange-isField, characteristic-two}
+use Rattle.bridge.proofs.Polynomials.{monic-nonempty, degree-length}
+use Rattle.bridge.proofs.Products.{Nonempties, accepted-monic, monics-nonempty, factorsOf-named}
+use Rattle.bridge.proofs.Products.{power-nonempty}
+use Rattle.bridge.proofs.Irreducibles.{accepted-factors, factors-monics}
+use Rattle.bridge.proofs.Portions.{portion-found, setPowers-exists}
+use Rattle.bridge.proofs.Fitting.{leastDegree-some, leastDegree-least, polynomial-one, polynomial-some}
+use Rattle.bridge.proofs.RepeatBounds.{repeatBound-exists}
+use Rattle.bridge.proofs.Accepted.{prime-accepted, terms-accepted, enough-accepted, rating-of, power-rated}
+use Rattle.bridge.proofs.Accepted.{rated-power}
+use Rattle.bridge.proofs.FileRatings.{period-size, set-size, free-size}
+use Rattle.theorems.specs.Ratings.{GF}
+use Rattle.theorems.specs.Answering.{periodNumbers, portionNumbers, setNumbers, freeNumbers}
+use Rattle.theorems.specs.Answering.{continueNumbers, irreducibleNumbers, Answered, Tells, PeriodAnswers}
+use Rattle.theorems.specs.Answering.{PortionAnswers, SetAnswers, FreeAnswers, ContinueAnswers}
+use Rattle.theorems.specs.Answering.{IrreducibleAnswers, PrimeAnswers}
+use Rattle.theorems.proofs.Ways.{one-total, period-promise, portion-promise, set-promise, free-promise}
+use Rattle.theorems.proofs.Telling.{settle-tells, map-tells, Listed, meets, Sized, lent-after}
+use Rattle.theorems.proofs.Telling.{rating-answers}
+
+-- where the answer tells the figures themselves
+pub figures-themselves : {A : Type 0} (x : Result A) → x ≡ mapResult (λ a. a) x
+unfolding mapResult
+figures-themselves (refused n) = refl
+figures-themselves (answered a) = refl
+
+present : {A : Type 0} (o : Option A) → isNone o ≡ false → (a : A) × (o ≡ some a)
+unfolding isNone
+present none e = absurd (true≢false e)
+present (some a) e = (a, refl)
+
+-- 16 passes
+lent-enough : (answer work : ℕ) → lentTooShort answer work ≡ false → (4097 ≤ answer) × (8192 ≤ work)
+unfolding lentTooShort
+lent-enough answer work h =
+    let (a, w) = or-false (ltb answer 4097) (ltb work 8192) h in
+    (ltb-false answer 4097 a, ltb-false work 8192 w)
+
+-- there is a bound for every power
+power-value :
+    (p : ℕ) (f : Polynomial) (o : Option ℕ)
+    → IsField (GF p)
+    → (r : ℕ) × (o ≡ some r)
+    → (a : Rated PowerFigures) × (bind o (powerRating (GF p) f) ≡ some a)
+power-value p f o I (r, e) =
+    let (b, q) = repeatBound-exists (GF p) f r (characteristic-two I) in
+    (rating-of p f r b, bind-some (powerRating (GF p) f) e ∙ power-rated p f r b q)
+
+power-meets :
+    (numbers : List ℕ)
+    → Listed numbers
+    → (x : Result (Rated PowerFigures))
+    → Tells numbers x
+    → (r : PowerRating) × (toldPower r ≡ figuresOf x)
+unfolding toldPower figuresOf
+power-meets numbers listed x t =
+    meets toldPower (λ a. PowerRating.Rated (a .power) (a .degree) (a .bound)) PowerRating.Refused (λ a. refl)
+    (λ z. refl) numbers listed (figuresOf x) (map-tells numbers (λ a. a .figures) x refl t)
+
+-- THE PERIOD WAY
+period-listed : Listed periodNumbers
+unfolding Listed refusalOf refusals lookUp holdsForAll isNone
+period-listed = tt
+
+pub period-tells :
+    (p : ℕ) (ten eleven : Bool) (f : Polynomial) (ts : List ℕ) (answer work : ℕ)
+    → Tells periodNumbers (periodAnswer p ten eleven f ts answer work)
+unfolding periodAnswer periodTable
+period-tells p ten eleven f ts answer work =
+    settle-tells _ (periodTable p ten eleven f ts answer work)
+    (λ h.
+    power-value p f (periodPower (GF p) f ts) (inRange-isField p (prime-accepted p (h .fieldExists)))
+    (present (periodPower (GF p) f ts) (h .annihilated)))
+
+pub period-lent :
+    (p : ℕ) (ten eleven : Bool) (f : Polynomial) (ts : List ℕ) (answer work : ℕ)
+    → let x = periodAnswer p ten eleven f ts answer work in
+    Answered x ⊎ (x ≡ refused 17)
+    → (4097 ≤ answer) × (8192 ≤ work)
+unfolding periodAnswer periodTable
+period-lent p ten eleven f ts answer work (inl (a, e)) =
+    lent-enough answer work
+    (settle-answered _ (periodTable p ten eleven f ts answer work) e .0 .lentEnough)
+period-lent p ten eleven f ts answer work (inr e) =
+    lent-enough answer work
+    (settle-refused _ (periodTable p ten eleven f ts answer work) (omega arith) e .0 .lentEnough)
+
+module _ (p : ℕ) (f : Polynomial) (ts answer work : List ℕ) where
+  abbrev periodResult : Result (Rated PowerFigures)
+  periodResult = ratePeriod p f ts (length answer) (length work)
+
+  period-told : Tells periodNumbers periodResult
+  unfolding ratePeriod
+  period-told =
+      period-tells p (factorDegreeOutOfRange (GF p) f) (notMonic (GF p) f) f ts (length answer) (length work)
+
+  period-some :
+      (r : PowerRating)
+      × (answer′ : List ℕ)
+      × (work′ : List ℕ)
+      × PeriodCall p f ts answer work r answer′ work′
+  period-some =
+      let (r, e) = power-meets periodNumbers period-listed periodResult period-told in (
+        r,
+        answerAfter periodResult answer,
+        workAfter periodResult work,
+        record { rating = e; lent = lent-after periodResult answer work },
+      )
+
+  period-sized : Sized (λ a. a .degree) periodResult (length answer) (length work)
+  unfolding ratePeriod periodAnswer periodTable figuresOf mapResult
+  period-sized =
+      record {
+        polynomial =
+            λ a e.
+            let ten = factorDegreeOutOfRange (GF p) f in
+            let (h, _) =
+            settle-answered _
+            (periodTable p ten (notMonic (GF p) f) f ts (length answer) (length work)) e in
+            period-size p ten (notMonic (GF p) f) f ts (length answer) (length work)
+            (monic-nonempty (GF p) f (accepted-monic (GF p) f (h .monic))) e;
+        small =
+            λ a e.
+            let (r, answer′, work′, c) = period-some in
+            period-promise p f ts answer work r answer′ work′ c .rated (a .figures)
+            (c .rating ∙ ap figuresOf e) .small;
+        lent =
+            period-lent p (factorDegreeOutOfRange (GF p) f) (notMonic (GF p) f) f ts (length answer)
+            (length work);
+      }
+
+pub period-answers : PeriodAnswers
+period-answers p f ts answer work =
+    record {
+      each =
+          λ r answer′ work′ c.
+          rating-answers periodNumbers (λ a. a .degree) (λ a. a) (periodResult p f ts answer work) (toldPower r)
+          answer work answer′ work′ (c .rating ∙ figures-themselves _) (period-told p f ts answer work)
+          (period-sized p f ts answer work) (c .lent);
+      some = period-some p f ts answer work;
+      one = λ r s _ _ _ _ c d. period-call-determined c d;
+    }
+
+-- THE PORTION WAY
+portion-listed : Listed portionNumbers
+unfolding Listed refusalOf refusals lookUp holdsForAll isNone
+portion-listed = tt
+
+pub portion-tells :
+    (p : ℕ) (f : Polynomial) (v : ℕ) (ts : List ℕ) (answer work : ℕ)
+    → Tells portionNumbers (ratePortion p f v ts answer work)
+unfolding ratePortion portionTable
+portion-tells p f v ts answer work =
+    settle-tells _ (portionTable p f v ts answer work)
+    (λ h.
+    let I = inRange-isField p (prime-accepted p (h .fieldExists)) in
+    power-value p f (leastAt (GF p) ((f, v) ∷ []) ts 0) I
+    (portion-found I f (accepted-monic (GF p) f (h .monic)) v ts (terms-accepted p ts (h .termsInField))
+    (subst (λ d. d ≤ length ts) (one-total f v)
+    (enough-accepted (totalDegree ((f, v) ∷ [])) ts (h .enoughTerms)))))
+
+module _ (p : ℕ) (f : Polynomial) (v : ℕ) (ts answer work : List ℕ) where
+  abbrev portionResult : Result (Rated PowerFigures)
+  portionResult = ratePortion p f v ts (length answer) (length work)
+
+  portion-some :
+      (r : PowerRating)
+      × (answer′ : List ℕ)
+      × (work′ : List ℕ)
+      × PortionCall p f v ts answer work r answer′ work′
+  portion-some =
+      let (r, e) =
+      power-meets portionNumbers portion-listed portionResult
+      (portion-tells p f v ts (length answer) (length work)) in (
+        r,
+        answerAfter portionResult answer,
+        workAfter portionResult work,
+        record { rating = e; lent = lent-after portionResult answer work },
+      )
+
+  portion-sized : Sized (λ a. a .degree) portionResult (length answer) (length work)
+  unfolding ratePortion portionTable figuresOf mapResult rating-of
+  portion-sized =
+      record {
+        polynomial =
+            λ a e.
+            let (h, w) = settle-answered _ (portionTable p f v ts (length answer) (length work)) e in
+            let I = inRange-isField p (prime-accepted p (h .fieldExists)) in
+            let (r, b, _, _, t) = rated-power p f (leastAt (GF p) ((f, v) ∷ []) ts 0) w in
+            let n = monic-nonempty (GF p) f (accepted-monic (GF p) f (h .monic)) in
+            subst (λ a. length (a .polynomial) ≡ suc (a .figures .degree)) t
+            (degree-length _ (power-nonempty I f r n));
+        small =
+            λ a e.
+            let (r, answer′, work′, c) = portion-some in
+            portion-promise p f v ts answer work r answer′ work′ c .rated (a .figures)
+            (c .rating ∙ ap figuresOf e) .small;
+        lent =
+            λ x. elim x [
+              | inl (a, e) ↦
+                  lent-enough (length answer) (length work)
+                  (settle-answered _ (portionTable p f v ts (length answer) (length work)) e .0 .lentEnough)
+              | inr e ↦
+                  lent-enough (length answer) (length work)
+                  (settle-refused _ (portionTable p f v ts (length answer) (length work)) (omega arith) e .0
+                  .lentEnough)
+            ];
+      }
+
+pub portion-answers : PortionAnswers
+portion-answers p f v ts answer work =
+    record {
+      each =
+          λ r answer′ work′ c.
+          rating-answers portionNumbers (λ a. a .degree) (λ a. a) (portionResult p f v ts answer work)
+          (toldPower r) answer work answer′ work′ (c .rating ∙ figures-themselves _)
+          (portion-tells p f v ts (length answer) (length work)) (portion-sized p f v ts answer work) (c .lent);
+      some = portion-some p f v ts answer work;
+      one = λ r s _ _ _ _ c d. portion-call-determined c d;
+    }
+
+-- THE SET WAY
+set-listed : Listed setNumbers
+unfolding Listed refusalOf refusals lookUp holdsForAll isNone
+set-listed = tt
+
+pub set-tells :
+    (p : ℕ) (ten eleven : Bool) (l : List (Polynomial × ℕ)) (ts : List ℕ) (answer work : ℕ)
+    → (Passes (setTable p ten eleven l ts answer work) → Nonempties l)
+    → Tells setNumbers (setAnswer p ten eleven l ts answer work)
+unfolding setAnswer setTable
+set-tells p ten eleven l ts answer work nonempties =
+    settle-tells _ (setTable p ten eleven l ts answer work)
+    (λ h.
+    let I = inRange-isField p (prime-accepted p (h .fieldExists)) in
+    let (rs, e) = setPowers-exists I l (nonempties h) ts in
+    (setRating (GF p) l rs, mapOption-some (setRating (GF p) l) e))
+
+pub set-lent :
+    (p : ℕ) (ten eleven : Bool) (l : List (Polynomial × ℕ)) (ts : List ℕ) (answer work : ℕ)
+    → let x = setAnswer p ten eleven l ts answer work in
+    Answered x ⊎ (x ≡ refused 17)
+    → (4097 ≤ answer) × (8192 ≤ work)
+unfolding setAnswer setTable
+set-lent p ten eleven l ts answer work (inl (a, e)) =
+    lent-enough answer work (settle-answered _ (setTable p ten eleven l ts answer work) e .0 .lentEnough)
+set-lent p ten eleven l ts answer work (inr e) =
+    lent-enough answer work
+    (settle-refused _ (setTable p ten eleven l ts answer work) (omega arith) e .0 .lentEnough)
+
+module _ (p : ℕ) (fs : List Polynomial) (vs ts answer work : List ℕ) where
+  abbrev setResult : Result (Rated SetFigures)
+  setResult = rateSet p fs vs ts (length answer) (length work)
+
+  abbrev ten : Bool
+  ten = holdsForSome (factorDegreeOutOfRange (GF p)) fs
+
+  abbrev eleven : Bool
+  eleven = holdsForSome (notMonic (GF p)) fs
+
+  named-nonempties :
+      Passes (setTable p ten eleven (named fs vs) ts (length answer) (length work)) → Nonempties (named fs vs)
+  unfolding setTable
+  named-nonempties h =
+      let l = named fs vs in
+      let I = inRange-isField p (prime-accepted p (h .fieldExists)) in
+      let same = factorsOf-named fs vs in
+      monics-nonempty (GF p) l
+      (factors-monics I l
+      (accepted-factors p (factorsOf l) (h .fieldExists)
+      (ap (holdsForSome (factorDegreeOutOfRange (GF p))) same ∙ h .degreesInRange)
+      (ap (holdsForSome (notMonic (GF p))) same ∙ h .monic)
+      (h .irreducible)
+      (h .different)))
+
+  set-told : Tells setNumbers setResult
+  unfolding rateSet
+  set-told = set-tells p ten eleven (named fs vs) ts (length answer) (length work) named-nonempties
+
+  set-some :
+      (r : SetRating)
+      × (answer′ : List ℕ)
+      × (work′ : List ℕ)
+      × SetCall p fs vs ts answer work r answer′ work′
+  unfolding toldSet figuresOf setFiguresTold
+  set-some =
+      let (o, e) =
+      meets toldSet (λ a. SetOutcome.Rated (a .degree) (a .count)) SetOutcome.Refused (λ a. refl) (λ z. refl)
+      setNumbers set-listed (mapResult setFiguresTold (figuresOf setResult))
+      (map-tells setNumbers setFiguresTold (figuresOf setResult) refl
+      (map-tells setNumbers (λ a. a .figures) setResult refl set-told)) in (
+        record { outcome = o; powers = setPadded (figuresOf setResult) },
+        answerAfter setResult answer,
+        workAfter setResult work,
+        record { rating = e; powers = refl; lent = lent-after setResult answer work },
+      )
+
+  set-sized : Sized (λ a. setFiguresTold a .degree) setResult (length answer) (length work)
+  unfolding rateSet setAnswer figuresOf mapResult setFiguresTold
+  set-sized =
+      record {
+        polynomial =
+            λ a e.
+            let (h, _) =
+            settle-answered _ (setTable p ten eleven (named fs vs) ts (length answer) (length work)) e in
+            set-size p ten eleven (named fs vs) ts (length answer) (length work) (named-nonempties h) e;
+        small =
+            λ a e.
+            let (r, answer′, work′, c) = set-some in
+            set-promise p fs vs ts answer work r answer′ work′ c .rated (setFiguresTold (a .figures))
+            (c .rating ∙ ap (λ x. mapResult setFiguresTold (figuresOf x)) e) .small;
+        lent = set-lent p ten eleven (named fs vs) ts (length answer) (length work);
+      }
+
+pub set-answers : SetAnswers
+set-answers p fs vs ts answer work =
+    record {
+      each =
+          λ r answer′ work′ c.
+          rating-answers setNumbers (λ a. a .degree) setFiguresTold (setResult p fs vs ts answer work)
+          (toldSet (r .outcome)) answer work answer′ work′ (c .rating) (set-told p fs vs ts answer work)
+          (set-sized p fs vs ts answer work) (c .lent);
+      some = set-some p fs vs ts answer work;
+      one = λ r s _ _ _ _ c d. set-call-determined c d;
+    }
+
+-- THE FREE WAY
+free-listed : Listed freeNumbers
+unfolding Listed refusalOf refusals lookUp holdsForAll isNone
+free-listed = tt
+
+free-polynomial :
+    (pick : Choice) (p : ℕ) (ts : List ℕ) (L : ℕ)
+    → IsField (GF p)
+    → leastDegree (GF p) ts ≡ some L
+    → (g : Polynomial) × (freePolynomial pick p ts L ≡ some g)
+free-polynomial pick p ts L I e = go (isUnique ts L) refl
+  where
+    go : (u : Bool) → isUnique ts L ≡ u → (g : Polynomial) × (freePolynomial pick p ts L ≡ some g)
+    go true u =
+        let least = leastDegree-least I e in
+        (least .fitting, polynomial-one p I pick least u (least .fits))
+    go false u = (pick p ts, polynomial-some pick p ts L u)
+
+pub free-tells :
+    (pick : Choice) (p : ℕ) (ts : List ℕ) (answer work : ℕ)
+    → Tells freeNumbers (rateFree pick p ts answer work)
+unfolding rateFree freeTable freeRating
+free-tells pick p ts answer work =
+    settle-tells _ (freeTable p ts answer work)
+    (λ h.
+    let I = inRange-isField p (prime-accepted p (h .fieldExists)) in
+    let (L, e) = leastDegree-some I ts in
+    let (g, q) = free-polynomial pick p ts L I e in
+    (_, bind-some (freeRating pick p ts) e ∙ mapOption-some _ q))
+
+pub free-lent :
+    (pick : Choice) (p : ℕ) (ts : List ℕ) (answer work : ℕ)
+    → Answered (rateFree pick p ts answer work) ⊎ (rateFree pick p ts answer work ≡ refused 17)
+    → (4097 ≤ answer) × (8192 ≤ work)
+unfolding rateFree freeTable
+free-lent pick p ts answer work (inl (a, e)) =
+    lent-enough answer work (settle-answered _ (freeTable p ts answer work) e .0 .lentEnough)
+free-lent pick p ts answer work (inr e) =
+    absurd (true≢false (sym (settle-refused _ (freeTable p ts answer work) (omega arith) e .1)))
+
+-- the answer of the free way with these figures
+pub ratingFree : FreeFigures → FreeRating
+ratingFree x =
+    elim (x .unique) [ true ↦ FreeRating.Unique (x .degree) | false ↦ FreeRating.Several (x .degree) ]
+
+pub ratingFree-told : (x : FreeFigures) → toldFree (ratingFree x) ≡ answered x
+unfolding ratingFree toldFree
+ratingFree-told x = go (x .unique) refl
+  where
+    go : (u : Bool) → x .unique ≡ u → toldFree (ratingFree x) ≡ answered x
+    go true e = rw (e, ratingFree, toldFree)
+    go false e = rw (e, ratingFree, toldFree)
+
+module _ (pick : Choice) (p : ℕ) (ts answer work : List ℕ) (chosen : ChosenFits pick p ts) where
+  abbrev freeResult : Result (Rated FreeFigures)
+  freeResult = rateFree pick p ts (length answer) (length work)
+
+  free-some :
+      (r : FreeRating)
+      × (answer′ : List ℕ)
+      × (work′ : List ℕ)
+      × FreeCall pick p ts answer work r answer′ work′
+  unfolding toldFree figuresOf
+  free-some =
+      let (r, e) =
+      meets toldFree ratingFree FreeRating.Refused ratingFree-told (λ z. refl) freeNumbers free-listed
+      (figuresOf freeResult)
+      (map-tells freeNumbers (λ a. a .figures) freeResult refl
+      (free-tells pick p ts (length answer) (length work))) in (
+        r,
+        answerAfter freeResult answer,
+        workAfter freeResult work,
+        record { rating = e; chosen = chosen; lent = lent-after freeResult answer work },
+      )
+
+  free-sized : Sized (λ a. a .degree) freeResult (length answer) (length work)
+  unfolding figuresOf mapResult
+  free-sized =
+      record {
+        polynomial = λ a e. free-size pick p ts (length answer) (length work) chosen e;
+        small =
+            λ a e.
+            let (r, answer′, work′, c) = free-some in
+            free-promise pick p ts answer work r answer′ work′ c (a .figures) (c .rating ∙ ap figuresOf e)
+            .small;
+        lent = free-lent pick p ts (length answer) (length work);
+      }
+
+pub free-answers : FreeAnswers
+free-answers pick p ts answer work chosen =
+    record {
+      each =
+          λ r answer′ work′ c.
+          rating-answers freeNumbers (λ a. a .degree) (λ a. a) (freeResult pick p ts answer work chosen)
+          (toldFree r) answer work answer′ work′ (c .rating ∙ figures-themselves _)
+          (free-tells pick p ts (length answer) (length work)) (free-sized pick p ts answer work chosen)
+          (c .lent);
+      some = free-some pick p ts answer work chosen;
+      one = λ r s _ _ _ _ c d. free-call-determined c d;
+    }
+
+-- THE CONTINUATION
+continue-listed : Listed continueNumbers
+unfolding Listed refusalOf refusals lookUp holdsForAll isNone
+continue-listed = tt
+
+length-cut : (s : ℕ → ℕ) (k m : ℕ) → length (cut s k m) ≡ m
+unfolding cut
+length-cut s k zero = refl
+length-cut s k (suc m) = ap suc (length-cut s (suc k) m)
+
+-- 7 of a continuation
+place-inside : (size place : ℕ) → placeOutOfRange size place ≡ false → place ≤ size
+unfolding placeOutOfRange
+place-inside size place h =
+    ltb-false size place (or-false (ltb size place) (countOutOfRange (size - place)) h .0)
+
+module _ (p : ℕ) (g : Polynomial) (start buffer : List ℕ) (place : ℕ) where
+  abbrev continued : Result (List ℕ)
+  continued = continueSequence p g start place buffer
+
+  pub continue-told : Tells continueNumbers continued
+  unfolding continueSequence continueTable
+  continue-told = settle-tells _ (continueTable p g start place (length buffer)) (λ _. (_, refl))
+
+  continue-length : (x : Result (List ℕ)) → continued ≡ x → length (bufferAfter x buffer) ≡ length buffer
+  unfolding bufferAfter continueSequence continueTable filled
+  continue-length (refused n) e = refl
+  continue-length (answered after) e =
+      let (h, w) = settle-answered _ (continueTable p g start place (length buffer)) e in
+      let inside = place-inside (length buffer) place (h .countInRange) in
+      ap length (sym (Option·some-injective _ _ w))
+      ∙ length-append (take place buffer) (cut (continuation (GF p) g start) 0 (length buffer - place))
+      ∙ omega (arith, length-take-le place buffer inside, length-cut (continuation (GF p) g start) 0 (length buffer - place))
+
+pub continue-answers : ContinueAnswers
+unfolding toldFilling bufferAfter
+continue-answers p g start buffer place =
+    record {
+      tells =
+          λ r buffer′ c.
+          map-tells continueNumbers (λ _. tt) (continued p g start buffer place) (c .filling)
+          (continue-told p g start buffer place);
+      buffer-kept =
+          λ r buffer′ c n e.
+          let q = map-refused (λ _. tt) (continued p g start buffer place) (sym (c .filling) ∙ e) in
+          c .bufferBytes ∙ ap (λ x. bufferAfter x buffer) q;
+      buffer-length =
+          λ r buffer′ c. ap length (c .bufferBytes) ∙ continue-length p g start buffer place _ refl;
+      some =
+          let (r, e) =
+          meets toldFilling (λ _. Filling.Filled) Filling.Refused (λ a. refl) (λ z. refl) continueNumbers
+          continue-listed (mapResult (λ _. tt) (continued p g start buffer place))
+          (map-tells continueNumbers (λ _. tt) (continued p g start buffer place) refl
+          (continue-told p g start buffer place)) in
+          (r, bufferAfter (continued p g start buffer place) buffer, record { filling = e; bufferBytes = refl });
+      one = λ r s _ _ c d. continue-call-determined c d;
+    }
+
+-- THE TWO QUESTIONS
+irreducible-listed : Listed irreducibleNumbers
+unfolding Listed refusalOf refusals lookUp holdsForAll isNone
+irreducible-listed = tt
+
+said : Bool → Irreducibility
+said true = Irreducibility.Irreducible
+said false = Irreducibility.HasFactors
+
+said-told : (b : Bool) → toldIrreducible (said b) ≡ answered b
+unfolding said toldIrreducible
+said-told true = refl
+said-told false = refl
+
+pub irreducible-tells : (p : ℕ) (f : Polynomial) → Tells irreducibleNumbers (askIrreducible p f)
+unfolding askIrreducible irreducibleTable
+irreducible-tells p f = settle-tells _ (irreducibleTable p f) (λ _. (_, refl))
+
+pub irreducible-answers : IrreducibleAnswers
+unfolding toldIrreducible
+irreducible-answers p f =
+    record {
+      tells = λ r c. subst (Tells irreducibleNumbers) (sym (c .answer)) (irreducible-tells p f);
+      some =
+          let (r, e) =
+          meets toldIrreducible said Irreducibility.Refused said-told (λ z. refl) irreducibleNumbers
+          irreducible-listed (askIrreducible p f) (irreducible-tells p f) in
+          (r, record { answer = e });
+      one = λ r s c d. irreducible-call-determined c d;
+    }
+
+pub prime-answers : PrimeAnswers
+prime-answers n =
+    record {
+      some = (primeInRange n, record { answer = refl });
+      one = λ r s c d. c .answer ∙ sym (d .answer);
+    }
