@@ -4,7 +4,7 @@
 --   …-sized          == its polynomial and its lent bytes have their sizes
 --   …-answers        == the promise
 -- Assumes nothing.
-use Prim.Native.Nat.{ℕ, zero, suc, _-_, _≤_}
+use Prim.Native.Nat.{ℕ, suc, _-_, _≤_}
 use native.Mathlib.Omega.{arith}
 use mathlib.Core.Path.{_≡_, refl, sym, ap, subst, _∙_}
 use mathlib.Core.Logic.{_⊎_, inl, inr}
@@ -51,6 +51,7 @@ use Rattle.bridge.proofs.Interpretation.{IsField, inRange-isField, characterist
 use Rattle.bridge.proofs.Polynomials.{monic-nonempty, degree-length}
 use Rattle.bridge.proofs.Products.{Nonempties, accepted-monic, monics-nonempty, factorsOf-named}
 use Rattle.bridge.proofs.Products.{power-nonempty}
+use Rattle.bridge.proofs.Actions.{length-cut}
 use Rattle.bridge.proofs.Irreducibles.{accepted-factors, factors-monics}
 use Rattle.bridge.proofs.Portions.{portion-found, setPowers-exists}
 use Rattle.bridge.proofs.Fitting.{leastDegree-some, leastDegree-least, polynomial-one, polynomial-some}
@@ -478,11 +479,6 @@ free-answers pick p ts answer work chosen =
 continue-listed : Listed continueNumbers
 unfolding Listed refusalOf refusals lookUp holdsForAll isNone
 continue-listed = tt
-
-length-cut : (s : ℕ → ℕ) (k m : ℕ) → length (cut s k m) ≡ m
-unfolding cut
-length-cut s k zero = refl
-length-cut s k (suc m) = ap suc (length-cut s (suc k) m)
 
 -- 7 of a continuation
 place-inside : (size place : ℕ) → placeOutOfRange size place ≡ false → place ≤ size

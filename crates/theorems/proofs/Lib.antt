@@ -5,3 +5,5 @@ pub mod Instance
 pub mod Examples
 pub mod Telling
 pub mod Answering
+pub mod Files
+pub mod FileAnswers

@@ -1,0 +1,312 @@
+-- Demand 1 for route files, the reader and the program.
+--
+--   read-accepted, read-refused == what the reader finds, by the records of the file
+--   file-tells       == the rating of a file answers, or refuses by a number of its records or of its mode
+--   file-sized       == its polynomial and its lent bytes have their sizes
+-- Assumes nothing.
+use Prim.Native.Nat.{ℕ, zero, suc, _≤_}
+use native.Mathlib.Omega.{arith}
+use mathlib.Core.Path.{_≡_, refl, sym, ap, subst, _∙_}
+use mathlib.Core.Logic.{_⊎_, inl, inr}
+use mathlib.Core.Bool.{Bool, true, false, true≢false}
+use mathlib.Core.List.{List, [], _∷_, map}
+use mathlib.Core.Option.{Option, none, some}
+use lib.ListN.{length, getD}
+use lib.Dec.{T, eqb}
+use Rattle.meaning.specs.declared.FileOutcome.{FileOutcome}
+use Rattle.meaning.specs.declared.FileRating.{FileRating}
+use Rattle.meaning.specs.declared.RecordOutcome.{RecordOutcome}
+use Rattle.meaning.specs.Search.{holdsForAll, holdsForSome, isNone}
+use Rattle.meaning.specs.Result.{Result, Rated, refused, answered, mapResult, figuresOf, answerAfter, workAfter}
+use Rattle.meaning.specs.Free.{Choice, FreeFigures}
+use Rattle.meaning.specs.Route.{RouteRecord, Mode, periodMode, setMode, freeMode, modeOf, byteOf, bodies}
+use Rattle.meaning.specs.Route.{lookUp, records, modeUnsuited, readRecord, endRecord, boxOf}
+use Rattle.meaning.specs.File.{fileFactor, termsOf, Label, powers, unique, several, FileFigures, rateMode}
+use Rattle.meaning.specs.File.{ofPeriod, ofSet, ofFree, rateFile, FileChosenFits}
+use Rattle.meaning.specs.Answers.{toldFile, fileFiguresTold, labelTold, toldRecord, FileTold, filePadded}
+use Rattle.meaning.specs.Answers.{withPowers, withOne, withSome}
+use Rattle.meaning.specs.Calls.{FileCall, bodyAfter}
+use Rattle.meaning.specs.Print.{printed}
+use Rattle.meaning.proofs.Determined.{refusals, refusalOf, file-call-determined, record-call-determined}
+use Rattle.bridge.proofs.Searches.{map-answered, map-refused, never-answered, refused-same}
+use Rattle.bridge.proofs.Records.{records-suited, records-number}
+use Rattle.bridge.proofs.FileRatings.{known-mode, accepted-file, refused-file, file-size, period-map, set-map}
+use Rattle.bridge.proofs.FileRatings.{free-map, pairs-nonempty}
+use Rattle.theorems.specs.Answering.{Answered, OneOf, Tells, modeNumbers, readerNumbers, fileNumbers}
+use Rattle.theorems.specs.Answering.{fileDegree, FileAnswers, RecordAnswers, ProgramAnswers}
+use Rattle.theorems.specs.Files.{RatedBy, freeTold}
+use Rattle.theorems.proofs.Telling.{map-tells, Listed, meets, Sized, lent-after, rating-answers}
+use Rattle.theorems.proofs.Answering.{period-tells, set-tells, free-tells, period-lent, set-lent}
+use Rattle.theorems.proofs.Answering.{free-lent}
+use Rattle.theorems.proofs.Files.{file-promise}
+
+-- THE READER
+reader-number : (n : ℕ) → 1 ≤ n → n ≤ 5 → OneOf n readerNumbers
+unfolding holdsForSome
+reader-number zero l u = absurd (omega arith)
+reader-number (suc zero) l u = tt
+reader-number (suc (suc zero)) l u = tt
+reader-number (suc (suc (suc zero))) l u = tt
+reader-number (suc (suc (suc (suc zero)))) l u = tt
+reader-number (suc (suc (suc (suc (suc zero))))) l u = tt
+reader-number (suc (suc (suc (suc (suc (suc n)))))) l u = absurd (omega arith)
+
+pub records-tells : (file : List ℕ) → Tells readerNumbers (records file)
+records-tells file = go (records file) refl
+  where
+    go : (x : Result (List RouteRecord)) → records file ≡ x → Tells readerNumbers (records file)
+    go (refused n) e = let (l, u) = records-number file e in inr (n, e, reader-number n l u)
+    go (answered rs) e = inl (rs, e)
+
+pub read-accepted :
+    (file : List ℕ) (n : ℕ) {rs : List RouteRecord}
+    → records file ≡ answered rs
+    → readRecord file n ≡ answered (getD rs n endRecord)
+unfolding readRecord
+read-accepted file n e = rw (e, readRecord)
+
+pub read-refused : (file : List ℕ) (n : ℕ) {k : ℕ} → records file ≡ refused k → readRecord file n ≡ refused k
+unfolding readRecord
+read-refused file n e = rw (e, readRecord)
+
+pub read-tells : (file : List ℕ) (n : ℕ) → Tells readerNumbers (readRecord file n)
+read-tells file n = elim (records-tells file) [
+  | inl (rs, e) ↦ inl (getD rs n endRecord, read-accepted file n e)
+  | inr (k, e, h) ↦ inr (k, read-refused file n e, h)
+]
+
+reader-listed : Listed readerNumbers
+unfolding Listed refusalOf refusals lookUp holdsForAll isNone
+reader-listed = tt
+
+pub record-answers : RecordAnswers
+unfolding toldRecord
+record-answers file n =
+    record {
+      tells =
+          λ r body c.
+          map-tells readerNumbers (λ a. a .kind) (readRecord file n) (c .found) (read-tells file n);
+      some =
+          let (r, e) =
+          meets toldRecord RecordOutcome.Found RecordOutcome.Refused (λ a. refl) (λ z. refl) readerNumbers
+          reader-listed (mapResult (λ a. a .kind) (readRecord file n))
+          (map-tells readerNumbers (λ a. a .kind) (readRecord file n) refl (read-tells file n)) in
+          (r, bodyAfter (readRecord file n), record { found = e; part = refl });
+      one = λ r s _ _ c d. record-call-determined c d;
+    }
+
+-- ROUTE FILES
+mode-tells :
+    (pick : Choice) (rs : List RouteRecord) (answer work : ℕ) (m : Mode)
+    → Tells (modeNumbers m)
+    (rateMode pick m (byteOf 2 rs) (map fileFactor (bodies 4 rs)) (termsOf rs) answer work)
+unfolding rateMode
+mode-tells pick rs answer work periodMode =
+    map-tells _ _ _ (period-map (length (termsOf rs)) _)
+    (period-tells (byteOf 2 rs) _ _ _ (termsOf rs) answer work)
+mode-tells pick rs answer work setMode =
+    map-tells _ _ _ (set-map (length (termsOf rs)) _)
+    (set-tells (byteOf 2 rs) _ _ _ (termsOf rs) answer work (λ _. pairs-nonempty (map fileFactor (bodies 4 rs))))
+mode-tells pick rs answer work freeMode =
+    map-tells _ _ _ (free-map (length (termsOf rs)) _)
+    (free-tells pick (byteOf 2 rs) (termsOf rs) answer work)
+
+unknown-unsuited : (rs : List RouteRecord) → modeOf (byteOf 3 rs) ≡ none → modeUnsuited rs ≡ true
+unfolding modeUnsuited
+unknown-unsuited rs e = rw (e, modeUnsuited)
+
+-- a file is refused by its records, or rated by its mode
+by-file :
+    (pick : Choice) (file : List ℕ) (answer work : ℕ) (B : List ℕ → Result (Rated FileFigures) → Type 0)
+    → ((n : ℕ) → OneOf n readerNumbers → B readerNumbers (refused n))
+    → ((rs : List RouteRecord) (m : Mode)
+    → B (modeNumbers m)
+    (rateMode pick m (byteOf 2 rs) (map fileFactor (bodies 4 rs)) (termsOf rs) answer work))
+    → B (fileNumbers (records file)) (rateFile pick file answer work)
+by-file pick file answer work B early way = go (records file) refl
+  where
+    go :
+        (x : Result (List RouteRecord))
+        → records file ≡ x
+        → B (fileNumbers x) (rateFile pick file answer work)
+    go (refused n) e = elim (records-tells file) [
+      | inl (rs, q) ↦ never-answered (sym e ∙ q)
+      | inr (k, q, h) ↦ subst (B readerNumbers) (sym (refused-file pick file answer work q)) (early k h)
+    ]
+    go (answered rs) e = by (modeOf (byteOf 3 rs)) refl
+      where
+        by :
+            (o : Option Mode)
+            → modeOf (byteOf 3 rs) ≡ o
+            → B (elim o [ none ↦ [] | some m ↦ modeNumbers m ]) (rateFile pick file answer work)
+        by none q = absurd (true≢false (sym (unknown-unsuited rs q) ∙ records-suited file e))
+        by (some m) q =
+            subst (B (modeNumbers m))
+            (sym (accepted-file pick file answer work e ∙ known-mode pick rs answer work q))
+            (way rs m)
+
+pub file-tells :
+    (pick : Choice) (file : List ℕ) (answer work : ℕ)
+    → Tells (fileNumbers (records file)) (rateFile pick file answer work)
+file-tells pick file answer work =
+    by-file pick file answer work (λ numbers x. Tells numbers x) (λ n h. inr (n, refl, h))
+    (λ rs m. mode-tells pick rs answer work m)
+
+-- a mode tells what its way answers
+moved :
+    {A B : Type 0} (g : A → B) (x : Result A) (y : Result B)
+    → y ≡ mapResult g x
+    → Answered y ⊎ (y ≡ refused 17)
+    → Answered x ⊎ (x ≡ refused 17)
+moved g x y e (inl (b, q)) = let (a, z, _) = map-answered g x (sym e ∙ q) in inl (a, z)
+moved g x y e (inr q) = inr (map-refused g x (sym e ∙ q))
+
+mode-lent :
+    (pick : Choice) (rs : List RouteRecord) (answer work : ℕ) (m : Mode)
+    → let x = rateMode pick m (byteOf 2 rs) (map fileFactor (bodies 4 rs)) (termsOf rs) answer work in
+    Answered x ⊎ (x ≡ refused 17)
+    → (4097 ≤ answer) × (8192 ≤ work)
+unfolding rateMode
+mode-lent pick rs answer work periodMode h =
+    period-lent (byteOf 2 rs) _ _ _ (termsOf rs) answer work
+    (moved _ _ _ (period-map (length (termsOf rs)) _) h)
+mode-lent pick rs answer work setMode h =
+    set-lent (byteOf 2 rs) _ _ _ (termsOf rs) answer work (moved _ _ _ (set-map (length (termsOf rs)) _) h)
+mode-lent pick rs answer work freeMode h =
+    free-lent pick (byteOf 2 rs) (termsOf rs) answer work (moved _ _ _ (free-map (length (termsOf rs)) _) h)
+
+file-lent :
+    (pick : Choice) (file : List ℕ) (answer work : ℕ)
+    → let x = rateFile pick file answer work in
+    Answered x ⊎ (x ≡ refused 17)
+    → (4097 ≤ answer) × (8192 ≤ work)
+unfolding holdsForSome
+file-lent pick file answer work =
+    by-file pick file answer work
+    (λ numbers x. Answered x ⊎ (x ≡ refused 17) → (4097 ≤ answer) × (8192 ≤ work))
+    (λ n h z. absurd (elim z [
+      | inl (a, e) ↦ never-answered e
+      | inr e ↦ subst (λ k. OneOf k readerNumbers) (refused-same e) h
+    ]))
+    (λ rs m. mode-lent pick rs answer work m)
+
+label-degree : (l : Label) (d m : ℕ) → fileDegree (labelTold l d m) ≡ d
+unfolding labelTold
+label-degree (powers rs) d m = refl
+label-degree unique d m = refl
+label-degree several d m = refl
+
+mode-listed : (m : Mode) → Listed (modeNumbers m)
+unfolding Listed refusalOf refusals lookUp holdsForAll isNone
+mode-listed periodMode = tt
+mode-listed setMode = tt
+mode-listed freeMode = tt
+
+none-listed : Listed []
+unfolding Listed holdsForAll
+none-listed = tt
+
+numbers-listed : (x : Result (List RouteRecord)) → Listed (fileNumbers x)
+numbers-listed (refused n) = reader-listed
+numbers-listed (answered rs) = go (modeOf (byteOf 3 rs))
+  where
+    go : (o : Option Mode) → Listed (elim o [ none ↦ [] | some m ↦ modeNumbers m ])
+    go none = none-listed
+    go (some m) = mode-listed m
+
+outcomeOf : FileTold → FileOutcome
+outcomeOf (withPowers d m n) = FileOutcome.Powers d m n
+outcomeOf (withOne d m) = FileOutcome.Unique d m
+outcomeOf (withSome d m) = FileOutcome.Several d m
+
+outcomeOf-told : (a : FileTold) → toldFile (outcomeOf a) ≡ answered a
+unfolding outcomeOf toldFile
+outcomeOf-told (withPowers d m n) = refl
+outcomeOf-told (withOne d m) = refl
+outcomeOf-told (withSome d m) = refl
+
+free-degree : (x : FreeFigures) (m : ℕ) → fileDegree (freeTold x m) ≡ x .degree
+free-degree x m = go (x .unique) refl
+  where
+    go : (u : Bool) → x .unique ≡ u → fileDegree (freeTold x m) ≡ x .degree
+    go true e = rw e
+    go false e = rw e
+
+module _ (pick : Choice) (file answer work : List ℕ) (chosen : FileChosenFits pick file) where
+  abbrev result : Result (Rated FileFigures)
+  result = rateFile pick file (length answer) (length work)
+
+  file-some :
+      (r : FileRating)
+      × (answer′ : List ℕ)
+      × (work′ : List ℕ)
+      × FileCall pick file answer work r answer′ work′
+  unfolding toldFile figuresOf
+  file-some =
+      let numbers = fileNumbers (records file) in
+      let (o, e) =
+      meets toldFile outcomeOf FileOutcome.Refused outcomeOf-told (λ z. refl) numbers
+      (numbers-listed (records file)) (mapResult fileFiguresTold (figuresOf result))
+      (map-tells numbers fileFiguresTold (figuresOf result) refl
+      (map-tells numbers (λ a. a .figures) result refl
+      (file-tells pick file (length answer) (length work)))) in (
+        record { sender = boxOf file; outcome = o; powers = filePadded (figuresOf result) },
+        answerAfter result answer,
+        workAfter result work,
+        record {
+          sender = refl;
+          rating = e;
+          powers = refl;
+          chosen = chosen;
+          lent = lent-after result answer work;
+        },
+      )
+
+  rated-small :
+      (m : Mode) (rs : List RouteRecord) (a : FileTold) (eight answer′ : List ℕ)
+      → RatedBy m rs a eight answer′
+      → fileDegree a ≤ 4096
+  rated-small periodMode rs a eight answer′ x = subst (λ a. fileDegree a ≤ 4096) (sym (x .tells)) (x .rated .small)
+  rated-small setMode rs a eight answer′ x = subst (λ a. fileDegree a ≤ 4096) (sym (x .tells)) (x .rated .small)
+  rated-small freeMode rs a eight answer′ x =
+      subst (λ a. fileDegree a ≤ 4096) (sym (x .tells))
+      (subst (λ d. d ≤ 4096) (sym (free-degree (x .figures) (length (termsOf rs)))) (x .rated .small))
+
+  file-sized : Sized (λ a. fileDegree (fileFiguresTold a)) result (length answer) (length work)
+  unfolding fileFiguresTold figuresOf mapResult
+  file-sized =
+      record {
+        polynomial =
+            λ a e.
+            file-size pick file (length answer) (length work) chosen e
+            ∙ ap suc (sym (label-degree (a .figures .label) (a .figures .degree) (a .figures .terms)));
+        small =
+            λ a e.
+            let (r, answer′, work′, c) = file-some in
+            let (rs, m, _, x) =
+            file-promise pick file answer work r answer′ work′ c .rated (fileFiguresTold (a .figures))
+            (c .rating ∙ ap (λ x. mapResult fileFiguresTold (figuresOf x)) e) in
+            rated-small m rs (fileFiguresTold (a .figures)) (r .powers) answer′ x;
+        lent = file-lent pick file (length answer) (length work);
+      }
+
+pub file-answers : FileAnswers
+file-answers pick file answer work chosen =
+    record {
+      each =
+          λ r answer′ work′ c.
+          rating-answers _ fileDegree fileFiguresTold (result pick file answer work chosen)
+          (toldFile (r .outcome)) answer work answer′ work′ (c .rating)
+          (file-tells pick file (length answer) (length work)) (file-sized pick file answer work chosen)
+          (c .lent);
+      some = file-some pick file answer work chosen;
+      one = λ r s _ _ _ _ c d. file-call-determined c d;
+    }
+
+-- THE PROGRAM
+pub program-answers : ProgramAnswers
+program-answers pick input chosen =
+    record {
+      some = (printed pick input, record { lines = refl; chosen = chosen });
+      one = λ o o′ c d. c .lines ∙ sym (d .lines);
+    }
