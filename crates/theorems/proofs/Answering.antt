@@ -135,14 +135,16 @@ period-lent p ten eleven f ts answer work (inr e) =
     lent-enough answer work
     (settle-refused _ (periodTable p ten eleven f ts answer work) (omega arith) e .0 .lentEnough)
 
+pub period-told :
+    (p : ℕ) (f : Polynomial) (ts : List ℕ) (answer work : ℕ)
+    → Tells periodNumbers (ratePeriod p f ts answer work)
+unfolding ratePeriod
+period-told p f ts answer work =
+    period-tells p (factorDegreeOutOfRange (GF p) f) (notMonic (GF p) f) f ts answer work
+
 module _ (p : ℕ) (f : Polynomial) (ts answer work : List ℕ) where
   abbrev periodResult : Result (Rated PowerFigures)
   periodResult = ratePeriod p f ts (length answer) (length work)
-
-  period-told : Tells periodNumbers periodResult
-  unfolding ratePeriod
-  period-told =
-      period-tells p (factorDegreeOutOfRange (GF p) f) (notMonic (GF p) f) f ts (length answer) (length work)
 
   period-some :
       (r : PowerRating)
@@ -150,7 +152,9 @@ module _ (p : ℕ) (f : Polynomial) (ts answer work : List ℕ) where
       × (work′ : List ℕ)
       × PeriodCall p f ts answer work r answer′ work′
   period-some =
-      let (r, e) = power-meets periodNumbers period-listed periodResult period-told in (
+      let (r, e) =
+      power-meets periodNumbers period-listed periodResult
+      (period-told p f ts (length answer) (length work)) in (
         r,
         answerAfter periodResult answer,
         workAfter periodResult work,
@@ -185,8 +189,8 @@ period-answers p f ts answer work =
       each =
           λ r answer′ work′ c.
           rating-answers periodNumbers (λ a. a .degree) (λ a. a) (periodResult p f ts answer work) (toldPower r)
-          answer work answer′ work′ (c .rating ∙ figures-themselves _) (period-told p f ts answer work)
-          (period-sized p f ts answer work) (c .lent);
+          answer work answer′ work′ (c .rating ∙ figures-themselves _)
+          (period-told p f ts (length answer) (length work)) (period-sized p f ts answer work) (c .lent);
       some = period-some p f ts answer work;
       one = λ r s _ _ _ _ c d. period-call-determined c d;
     }
@@ -298,18 +302,14 @@ set-lent p ten eleven l ts answer work (inr e) =
     lent-enough answer work
     (settle-refused _ (setTable p ten eleven l ts answer work) (omega arith) e .0 .lentEnough)
 
-module _ (p : ℕ) (fs : List Polynomial) (vs ts answer work : List ℕ) where
-  abbrev setResult : Result (Rated SetFigures)
-  setResult = rateSet p fs vs ts (length answer) (length work)
-
+module _ (p : ℕ) (fs : List Polynomial) (vs ts : List ℕ) (answer work : ℕ) where
   abbrev ten : Bool
   ten = holdsForSome (factorDegreeOutOfRange (GF p)) fs
 
   abbrev eleven : Bool
   eleven = holdsForSome (notMonic (GF p)) fs
 
-  named-nonempties :
-      Passes (setTable p ten eleven (named fs vs) ts (length answer) (length work)) → Nonempties (named fs vs)
+  named-nonempties : Passes (setTable p ten eleven (named fs vs) ts answer work) → Nonempties (named fs vs)
   unfolding setTable
   named-nonempties h =
       let l = named fs vs in
@@ -323,9 +323,28 @@ module _ (p : ℕ) (fs : List Polynomial) (vs ts answer work : List ℕ) where
       (h .irreducible)
       (h .different)))
 
-  set-told : Tells setNumbers setResult
+  pub set-told : Tells setNumbers (rateSet p fs vs ts answer work)
   unfolding rateSet
-  set-told = set-tells p ten eleven (named fs vs) ts (length answer) (length work) named-nonempties
+  set-told = set-tells p ten eleven (named fs vs) ts answer work named-nonempties
+
+  set-whole :
+      (a : Rated SetFigures)
+      → rateSet p fs vs ts answer work ≡ answered a
+      → length (a .polynomial) ≡ suc (setFiguresTold (a .figures) .degree)
+  unfolding rateSet setAnswer setFiguresTold
+  set-whole a e =
+      let (h, _) = settle-answered _ (setTable p ten eleven (named fs vs) ts answer work) e in
+      set-size p ten eleven (named fs vs) ts answer work (named-nonempties h) e
+
+  set-room :
+      Answered (rateSet p fs vs ts answer work) ⊎ (rateSet p fs vs ts answer work ≡ refused 17)
+      → (4097 ≤ answer) × (8192 ≤ work)
+  unfolding rateSet
+  set-room = set-lent p ten eleven (named fs vs) ts answer work
+
+module _ (p : ℕ) (fs : List Polynomial) (vs ts answer work : List ℕ) where
+  abbrev setResult : Result (Rated SetFigures)
+  setResult = rateSet p fs vs ts (length answer) (length work)
 
   set-some :
       (r : SetRating)
@@ -338,7 +357,8 @@ module _ (p : ℕ) (fs : List Polynomial) (vs ts answer work : List ℕ) where
       meets toldSet (λ a. SetOutcome.Rated (a .degree) (a .count)) SetOutcome.Refused (λ a. refl) (λ z. refl)
       setNumbers set-listed (mapResult setFiguresTold (figuresOf setResult))
       (map-tells setNumbers setFiguresTold (figuresOf setResult) refl
-      (map-tells setNumbers (λ a. a .figures) setResult refl set-told)) in (
+      (map-tells setNumbers (λ a. a .figures) setResult refl
+      (set-told p fs vs ts (length answer) (length work)))) in (
         record { outcome = o; powers = setPadded (figuresOf setResult) },
         answerAfter setResult answer,
         workAfter setResult work,
@@ -346,20 +366,16 @@ module _ (p : ℕ) (fs : List Polynomial) (vs ts answer work : List ℕ) where
       )
 
   set-sized : Sized (λ a. setFiguresTold a .degree) setResult (length answer) (length work)
-  unfolding rateSet setAnswer figuresOf mapResult setFiguresTold
+  unfolding figuresOf mapResult
   set-sized =
       record {
-        polynomial =
-            λ a e.
-            let (h, _) =
-            settle-answered _ (setTable p ten eleven (named fs vs) ts (length answer) (length work)) e in
-            set-size p ten eleven (named fs vs) ts (length answer) (length work) (named-nonempties h) e;
+        polynomial = set-whole p fs vs ts (length answer) (length work);
         small =
             λ a e.
             let (r, answer′, work′, c) = set-some in
             set-promise p fs vs ts answer work r answer′ work′ c .rated (setFiguresTold (a .figures))
             (c .rating ∙ ap (λ x. mapResult setFiguresTold (figuresOf x)) e) .small;
-        lent = set-lent p ten eleven (named fs vs) ts (length answer) (length work);
+        lent = set-room p fs vs ts (length answer) (length work);
       }
 
 pub set-answers : SetAnswers
@@ -368,8 +384,8 @@ set-answers p fs vs ts answer work =
       each =
           λ r answer′ work′ c.
           rating-answers setNumbers (λ a. a .degree) setFiguresTold (setResult p fs vs ts answer work)
-          (toldSet (r .outcome)) answer work answer′ work′ (c .rating) (set-told p fs vs ts answer work)
-          (set-sized p fs vs ts answer work) (c .lent);
+          (toldSet (r .outcome)) answer work answer′ work′ (c .rating)
+          (set-told p fs vs ts (length answer) (length work)) (set-sized p fs vs ts answer work) (c .lent);
       some = set-some p fs vs ts answer work;
       one = λ r s _ _ _ _ c d. set-call-determined c d;
     }

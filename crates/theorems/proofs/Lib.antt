@@ -1,9 +1,12 @@
 pub mod Words
 pub mod Ways
 pub mod CutAnywhere
-pub mod Instance
-pub mod Examples
 pub mod Telling
 pub mod Answering
 pub mod Files
 pub mod FileAnswers
+pub mod Program
+pub mod OtherLanguages
+pub mod Promises
+pub mod Instance
+pub mod Examples

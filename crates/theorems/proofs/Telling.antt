@@ -12,15 +12,15 @@ use native.Mathlib.Omega.{arith}
 use native.Mathlib.Decide.{ℕ-discrete}
 use mathlib.Core.Path.{_≡_, refl, sym, ap, subst, _∙_}
 use mathlib.Core.Logic.{_⊎_, inl, inr}
-use mathlib.Core.Bool.{Bool, true, false}
+use mathlib.Core.Bool.{Bool, true, false, not}
 use mathlib.Core.List.{List, [], _∷_, _++_, map}
 use mathlib.Core.Option.{Option, none, some, Option·some-injective, Option·none-ne-some}
 use lib.ListN.{length, take, drop, replicate, length-append, length-drop, length-replicate}
 use lib.Seq.{take-at, drop-at}
-use lib.Dec.{T, eqb, eqb-refl, eqb→eq}
+use lib.Dec.{T, T-not, eqb, eqb-refl, eqb→eq}
 use borrow.Author.Tests.{ne-eqb}
 use Rattle.meaning.specs.declared.Refusal.{Refusal}
-use Rattle.meaning.specs.Search.{holdsForAll, isNone}
+use Rattle.meaning.specs.Search.{holdsForAll, holdsForSome, isNone}
 use Rattle.meaning.specs.Result.{Check, Result, Rated, answered, refused, firstOf, settle, figuresOf, mapResult}
 use Rattle.meaning.specs.Result.{valueOf, answerAfter, workAfter, written, cleared}
 use Rattle.meaning.specs.Answers.{numberOf}
@@ -83,6 +83,10 @@ pub tells-zero :
     → ⊥
 tells-zero numbers x z (inl (a, q)) e = never-answered (sym e ∙ q)
 tells-zero numbers x z (inr (n, q, h)) e = z (subst (λ k. OneOf k numbers) (refused-same (sym q ∙ e)) h)
+
+-- by a test of the list
+pub no-zero : (numbers : List ℕ) → T (not (holdsForSome (eqb 0) numbers)) → ¬ OneOf 0 numbers
+no-zero numbers h = T-not (holdsForSome (eqb 0) numbers) h
 
 -- SOME ANSWER TELLS IT
 
