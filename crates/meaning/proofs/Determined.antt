@@ -12,7 +12,7 @@ use mathlib.Core.Path.{_≡_, refl, sym, ap, _∙_}
 use mathlib.Core.Bool.{Bool, true, false}
 use mathlib.Core.List.{List, [], _∷_}
 use mathlib.Core.Option.{Option, some, Option·none-ne-some}
-use lib.Dec.{eqb}
+use lib.Dec.{T, eqb}
 use borrow.Author.Tests.{eqb-true}
 use Rattle.meaning.specs.declared.Refusal.{Refusal}
 use Rattle.meaning.specs.declared.Irreducibility.{Irreducibility}
@@ -30,7 +30,7 @@ use Rattle.meaning.specs.declared.Refusal.the-variants.{CountOutOfRange,
 use Rattle.meaning.specs.declared.Refusal.the-variants.{DegreeOutOfRange, NotMonic, Reducible}
 use Rattle.meaning.specs.declared.Refusal.the-variants.{EqualFactors, UpperPowers, TooFewTerms}
 use Rattle.meaning.specs.declared.Refusal.the-variants.{LentTooShort, NotAnnihilated}
-use Rattle.meaning.specs.Search.{mapOption}
+use Rattle.meaning.specs.Search.{mapOption, holdsForAll}
 use Rattle.meaning.specs.Route.{lookUp}
 use Rattle.meaning.specs.Result.{Result, refused, answered, Rated}
 use Rattle.meaning.specs.Power.{PowerFigures}
@@ -88,29 +88,31 @@ refusal-number NotAnnihilated = refl
 some-same : {A : Type 0} (a b : A) → some a ≡ some b → a ≡ b
 some-same a b e = cc
 
-abbrev Numbered : List (ℕ × Refusal) → Type 0
-Numbered [] = Unit {0}
-Numbered (e ∷ l) = (numberOf (e .1) ≡ e .0) × Numbered l
+numbered : ℕ × Refusal → Bool
+numbered e = eqb (numberOf (e .1)) (e .0)
 
-looked-up : (l : List (ℕ × Refusal)) (n : ℕ) {x : Refusal} → Numbered l → lookUp n l ≡ some x → numberOf x ≡ n
-unfolding lookUp
+looked-up : (l : List (ℕ × Refusal)) (n : ℕ) {x : Refusal} → T (holdsForAll numbered l) → lookUp n l ≡ some x
+    → numberOf x ≡ n
+unfolding lookUp holdsForAll numbered
 looked-up [] n h e = absurd (Option·none-ne-some _ e)
-looked-up (c ∷ l) n {x} h e = go (looked-up l n (h .1)) (eqb n (c .0)) refl
+looked-up (c ∷ l) n {x} h e = go (looked-up l n) (numbered c) refl (eqb n (c .0)) refl
   where
-    go : (lookUp n l ≡ some x → numberOf x ≡ n) → (b : Bool) → eqb n (c .0) ≡ b → numberOf x ≡ n
-    go rest true q =
+    go : (T (holdsForAll numbered l) → lookUp n l ≡ some x → numberOf x ≡ n)
+        → (t : Bool)
+        → numbered c ≡ t
+        → (b : Bool)
+        → eqb n (c .0) ≡ b
+        → numberOf x ≡ n
+    go rest false t b q = absurd (rw (t, holdsForAll) at h)
+    go rest true t true q =
         let same : c .1 ≡ x = some-same (c .1) x (rw (q, lookUp) at e) in
-        sym (ap numberOf same) ∙ h .0 ∙ sym (eqb-true n (c .0) q)
-    go rest false q = rest (rw (q, lookUp) at e)
+        sym (ap numberOf same) ∙ eqb-true (numberOf (c .1)) (c .0) t ∙ sym (eqb-true n (c .0) q)
+    go rest true t false q = rest (rw (t, holdsForAll) at h) (rw (q, lookUp) at e)
 
 -- and so do numbers
 pub refusal-found : (n : ℕ) {x : Refusal} → refusalOf n ≡ some x → numberOf x ≡ n
-unfolding refusalOf refusals numberOf
-refusal-found n e =
-    looked-up refusals n
-    (refl, (refl, (refl, (refl, (refl, (refl, (refl, (refl, (refl, (refl, (refl, (refl, (refl, (refl, (refl,
-    (refl, (refl, tt)))))))))))))))))
-    e
+unfolding refusalOf refusals holdsForAll numbered numberOf
+refusal-found n e = looked-up refusals n tt e
 
 -- a map that another undoes takes no two things to one
 determined : {A B : Type 0} (f : A → B) (g : B → Option A) → ((a : A) → g (f a) ≡ some a)
