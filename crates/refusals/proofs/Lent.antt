@@ -36,7 +36,8 @@ lent-enough answer work h =
 abbrev pub names : ℕ → List Check → Bool
 names n table = holdsForSome (λ c. eqb (c .0) n) table
 
-first-named : (n m : ℕ) (table : List Check) → names n table ≡ false → firstOf table ≡ some m → eqb m n ≡ false
+first-named : (n m : ℕ) (table : List Check) → names n table ≡ false → firstOf table ≡ some m
+    → eqb m n ≡ false
 first-named n m [] h e = absurd (Option·none-ne-some m (sym (firstOf-none [] tt) ∙ e))
 first-named n m (c ∷ table) h e =
     let (i, k) = none-uncons (λ c. eqb (c .0) n) c table h in go (first-named n m table k) ((c .1) tt) refl i

@@ -37,7 +37,7 @@ use Rattle.bridge.proofs.Fitting.{free-rated, free-answer, leastDegree-least}
 use Rattle.bridge.proofs.Accepted.{prime-accepted}
 use Rattle.route.proofs.framing.Records.{records-suited}
 
-abbrev pub Whole : Rated FileFigures → Type 0
+abbrev Whole : Rated FileFigures → Type 0
 Whole a = length (a .polynomial) ≡ suc (a .figures .degree)
 
 pub never : {A : Type 0} {B : Type 0} {n : ℕ} {a : A} → refused n ≡ answered a → B

@@ -6,7 +6,7 @@
 use Prim.Native.Nat.{ℕ, suc, _+_, _*_, _-_, _≤_, _<_}
 use native.Mathlib.Omega.{arith}
 use mathlib.Core.Path.{_≡_, refl, sym, ap, _∙_}
-use mathlib.Core.Bool.{Bool, false, not, _||_}
+use mathlib.Core.Bool.{false, not, _||_}
 use mathlib.Core.List.{List, [], _∷_, _++_, map, flatten}
 use lib.Dec.{T, ltb, eqb}
 use lib.ListN.{length, getD, take, length-append, length-drop}
@@ -66,24 +66,24 @@ module _ (F : Field) (f : WrittenFactor) (whole : length (f .coefficients) ≡ 3
       let a = or-false (eqb (f .degree) 0 || ltb 32 (f .degree)) _ t in
       ltb-false 32 (f .degree) (or-false (eqb (f .degree) 0) (ltb 32 (f .degree)) (a .0) .1)
 
-  pub polynomial-length : length (polynomialOf f) ≡ f .degree + 1
+  polynomial-length : length (polynomialOf f) ≡ f .degree + 1
   unfolding polynomialOf
   polynomial-length =
       with-one-last (take (f .degree) (f .coefficients))
       ∙ ap (λ (n : ℕ). n + 1)
       (length-take-le (f .degree) (f .coefficients) (omega (arith, degree-limit)))
 
-  pub polynomial-short : length (polynomialOf f) ≤ 33
+  polynomial-short : length (polynomialOf f) ≤ 33
   polynomial-short = omega (arith, degree-limit, polynomial-length)
 
-  pub polynomial-ten : factorDegreeOutOfRange F (polynomialOf f) ≡ false
+  polynomial-ten : factorDegreeOutOfRange F (polynomialOf f) ≡ false
   unfolding fileDegreeOutOfRange
   polynomial-ten =
       let n = polynomial-length in
       let d : length (polynomialOf f) - 1 ≡ f .degree = omega arith in
       sym (list-degree F (polynomialOf f) (λ e. omega arith)) ∙ ap (degreeOutOfRange F) d ∙ ten
 
-  pub polynomial-eleven : IsField F → fileNotMonic F f ≡ false → notMonic F (polynomialOf f) ≡ false
+  polynomial-eleven : IsField F → fileNotMonic F f ≡ false → notMonic F (polynomialOf f) ≡ false
   unfolding fileNotMonic notMonic polynomialOf
   polynomial-eleven I eleven =
       let l = take (f .degree) (f .coefficients) in
