@@ -20,7 +20,7 @@ use Rattle.bridge.proofs.Interpretation.{prime-add, prime-add-product, prime-ad
 use Rattle.arith.specs.Represented.{fieldOf, elementOf, WellFormed}
 use Rattle.arith.specs.declared.field.GaloisField.{GaloisField}
 
-pub field-size : (f : GaloisField) → fieldOf f .size ≡ f .size
+field-size : (f : GaloisField) → fieldOf f .size ≡ f .size
 unfolding fieldOf
 field-size f = prime-size (f .size)
 

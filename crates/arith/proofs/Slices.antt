@@ -92,7 +92,7 @@ module _ (l : List ℕ) (x : ℕ) (t : List ℕ) (n : ℕ) (h : x + n ≤ length
 
 -- Sums, and a + c·b
 module _ (F : Field) where
-  pub drop-plus : (a b : List ℕ) → length b ≤ length a → drop (length b) (plus F a b) ≡ drop (length b) a
+  drop-plus : (a b : List ℕ) → length b ≤ length a → drop (length b) (plus F a b) ≡ drop (length b) a
   unfolding plus
   drop-plus [] [] h = refl
   drop-plus [] (y ∷ b) h = absurd (not-suc-le-zero h)

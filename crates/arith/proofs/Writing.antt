@@ -2,10 +2,13 @@
 --
 --   Writing l x t w i == what it keeps: after i turns l has become w, the first i numbers of t pasted into l
 --                        at x
---   writing-none, writing-more, writing-end == before the first turn, one turn more, after the last turn
+--   writing-none, writing-more == before the first turn, one turn more
 --   writing-read      == a turn reads the number of l in a part that is apart or does not begin before x
 --   front-more, front-read, front-end == the same where x is 0
---   combined-more     == a turn that writes a + c·b, where a and b are parts of l
+--   Combining F l x y c z n w i == what a loop keeps that writes a + c·b, where a is the n numbers of l from
+--                        y on and b those from z on: its first i numbers are written
+--   combining-none, combining-more, combining-end == before the first turn, one turn more, after the last
+--   same-places       == a part and itself
 --   combined-front, combined-end == a turn that writes a + c·b over a, and the last
 --   scaled-front, scaled-end     == a turn that writes c·a over a, and the last
 --
@@ -23,7 +26,7 @@ use Rattle.meaning.specs.Field.{Field}
 use Rattle.meaning.specs.Polynomial.{scale}
 use Rattle.bridge.proofs.Polynomials.{length-scale}
 use Rattle.bridge.proofs.Padding.{getD-scale}
-use Rattle.arith.specs.Slices.{part, combined}
+use Rattle.arith.specs.Slices.{part, combined, combinedWithin, Places}
 use Rattle.arith.proofs.Slices.{length-part, getD-part, getD-paste-before, getD-paste-after}
 use Rattle.arith.proofs.Slices.{length-combined, getD-combined, drop-combined}
 
@@ -38,7 +41,7 @@ writing-none l x t h =
     record { within = omega arith; enough = omega arith; size = refl; pasted = paste-zero l x t }
 
 module _ {l : List ℕ} {x : ℕ} {t w : List ℕ} {i : ℕ} (h : Writing l x t w i) where
-  pub writing-more :
+  writing-more :
       {v : ℕ} → x + i < length l → i < length t → v ≡ getD t i 0 → Writing l x t (set w (x + i) v) (i + 1)
   writing-more {v} c d e =
       record {
@@ -48,10 +51,7 @@ module _ {l : List ℕ} {x : ℕ} {t w : List ℕ} {i : ℕ} (h : Writing l x t 
         pasted = ap (λ m. set m (x + i) v) (h .pasted) ∙ rw (add-one, e) (paste-suc l x t i 0 c d);
       }
 
-  pub writing-end : (n : ℕ) → i ≡ n → w ≡ paste l x t n
-  writing-end n e = h .pasted ∙ ap (paste l x t) e
-
-  pub writing-read : {n : ℕ} (y : ℕ) → (y < x → y + n ≤ x) → i < n → getD w (y + i) 0 ≡ getD l (y + i) 0
+  writing-read : {n : ℕ} (y : ℕ) → (y < x → y + n ≤ x) → i < n → getD w (y + i) 0 ≡ getD l (y + i) 0
   writing-read y a k = ap (λ m. getD m (y + i) 0) (h .pasted) ∙ elim (decLt y x) [
     | yes c ↦ getD-paste-before l x t i (h .within) (h .enough) (y + i) (omega (arith, a c))
     | no c ↦ getD-paste-after l x t i (h .within) (h .enough) (y + i) (omega arith)
@@ -76,31 +76,43 @@ module _ {l t w : List ℕ} {i : ℕ} (h : Writing l 0 t w i) where
       ∙ take-append-drop i t
 
 -- a + c·b for parts a from y on and b from z on of l
-module _ (F : Field) (l : List ℕ) (x y z c n : ℕ) where
-  abbrev target : List ℕ
-  target = combined F (part l y n) c (part l z n)
+pub record Combining (F : Field) (l : List ℕ) (x y c z n : ℕ) (w : List ℕ) (i : ℕ) : Type 0 where
+  pub most : i ≤ n
+  pub written : Writing l x (combined F (part l y n) c (part l z n)) w i
 
-  pub combined-more :
-      {w : List ℕ} {i v : ℕ}
-      → x + n ≤ length l
-      → y + n ≤ length l
-      → z + n ≤ length l
-      → (y < x → y + n ≤ x)
-      → (z < x → z + n ≤ x)
+pub same-places : {l : List ℕ} {x y n : ℕ} → Places l x y n → Places l x x n
+same-places p = record { first = p .first; second = p .first; apart = λ e. omega arith }
+
+pub combining-none : {F : Field} (l : List ℕ) {x y c z n : ℕ} → x ≤ length l → Combining F l x y c z n l 0
+combining-none l {x} h = record { most = omega arith; written = writing-none l x _ h }
+
+module _ {F : Field} {l : List ℕ} {x y c z n : ℕ} {w : List ℕ} {i : ℕ} (h : Combining F l x y c z n w i) where
+  pub combining-more :
+      {v : ℕ}
+      → Places l x y n
+      → Places l x z n
       → i < n
-      → Writing l x target w i
       → v ≡ (F .add) (getD w (y + i) 0) ((F .mul) c (getD w (z + i) 0))
-      → Writing l x target (set w (x + i) v) (i + 1)
-  combined-more {w} {i} {v} hx hy hz ay az k h e =
-      let a : length (part l y n) ≡ n = length-part l y n hy in
-      let b : length (part l z n) ≡ n = length-part l z n hz in
-      let q : length target ≡ n = length-combined F (part l y n) c (part l z n) (omega arith) ∙ a in
-      writing-more h (omega arith) (omega arith)
-      (e
-      ∙ ap₂ (λ a b. (F .add) a ((F .mul) c b))
-      (writing-read h y ay k ∙ sym (getD-part l y n i k))
-      (writing-read h z az k ∙ sym (getD-part l z n i k))
-      ∙ sym (getD-combined F (part l y n) c (part l z n) i (omega arith) (omega arith)))
+      → Combining F l x y c z n (set w (x + i) v) (i + 1)
+  combining-more p q k e =
+      let a : length (part l y n) ≡ n = length-part l y n (p .second) in
+      let b : length (part l z n) ≡ n = length-part l z n (q .second) in
+      let t = length-combined F (part l y n) c (part l z n) (omega arith) in
+      record {
+        most = omega arith;
+        written =
+            writing-more (h .written) (omega (arith, p .first)) (omega arith)
+            (e
+            ∙ ap₂ (λ a b. (F .add) a ((F .mul) c b))
+            (writing-read (h .written) y (p .apart) k ∙ sym (getD-part l y n i k))
+            (writing-read (h .written) z (q .apart) k ∙ sym (getD-part l z n i k))
+            ∙ sym (getD-combined F (part l y n) c (part l z n) i (omega arith) (omega arith)));
+      }
+
+  pub combining-end : n ≤ i → w ≡ combinedWithin F l x y c z n
+  combining-end k =
+      let e : i ≡ n = omega (arith, h .most) in
+      h .written .pasted ∙ ap (paste l x (combined F (part l y n) c (part l z n))) e
 
 -- a + c·b over a, and c·a over a
 module _ (F : Field) (a : List ℕ) (c : ℕ) {w : List ℕ} {i : ℕ} where

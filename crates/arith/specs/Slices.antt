@@ -5,8 +5,10 @@
 --   Places l x y n    == the n numbers from x on and the n numbers from y on are in l, and whoever writes the
 --                        first ones from the front has written none of the second ones that he has yet to
 --                        read: the two parts are apart, or the second does not begin before the first
+--   combinedWithin F l x y c z n == l with a + c·b in the n places from x on, where a is the n numbers from y
+--                        on and b those from z on
 --   addedWithin F l x c y n      == l with a + c·b in the place of a, where a is the n numbers from x on and
---                          b is those from y on
+--                        b those from y on
 --   multipliedWithin F l x c y n == l with b + c·a in the place of a
 use Prim.Native.Nat.{ℕ, _+_, _≤_, _<_}
 use mathlib.Core.List.{List}
@@ -26,8 +28,11 @@ pub record Places (l : List ℕ) (x y n : ℕ) : Type 0 where
   pub second : y + n ≤ length l
   pub apart : y < x → y + n ≤ x
 
+abbrev pub combinedWithin : Field → List ℕ → ℕ → ℕ → ℕ → ℕ → ℕ → List ℕ
+combinedWithin F l x y c z n = paste l x (combined F (part l y n) c (part l z n)) n
+
 abbrev pub addedWithin : Field → List ℕ → ℕ → ℕ → ℕ → ℕ → List ℕ
-addedWithin F l x c y n = paste l x (combined F (part l x n) c (part l y n)) n
+addedWithin F l x c y n = combinedWithin F l x x c y n
 
 abbrev pub multipliedWithin : Field → List ℕ → ℕ → ℕ → ℕ → ℕ → List ℕ
-multipliedWithin F l x c y n = paste l x (combined F (part l y n) c (part l x n)) n
+multipliedWithin F l x c y n = combinedWithin F l x y c x n

@@ -42,7 +42,7 @@ use Rattle.bridge.proofs.Fitting.{free-rated, free-answer, leastDegree-
 use Rattle.bridge.proofs.Accepted.{prime-accepted}
 use Rattle.bridge.proofs.Records.{records-suited}
 
-abbrev pub Whole : Rated FileFigures → Type 0
+abbrev Whole : Rated FileFigures → Type 0
 Whole a = length (a .polynomial) ≡ suc (a .figures .degree)
 
 -- THE POLYNOMIALS OF A FILE ARE NOT EMPTY

@@ -1,6 +1,6 @@
-// The conditions over all factors of a set, each a list of coefficients, with their upper powers: one
-// function each, for any slices of any length; no lent byte is changed. A factor without an upper power has
-// 0, and further upper powers belong to no factor.
+// The conditions over all factors of a set: those that are asked of each factor, by their names, and those on
+// all of them together with their upper powers. For any slices of any length; no lent byte is changed. A
+// factor without an upper power has 0, and further upper powers belong to no factor.
 use crate::files::file_degree_out_of_range;
 use crate::files::file_not_monic;
 use crate::lists::factor_degree_out_of_range;
@@ -18,21 +18,22 @@ ghost use Rattle.meaning.specs.Conditions.{named, twoEqual, upperPowersOutOfRan
 ghost use Rattle.meaning.specs.Slices.{listsOf};
 ghost use Rattle.conditions.specs.factors.Factors.{holdsOf};
 
-// A condition that is asked of one factor: of its coefficients, or of the body of its record in a file.
+// A condition that is asked of one factor: of the list of its coefficients, or of the body of its record in a
+// file.
 pub enum FactorCondition {
-    // 10
+    // 10, of a list
     DegreeOutOfRange,
-    // 11
+    // 11, of a list
     NotMonic,
-    // 12
+    // 12, of a list
     Reducible,
-    // 10, of a record
+    // 10, of a body
     FileDegreeOutOfRange,
-    // 11, of a record
+    // 11, of a body
     FileNotMonic,
 }
 
-// 10, 11 or 12, of one factor.
+// The condition holds of this factor.
 pub fn holds(condition: FactorCondition, p: u64, factor: &[u8]) -> bool
     ensures { λ r. ⌜ r ≡ holdsOf condition p (now (factor .entry)) ⌝ }
 {
@@ -45,7 +46,7 @@ pub fn holds(condition: FactorCondition, p: u64, factor: &[u8]) -> bool
     }
 }
 
-// 10, 11 or 12: the condition holds of a factor.
+// The condition holds of some factor.
 pub fn holds_for_some(condition: FactorCondition, p: u64, factors: &[&[u8]]) -> bool
     ensures { λ r. ⌜ r ≡ holdsForSome (holdsOf condition p) (listsOf (now (factors .entry))) ⌝ }
 {

@@ -3,7 +3,7 @@
 --   put-paste         == a lent part that comes back is pasted in its place
 --   lent-length       == a part that is lent
 --   zeros-length, zeros-lent == zeros that are lent from the front
---   zeros-front       == what came back for them, lent again
+--   zeros-front, zeros-enough == what came back for them, lent again
 --   cleared-part      == the work bytes after their first 8,192 were lent on and came back as zeros
 --
 -- Assumes nothing.

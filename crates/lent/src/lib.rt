@@ -1,4 +1,5 @@
-// What is shared by all who work in lent bytes: zeros in a part of them, and the smaller of two sizes.
+// What is shared by all who work in lent bytes: zeros in a part of them, the smaller of two sizes, the two
+// halves of the work bytes, and a block of an action.
 pub mod blocks;
 pub mod halves;
 

@@ -18,7 +18,7 @@ ghost use Rattle.refusals.specs.Verdicts.{numberIn};
 ghost use Rattle.rate_file.specs.factors.Written.{bodiesIn, factorsIn, polynomialsIn};
 ghost use Rattle.rate_file.specs.factors.Written.{writtenTable, Packed};
 
-// 10 or 11: the condition holds of the record of a factor.
+// The condition holds of the record of some factor.
 fn holds_for_some_record(condition: FactorCondition, p: u64, file: &[u8], count: usize) -> bool
     requires { ⌜ count ≡ length (bodiesIn (now file)) ⌝ }
     ensures { λ r. ⌜ r ≡ holdsForSome (holdsOf condition p) (bodiesIn (now (file .entry))) ⌝ }

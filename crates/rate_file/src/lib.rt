@@ -1,9 +1,9 @@
 // The rating of a route file: its verdict, and then the rating of what it holds. It answers for every file of
 // any length.
-pub mod factors;
-pub mod modes;
-pub mod outcomes;
-pub mod records;
+mod factors;
+mod modes;
+mod outcomes;
+mod records;
 
 use crate::outcomes::of_refusal;
 use crate::records::rate_records;

@@ -21,7 +21,8 @@ use Rattle.meaning.specs.Result.{answerAfter, workAfter}
 use Rattle.meaning.specs.Conditions.{lentTooShort}
 use Rattle.meaning.specs.Answers.{numberOf}
 use Rattle.meaning.specs.Calls.{LentAfter}
-use Rattle.meaning.proofs.Tables.{firstOf-none, firstOf-skip, firstOf-stop}
+use Rattle.meaning.proofs.Tables.{firstOf-skip, firstOf-stop}
+use Rattle.meaning.proofs.Passes.{nothing}
 use Rattle.bridge.proofs.Searches.{or-false, none-uncons}
 use Rattle.refusals.specs.declared.Verdict.{Verdict}
 use Rattle.refusals.specs.Verdicts.{numberIn}
@@ -35,8 +36,9 @@ lent-enough answer work h =
 abbrev pub names : ℕ → List Check → Bool
 names n table = holdsForSome (λ c. eqb (c .0) n) table
 
-first-named : (n m : ℕ) (table : List Check) → names n table ≡ false → firstOf table ≡ some m → eqb m n ≡ false
-first-named n m [] h e = absurd (Option·none-ne-some m (sym (firstOf-none [] tt) ∙ e))
+first-named : (n m : ℕ) (table : List Check) → names n table ≡ false → firstOf table ≡ some m
+    → eqb m n ≡ false
+first-named n m [] h e = absurd (Option·none-ne-some m (sym (nothing .noneHolds) ∙ e))
 first-named n m (c ∷ table) h e =
     let (i, k) = none-uncons (λ c. eqb (c .0) n) c table h in go (first-named n m table k) ((c .1) tt) refl i
   where

@@ -10,7 +10,8 @@ use mathlib.Core.Option.{Option, none, some}
 use lib.ListN.{drop}
 use Rattle.meaning.specs.declared.Refusal.{Refusal}
 use Rattle.meaning.specs.Result.{Check, firstOf}
-use Rattle.meaning.proofs.Tables.{firstOf-none, firstOf-skip, firstOf-stop}
+use Rattle.meaning.proofs.Tables.{firstOf-skip, firstOf-stop}
+use Rattle.meaning.proofs.Passes.{nothing}
 use Rattle.refusals.specs.declared.Verdict.{Verdict}
 use Rattle.refusals.specs.Verdicts.{numberIn}
 
@@ -18,7 +19,7 @@ abbrev pub Passed : ℕ → List Check → Type 0
 Passed k table = firstOf table ≡ firstOf (drop k table)
 
 pub first-nowhere : none ≡ firstOf []
-first-nowhere = sym (firstOf-none [] tt)
+first-nowhere = sym (nothing .noneHolds)
 
 -- A test b of the next condition: it holds, or the rest decides.
 module _ (c : Check) (table : List Check) {b : Bool} (e : b ≡ (c .1) tt) where
@@ -34,7 +35,7 @@ otherwise none y = y
 otherwise (some n) y = some n
 
 first-append : (A B : List Check) → firstOf (A ++ B) ≡ otherwise (firstOf A) (firstOf B)
-first-append [] B = rw (firstOf-none [] tt)
+first-append [] B = rw (nothing .noneHolds)
 first-append (c ∷ A) B = go (first-append A B) ((c .1) tt) refl
   where
     go :

@@ -4,6 +4,7 @@
 --   termsTable p ts    == the refusals 6, 7 and 8, with which every way of rating begins
 --   oneFactorTable p f    == the refusals 10, 11 and 12 of one factor
 --   factorsTable p fs  == the refusals 9 to 13 of several factors
+--   lentTable answer work == the refusal 16
 --   powersTable l ts answer work == the refusals 14, 15 and 16, for factors with their upper powers
 --   allButLast table   == the table without its last condition
 --   periodChecks, portionChecks, setChecks == the tables of the three ways without 17
@@ -47,12 +48,14 @@ factorsTable p fs =
     ∷ (13, λ _. twoEqual fs)
     ∷ []
 
+unfoldable pub lentTable : ℕ → ℕ → List Check
+lentTable answer work = (16, λ _. lentTooShort answer work) ∷ []
+
 unfoldable pub powersTable : List (Polynomial × ℕ) → List ℕ → ℕ → ℕ → List Check
 powersTable l ts answer work =
     (14, λ _. upperPowersOutOfRange l)
     ∷ (15, λ _. fewerTermsThan (totalDegree l) ts)
-    ∷ (16, λ _. lentTooShort answer work)
-    ∷ []
+    ∷ lentTable answer work
 
 unfoldable pub allButLast : {A : Type 0} → List A → List A
 allButLast [] = []

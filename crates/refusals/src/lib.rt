@@ -1,6 +1,6 @@
 // The conditions of the numbered list of refusals in their order, one function for each call: the first that
 // holds, up to 16. Each answers for any numbers and slices of any length, and changes no lent byte.
-pub mod factors;
+mod factors;
 pub mod numbering;
 pub mod ratings;
 
@@ -19,7 +19,7 @@ ghost use Rattle.meaning.specs.Result.{firstOf};
 ghost use Rattle.meaning.specs.Free.{freeTable};
 ghost use Rattle.meaning.specs.Continuation.{continueTable};
 ghost use Rattle.meaning.specs.Irreducibility.{irreducibleTable};
-ghost use Rattle.refusals.specs.Verdicts.{numberIn, termsTable};
+ghost use Rattle.refusals.specs.Verdicts.{numberIn, termsTable, lentTable};
 
 // Whether a call is turned down, and why.
 pub enum Verdict {
@@ -43,19 +43,23 @@ pub fn terms_verdict(p: u64, terms: &[u8]) -> Verdict
     Verdict::Accepted
 }
 
+// 16: what all ways of rating meet last, 17 apart.
+fn lent_verdict(answer: usize, work: usize) -> Verdict
+    ensures { λ r. ⌜ numberIn r ≡ firstOf (lentTable answer work) ⌝ }
+{
+    if lent_too_short(answer, work) {
+        return Verdict::Refused(Refusal::LentTooShort);
+    }
+    Verdict::Accepted
+}
+
 // The free way: 6, 7, 8, 16.
 pub fn free_verdict(p: u64, terms: &[u8], answer: usize, work: usize) -> Verdict
     ensures { λ r. ⌜ numberIn r ≡ firstOf (freeTable p (now (terms .entry)) answer work) ⌝ }
 {
     match terms_verdict(p, terms) {
         Verdict::Refused(r) => Verdict::Refused(r),
-        Verdict::Accepted => {
-            if lent_too_short(answer, work) {
-                Verdict::Refused(Refusal::LentTooShort)
-            } else {
-                Verdict::Accepted
-            }
-        }
+        Verdict::Accepted => lent_verdict(answer, work),
     }
 }
 

@@ -2,10 +2,10 @@
 use crate::Verdict;
 use crate::factors::factor_verdict;
 use crate::factors::factors_verdict;
+use crate::lent_verdict;
 use crate::terms_verdict;
 use conditions::factors::upper_powers_out_of_range;
 use conditions::lists::fewer_terms_than;
-use conditions::numbers::lent_too_short;
 use meaning::Refusal;
 use poly::factors::total_degree;
 ghost use mathlib.Core.Path.{_≡_};
@@ -33,10 +33,7 @@ fn powers_verdict(
     if fewer_terms_than(total_degree(factors, uppers), terms) {
         return Verdict::Refused(Refusal::TooFewTerms);
     }
-    if lent_too_short(answer, work) {
-        return Verdict::Refused(Refusal::LentTooShort);
-    }
-    Verdict::Accepted
+    lent_verdict(answer, work)
 }
 
 // The period way: 6, 7, 8, 10, 11, 12, 16.
@@ -48,13 +45,7 @@ pub fn period_verdict(p: u64, factor: &[u8], terms: &[u8], answer: usize, work: 
         Verdict::Refused(r) => Verdict::Refused(r),
         Verdict::Accepted => match factor_verdict(p, factor) {
             Verdict::Refused(r) => Verdict::Refused(r),
-            Verdict::Accepted => {
-                if lent_too_short(answer, work) {
-                    Verdict::Refused(Refusal::LentTooShort)
-                } else {
-                    Verdict::Accepted
-                }
-            }
+            Verdict::Accepted => lent_verdict(answer, work),
         },
     }
 }

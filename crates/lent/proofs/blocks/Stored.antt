@@ -1,14 +1,13 @@
 -- The numbers of a list that are lent as a period, and the block of an action that comes back.
 --
---   block-acted       == the block is pasted in its place
+--   block-acted       == the block is pasted in its place, and the stride may have been reduced
 --
 -- Assumes nothing.
 use Prim.Native.Nat.{ℕ, _+_, _-_, _%_}
-use mathlib.Core.Path.{_≡_, refl, sym, ap, _∙_}
+use mathlib.Core.Path.{_≡_, refl, ap, subst, _∙_}
 use mathlib.Core.Bool.{Bool}
 use mathlib.Core.List.{List}
 use native.Mathlib.Nat.{mod-mod, add-sub-cancel-left}
-use native.Mathlib.Omega.{arith}
 use lib.ListN.{length}
 use lib.Seq.{paste}
 use borrow.Rule.Slice.PartMut.{putMid}
@@ -30,16 +29,17 @@ module _ {w : List ℕ} {from n i to m : ℕ} (b : Block w from n i to m) where
   lent-period : part w from (from + n - from) ≡ ts
   lent-period = ap (part w from) (add-sub-cancel-left from n)
 
-  -- the stride may be reduced
-  reduced : (F : Field) (f : Polynomial) (q : ℕ) → blockOnPeriod F f (q % n) ts i m ≡ blockOnPeriod F f q ts i m
+  reduced :
+      (F : Field) (f : Polynomial) (q : ℕ)
+      → blockOnPeriod F f (q % n) ts i m ≡ blockOnPeriod F f q ts i m
   reduced F f q =
       cut-equal (actStride F f (q % n) (periodic ts)) (actStride F f q (periodic ts)) i i m
       (λ j _. stride-congruent F f ts (q % n) q (i + j) (i + j) same refl)
     where
       same : q % n % length ts ≡ q % length ts
       same =
-          let e = length-part w from n (b .period) in
-          ap (λ k. q % n % k) e ∙ mod-mod q n ∙ ap (λ k. q % k) (sym e)
+          subst (λ k. q % k % length ts ≡ q % length ts) (length-part w from n (b .period))
+          (mod-mod q (length ts))
 
   pub block-acted :
       (F : Field) (f : Polynomial) (q : ℕ) {k : ℕ} {v y : List ℕ} {r : Bool}

@@ -26,7 +26,7 @@ use Rattle.arith.proofs.Slices.{length-part}
 use Rattle.lent.specs.halves.Halves.{half, Halves, Placed, Acted}
 use Rattle.lent.specs.halves.Kept.{Kept}
 
-pub take-min : (a b : ℕ) (l : List ℕ) → take b (take a l) ≡ take (min a b) l
+take-min : (a b : ℕ) (l : List ℕ) → take b (take a l) ≡ take (min a b) l
 take-min a b l = elim (decLe b a) [
   | yes h ↦ take-take b a l h ∙ ap (λ n. take n l) (sym (ℕ.min-eq-right h))
   | no h ↦
@@ -71,7 +71,7 @@ placed-same {w} {h} {k} {values} {w′} n l x =
 -- An action with a stride
 module _ (F : Field) (f : Polynomial) (q : ℕ) {w : List ℕ} {h n : ℕ} {w′ : List ℕ} {r : Bool}
     (halves : Halves w h n) (x : Acted w h (strideOnKnown F f q (half w h n)) w′ r) where
-  pub acted-length : length (strideOnKnown F f q (half w h n)) ≡ n - q * degree f
+  acted-length : length (strideOnKnown F f q (half w h n)) ≡ n - q * degree f
   acted-length =
       length-strideOnKnown F f q (half w h n) ∙ ap (λ m. m - q * degree f) (half-length halves)
 

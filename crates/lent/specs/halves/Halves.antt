@@ -4,8 +4,8 @@
 --   half w h n        == the first n bytes of half h, 0 or 1, of the work bytes w
 --   Halves w h n      == w has two halves of 4,096 bytes, h is one of them, and n terms fit in it
 --   Strided f q       == the polynomial f is not empty, and it and the stride q are small: no number wraps
---   Placed w h k v w′ == w has become w′: half h begins with the numbers v, half k is as it was, and so are all
---                        bytes beyond the two halves, and the length
+--   Placed w h k v w′ == w has become w′: half h begins with the numbers v, half k is as it was, and so are
+--                        all bytes beyond the two halves, and the length
 --   Acted w h v w′ r  == the values v were placed in the half other than h, which is as it was, and r says
 --                        whether they are all 0
 use Prim.Native.Nat.{ℕ, _*_, _-_, _≤_, _<_}

@@ -1,6 +1,6 @@
 -- The laws of `convolved`, the coefficients of a product with f(x^q).
 --
---   convolved-nil, -cons, -below == its equations, and that it is an element of the field
+--   convolved-below   == it is an element of the field
 --   convolved-local   == it looks at no place above k
 --   convolved-stride  == it is an action with a stride, on what stands at these places
 --
@@ -16,15 +16,6 @@ use Rattle.meaning.specs.Sequence.{Sequence}
 use Rattle.bridge.proofs.Interpretation.{IsField, size-positive, add-below}
 use Rattle.bridge.proofs.Actions.{actStride, actStride-nil, actStride-cons}
 use Rattle.poly.specs.convolution.Convolution.{convolved}
-
-pub convolved-nil : (F : Field) (q : ℕ) (s : Sequence) (k : ℕ) → convolved F [] q s k ≡ 0
-unfolding convolved
-convolved-nil F q s k = refl
-
-pub convolved-cons : (F : Field) (c : ℕ) (f : List ℕ) (q : ℕ) (s : Sequence) (k : ℕ)
-    → convolved F (c ∷ f) q s k ≡ (F .add) ((F .mul) c (s k)) (convolved F f q s (k - q))
-unfolding convolved
-convolved-cons F c f q s k = refl
 
 pub convolved-local : (F : Field) (f : List ℕ) (q : ℕ) (s t : Sequence) (k : ℕ)
     → ((j : ℕ) → j ≤ k → s j ≡ t j)

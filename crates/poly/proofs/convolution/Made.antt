@@ -50,7 +50,8 @@ module _ (F : Field) (f : List ℕ) (q : ℕ) (w₀ : List ℕ) where
       abbrev t : Sequence
       t = convolved F f q (known w)
 
-      module _ {w′ : List ℕ} {r : Bool} (a : BlockActed F w 0 (at + left) (at + k) f (at + left - q % (at + left)) (to + k) h w′ r) where
+      module _ {w′ : List ℕ} {r : Bool} {n : ℕ} (o : n ≡ at + left)
+          (a : BlockActed F w 0 n (at + k) f (n - q % n) (to + k) h w′ r) where
         made : Between w (to + k) h t (at + k) w′
         made =
             subst (Between w (to + k) h t (at + k)) (sym (acted-convolved below (omega arith) a))

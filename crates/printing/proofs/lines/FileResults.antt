@@ -98,7 +98,7 @@ module _
         ∙ outcome-result l d m (a .polynomial) answer
         (file-size pick file (length answer) (length work) (c .chosen) e)
 
-    pub told-result :
+    told-result :
         ratedResult (r .outcome) (r .powers) answer′ ≡ rateFile pick file (length answer) (length work)
     unfolding result
     told-result = go result refl

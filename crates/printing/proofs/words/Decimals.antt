@@ -43,7 +43,7 @@ pub decimal-digit : (n : ℕ) → n < 10 → decimal n ≡ (48 + n) ∷ []
 unfolding decimal
 decimal-digit n l = digits-digit n n l
 
-pub decimal-more : (n : ℕ) → 10 ≤ n → decimal n ≡ decimal (n / 10) ++ ((48 + n % 10) ∷ [])
+decimal-more : (n : ℕ) → 10 ≤ n → decimal n ≡ decimal (n / 10) ++ ((48 + n % 10) ∷ [])
 unfolding decimal
 decimal-more n l =
     digits-more n n l
@@ -53,7 +53,7 @@ decimal-more n l =
 pub length-more : (n : ℕ) → 10 ≤ n → length (decimal n) ≡ length (decimal (n / 10)) + 1
 length-more n l = ap length (decimal-more n l) ∙ length-append (decimal (n / 10)) ((48 + n % 10) ∷ [])
 
-pub length-decimal : (k n : ℕ) → n < 10 ^ suc k → length (decimal n) ≤ suc k
+length-decimal : (k n : ℕ) → n < 10 ^ suc k → length (decimal n) ≤ suc k
 length-decimal zero n h = omega (arith, ap length (decimal-digit n (omega arith)))
 length-decimal (suc k) n h = elim (decLe 10 n) [
   | yes l ↦

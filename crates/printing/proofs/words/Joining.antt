@@ -38,7 +38,7 @@ numbers-more ns i l =
     ∙ ap (map decimal) (take-suc ns i 0 l)
     ∙ map-append decimal (take i ns) (getD ns i 0 ∷ [])
 
-pub led-numbers :
+led-numbers :
     (sep ns : List ℕ) (i : ℕ)
     → i < length ns
     → led sep (map decimal (take (i + 1) ns))

@@ -27,6 +27,7 @@ use Rattle.meaning.specs.Route.{Mode, periodMode, setMode, freeMode}
 use Rattle.meaning.specs.File.{WrittenFactor, polynomialOf, fileDegreeOutOfRange, fileNotMonic}
 use Rattle.meaning.specs.File.{ofPeriod, ofSet, ofFree, rateMode}
 use Rattle.meaning.specs.Answers.{numberOf}
+use Rattle.meaning.proofs.Passes.{Passes}
 use Rattle.bridge.proofs.Accepted.{prime-accepted}
 use Rattle.bridge.proofs.Interpretation.{IsField, inRange-isField}
 use Rattle.bridge.proofs.WrittenFactors.{AllFull, period-lists, set-lists}
@@ -135,21 +136,21 @@ module _ (p : ℕ) (fs : List WrittenFactor) (ts : List ℕ) (answer work : ℕ)
 
         -- the factors are accepted too
         module _ (q : v ≡ Verdict.Accepted) (full : AllFull fs) where
-          passed : (ten ≡ false) × (eleven ≡ false)
-          unfolding writtenTable
-          passed = let h = verdict-passes (writtenTable p fs) ev q in (h .degreesInRange, h .monic)
+          passes : Passes (writtenTable p fs)
+          passes = verdict-passes (writtenTable p fs) ev q
 
           pub period-way : (pick : Choice) → 1 ≤ length fs
               → rateMode pick periodMode p fs ts answer work
               ≡ ofPeriod (length ts) (ratePeriod p first ts answer work)
-          unfolding rateMode
+          unfolding rateMode writtenTable
           period-way pick low =
               ap (ofPeriod (length ts))
-              (period-lists p fs full fieldExists (passed .0) (passed .1) ts answer work low)
+              (period-lists p fs full fieldExists (passes .degreesInRange) (passes .monic) ts answer work low)
 
           pub set-way : (pick : Choice)
               → rateMode pick setMode p fs ts answer work
               ≡ ofSet (length ts) (rateSet p (map polynomialOf fs) (map (λ f. f .upper) fs) ts answer work)
-          unfolding rateMode
+          unfolding rateMode writtenTable
           set-way pick =
-              ap (ofSet (length ts)) (set-lists p fs full fieldExists (passed .0) (passed .1) ts answer work)
+              ap (ofSet (length ts))
+              (set-lists p fs full fieldExists (passes .degreesInRange) (passes .monic) ts answer work)

@@ -10,7 +10,10 @@ use Rattle.conditions.specs.factors.Factors.{holdsOf}
 use Rattle.conditions.proofs.factors.holds.Statement.{statement}
 use Rattle.conditions.proofs.factors.holds.Tie as tie
 
-named : (p : ℕ) (l : List ℕ) {c d : FactorCondition} {r : Bool} → c ≡ d → r ≡ holdsOf d p l → r ≡ holdsOf c p l
+named : (p : ℕ) (l : List ℕ) {c d : FactorCondition} {r : Bool}
+    → c ≡ d
+    → r ≡ holdsOf d p l
+    → r ≡ holdsOf c p l
 named p l e h = h ∙ ap (λ (k : FactorCondition). holdsOf k p l) (sym e)
 
 enum-told : tie.Need-enum-told

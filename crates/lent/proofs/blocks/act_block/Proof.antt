@@ -92,16 +92,18 @@ same-length c = search needs
 
 returns : tie.Need-returns
 returns c =
-    let u = c .before .before .before .before .before .before .before .sum-up in
-    let b = c .before .before .before .before .before .before .before .before .before .before .before .before .before in
+    let s = c .before .before .before .before .before .before .before in
+    let u = s .sum-up in
+    let b = s .before .before .before .before .before .before in
     let a = b .args in
     let p = b .pre .1 in
-    let s = c .before .before .store .ensures in
+    let e = c .before .before .store .ensures in
     block-acted p (fieldOf (a .field)) (now (a .f)) (a .q)
-    (s .values ∙ ap (elementsOf (a .field)) (zeros-front (a .m) 256 (p .small) (u .last .1 .0) (u .kept .1 .0)))
+    (e .values
+    ∙ ap (elementsOf (a .field)) (zeros-front (a .m) 256 (p .small) (u .last .1 .0) (u .kept .1 .0)))
     (u .ensures)
     (zeros-length (a .m) 256 (p .small))
-    (s .zero)
+    (e .zero)
 
 pub act-block-spec : {M : Type 1} → statement M
 act-block-spec =

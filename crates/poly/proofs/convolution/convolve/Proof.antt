@@ -1,6 +1,7 @@
 -- `convolution::convolve` meets its contract. The invariant: the places after the first `left` are made, and
 -- all others as they were. The measure is `left`. Assumes nothing.
 use Prim.Native.Nat.{_+_, _-_, _≤_}
+use mathlib.Core.Path.{refl}
 use native.Mathlib.Nat.{mod-lt}
 use native.Mathlib.Omega.{arith}
 use denote.Ref.{now}
@@ -80,6 +81,7 @@ loop-again c =
           (l .left - h)
           h
           (omega arith)
+          refl
           (c .before .before .act-block .ensures),
     )
 

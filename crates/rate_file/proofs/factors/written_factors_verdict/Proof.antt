@@ -3,7 +3,6 @@
 use mathlib.Core.Path.{sym, _∙_}
 use mathlib.Core.List.{List}
 use denote.Ref.{now}
-use borrow.Author.Needs.{needs}
 use Rattle.meaning.specs.Result.{Check}
 use Rattle.meaning.specs.Answers.{numberOf}
 use Rattle.meaning.specs.Field.{prime}
@@ -20,14 +19,20 @@ table s = writtenTable (s .args .p) (factorsIn (now (s .args .file)))
 
 passed-1 : (c : tie.Else1) → Passed 1 (table (c .before .before .before))
 unfolding writtenTable
-passed-1 c = first-skip _ _ (c .before .holds-for-some-record .ensures ∙ some-factor (fileDegreeOutOfRange (prime _)) _) (c .if1 .left)
+passed-1 c =
+    first-skip _ _
+    (c .before .holds-for-some-record .ensures ∙ some-factor (fileDegreeOutOfRange (prime _)) _)
+    (c .if1 .left)
 
 holds-for-some-record-requires : tie.Need-holds-for-some-record-requires
 holds-for-some-record-requires c κs = c .before .pre ∙ factors-count _
 
 returns : tie.Need-returns
 unfolding numberIn numberOf writtenTable
-returns c = first-here _ _ (c .before .holds-for-some-record .ensures ∙ some-factor (fileDegreeOutOfRange (prime _)) _) (c .if1 .taken)
+returns c =
+    first-here _ _
+    (c .before .holds-for-some-record .ensures ∙ some-factor (fileDegreeOutOfRange (prime _)) _)
+    (c .if1 .taken)
 
 holds-for-some-record-requires-2 : tie.Need-holds-for-some-record-requires-2
 holds-for-some-record-requires-2 c κs = c .before .before .before .pre ∙ factors-count _
@@ -35,7 +40,9 @@ holds-for-some-record-requires-2 c κs = c .before .before .before .pre ∙ fact
 returns-2 : tie.Need-returns-2
 unfolding numberIn numberOf writtenTable
 returns-2 c =
-    first-here _ _ (c .before .holds-for-some-record2 .ensures ∙ some-factor (fileNotMonic (prime _)) _) (c .if2 .taken)
+    first-here _ _
+    (c .before .holds-for-some-record2 .ensures ∙ some-factor (fileNotMonic (prime _)) _)
+    (c .if2 .taken)
     ∙ sym (passed-1 (c .before .before))
 
 returns-3 : tie.Need-returns-3
@@ -43,7 +50,10 @@ unfolding numberIn writtenTable
 returns-3 c =
     first-nowhere
     ∙ sym
-    (passed-1 (c .before .before) ∙ first-skip _ _ (c .before .holds-for-some-record2 .ensures ∙ some-factor (fileNotMonic (prime _)) _) (c .if2 .left))
+    (passed-1 (c .before .before)
+    ∙ first-skip _ _
+    (c .before .holds-for-some-record2 .ensures ∙ some-factor (fileNotMonic (prime _)) _)
+    (c .if2 .left))
 
 pub written-factors-verdict-spec : {M : Type 1} → statement M
 written-factors-verdict-spec =

@@ -1,14 +1,12 @@
 -- `ratings::period_verdict` meets its contract: the terms decide, or else the factors, or else the rest.
 -- Assumes nothing.
-use mathlib.Core.Path.{_≡_, sym, ap, _∙_}
+use mathlib.Core.Path.{sym, ap, _∙_}
 use mathlib.Core.List.{List, _++_}
 use denote.Ref.{now}
 use borrow.Author.Needs.{needs}
 use Rattle.meaning.specs.Result.{Check, firstOf}
-use Rattle.meaning.specs.Answers.{numberOf}
-use Rattle.refusals.specs.Verdicts.{numberIn, termsTable, oneFactorTable, periodChecks}
-use Rattle.refusals.proofs.Order.{first-here, first-skip, first-nowhere}
-use Rattle.refusals.proofs.Ways.{lentTable, period-parts}
+use Rattle.refusals.specs.Verdicts.{termsTable, oneFactorTable, lentTable}
+use Rattle.refusals.proofs.Ways.{period-parts}
 use Rattle.refusals.proofs.Order.{refused-before, refused-second, accepted-both}
 use Rattle.refusals.proofs.ratings.period_verdict.Statement.{statement}
 use Rattle.refusals.proofs.ratings.period_verdict.Tie as tie
@@ -24,11 +22,6 @@ factors s = oneFactorTable (s .args .p) (now (s .args .factor))
 
 abbrev rest : tie.Start → List Check
 rest s = lentTable (s .args .answer) (s .args .work)
-
-abbrev checks : tie.Start → List Check
-checks s =
-    periodChecks (s .args .p) (now (s .args .factor)) (now (s .args .terms)) (s .args .answer)
-    (s .args .work)
 
 terms-verdict-requires : tie.Need-terms-verdict-requires
 terms-verdict-requires c κs = search needs
@@ -48,8 +41,8 @@ enum-known-r-2 c = search needs
 enum-told-2 : tie.Need-enum-told-2
 enum-told-2 c = search needs
 
-lent-too-short-requires : tie.Need-lent-too-short-requires
-lent-too-short-requires c κs = search needs
+lent-verdict-requires : tie.Need-lent-verdict-requires
+lent-verdict-requires c κs = search needs
 
 returns : tie.Need-returns
 returns c =
@@ -71,31 +64,20 @@ returns-2 c =
     ∙ sym (ap firstOf (period-parts _ _ _ _ _))
 
 -- the lent bytes decide
-passed : (c : tie.After-enum-told2)
-    → firstOf (checks (start (c .before .before .before .before .before)))
-    ≡ firstOf (rest (start (c .before .before .before .before .before)))
-passed c =
-    let v = c .before .before in
+returns-3 : tie.Need-returns-3
+returns-3 c =
+    let t = c .before in
+    let v = t .before .before in
     let u = v .before .before .before in
     let s = start u in
-    ap firstOf (period-parts _ _ _ _ _)
+    c .lent-verdict .ensures
+    ∙ sym
+    (ap firstOf (period-parts _ _ _ _ _)
     ∙ accepted-both (terms s) (factors s) (rest s)
     (u .terms-verdict .ensures)
     (v .factor-verdict .ensures)
     (v .before .enum-told .given .1)
-    (c .enum-told2 .given .1)
-
-returns-3 : tie.Need-returns-3
-unfolding numberIn numberOf
-returns-3 c =
-    first-here _ _ (c .before .lent-too-short .ensures) (c .if1 .taken)
-    ∙ sym (passed (c .before .before))
-
-returns-4 : tie.Need-returns-4
-unfolding numberIn
-returns-4 c =
-    first-nowhere
-    ∙ sym (passed (c .before .before) ∙ first-skip _ _ (c .before .lent-too-short .ensures) (c .if1 .left))
+    (t .enum-told2 .given .1))
 
 pub period-verdict-spec : {M : Type 1} → statement M
 period-verdict-spec =
@@ -107,8 +89,7 @@ period-verdict-spec =
     factor-verdict-requires
     enum-known-r-2
     enum-told-2
-    lent-too-short-requires
+    lent-verdict-requires
     returns
     returns-2
-    returns-3
-    returns-4)
+    returns-3)

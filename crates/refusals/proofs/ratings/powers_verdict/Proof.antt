@@ -12,7 +12,7 @@ use Rattle.meaning.specs.Conditions.{named, totalDegree, fewerTermsThan}
 use Rattle.meaning.specs.Slices.{listsOf}
 use Rattle.poly.proofs.factors.Totals.{total-known}
 use Rattle.refusals.specs.Verdicts.{numberIn, powersTable}
-use Rattle.refusals.proofs.Order.{Passed, first-here, first-skip, first-nowhere}
+use Rattle.refusals.proofs.Order.{Passed, first-here, first-skip}
 use Rattle.refusals.proofs.ratings.powers_verdict.Statement.{statement}
 use Rattle.refusals.proofs.ratings.powers_verdict.Tie as tie
 
@@ -51,15 +51,6 @@ passed-2 c =
     passed-1 (c .before .before .before)
     ∙ first-skip _ _ (counted (c .before)) (c .if2 .left)
 
-abbrev at-3 : tie.Else3 → tie.Start
-at-3 c = at-2 (c .before .before)
-
-passed-3 : (c : tie.Else3) → Passed 3 (table (at-3 c))
-unfolding powersTable
-passed-3 c =
-    passed-2 (c .before .before)
-    ∙ first-skip _ _ (c .before .lent-too-short .ensures) (c .if3 .left)
-
 upper-powers-out-of-range-requires : tie.Need-upper-powers-out-of-range-requires
 upper-powers-out-of-range-requires c κs = search needs
 
@@ -79,18 +70,12 @@ returns-2 c =
     first-here _ _ (counted (c .before)) (c .if2 .taken)
     ∙ sym (passed-1 (c .before .before .before))
 
-lent-too-short-requires : tie.Need-lent-too-short-requires
-lent-too-short-requires c κs = search needs
+lent-verdict-requires : tie.Need-lent-verdict-requires
+lent-verdict-requires c κs = search needs
 
 returns-3 : tie.Need-returns-3
-unfolding numberIn numberOf powersTable
-returns-3 c =
-    first-here _ _ (c .before .lent-too-short .ensures) (c .if3 .taken)
-    ∙ sym (passed-2 (c .before .before))
-
-returns-4 : tie.Need-returns-4
-unfolding numberIn powersTable
-returns-4 c = first-nowhere ∙ sym (passed-3 c)
+unfolding powersTable
+returns-3 c = c .lent-verdict .ensures ∙ sym (passed-2 (c .before))
 
 pub powers-verdict-spec : {M : Type 1} → statement M
 powers-verdict-spec =
@@ -101,6 +86,5 @@ powers-verdict-spec =
     total-degree-requires
     fewer-terms-than-requires
     returns-2
-    lent-too-short-requires
-    returns-3
-    returns-4)
+    lent-verdict-requires
+    returns-3)

@@ -1,24 +1,21 @@
 -- `arith::GaloisField::multiply_add_within` meets its contract. The invariant: the first i numbers of b + c·a
 -- are written from x on. The measure is what is left of the n places. Assumes nothing.
-use Prim.Native.Nat.{_-_, _≤_}
+use Prim.Native.Nat.{_-_}
 use native.Mathlib.Omega.{arith}
 use borrow.Author.Needs.{needs}
-use denote.Ref.{now}
 use Rattle.arith.specs.Represented.{fieldOf}
-use Rattle.arith.specs.Slices.{part, combined}
-use Rattle.arith.proofs.Writing.{Writing, writing-none, writing-end, combined-more}
+use Rattle.arith.proofs.Writing.{Combining, same-places, combining-none, combining-more, combining-end}
 use Rattle.arith.proofs.field.GaloisField.multiply_add_within.Statement.{statement}
 use Rattle.arith.proofs.field.GaloisField.multiply_add_within.Tie as tie
 
 abbrev Inv-loop : tie.InvT-loop
-Inv-loop self w₀ x c y n i₀ w i =
-    (i ≤ n) × Writing w₀ x (combined (fieldOf self) (part w₀ y n) c (part w₀ x n)) w i
+Inv-loop self w₀ x c y n i₀ w i = Combining (fieldOf self) w₀ x y c x n w i
 
 abbrev μ-loop : tie.MeasureT-loop
 μ-loop self w₀ x c y n i₀ w i = n - i
 
 loop-holds : tie.Need-loop-holds Inv-loop μ-loop
-loop-holds c = (omega arith, writing-none _ (c .before .args .x) _ (omega arith))
+loop-holds c = combining-none _ (omega arith)
 
 add-add-product : tie.Need-add-add-product Inv-loop μ-loop
 add-add-product c = search needs
@@ -49,24 +46,15 @@ loop-less c = search needs
 
 loop-again : tie.Need-loop-again Inv-loop μ-loop
 loop-again c =
-    let b = c .before .before .before .before .before .before in
-    let a = b .args in
-    let r = b .pre .1 in
-    let l = c .before .before .before .before .loop in (
-      omega arith,
-      combined-more (fieldOf (a .self)) (now (a .w)) (a .x) (a .y) (a .x) (a .c) (a .n)
-          (r .first) (r .second) (r .first)
-          (r .apart) (λ e. omega arith)
-          (omega arith)
-          (l .inv .1)
-          (c .add-product .ensures),
-    )
+    let p = c .before .before .before .before .before .before .pre .1 in
+    combining-more (c .before .before .before .before .loop .inv) p (same-places p) (omega arith)
+    (c .add-product .ensures)
 
 same-length : tie.Need-same-length Inv-loop μ-loop
 same-length c = search needs
 
 returns : tie.Need-returns Inv-loop μ-loop
-returns c = writing-end (c .before .loop .inv .1) (c .before .before .before .args .n) (omega arith)
+returns c = combining-end (c .before .loop .inv) (omega arith)
 
 pub multiply-add-within-spec : {M : Type 1} → statement M
 multiply-add-within-spec =
