@@ -3,9 +3,10 @@
 --   walk-skip, walk-unknown, walk-cut, walk-misplaced, walk-good == what each test makes of the walk
 --   flat rs          == the records one after another: each kind before its body
 --   Whole rs         == the bodies of the records have the lengths of their kinds
---   Walked x bytes   == where the result x is an answer, its records are whole, and put one after another they
---                       are the bytes; a refusal is by 1 to 5
---   records-walked   == so it is of the records of a file; `records-whole`, `records-number` for its two cases
+--   Walked x bytes   == where the result x is an answer, its records are whole, and put one after another
+--                       they are the bytes; a refusal is by 1 to 5
+--   records-walked   == so it is of the records of a file; `records-whole`, `records-number` for its two
+--                       cases
 --   records-long, records-short == the records of a file by its length
 --   records-suited   == the factors of an accepted file suit its mode
 -- Assumes nothing.
@@ -120,7 +121,8 @@ module _ (kind : ℕ) (rest : List ℕ) (stage : Stage)
   known-walked none e = refused-walked (kind ∷ rest) _ (lit≤ tt, lit≤ tt) (walk-unknown kind rest stage e)
   known-walked (some n) e = fitting-walked e (ltb (length rest) n) refl
 
-pub walk-walked : (bytes : List ℕ) (skip : ℕ) (stage : Stage) → Walked (walk bytes skip stage) (drop skip bytes)
+pub walk-walked : (bytes : List ℕ) (skip : ℕ) (stage : Stage)
+    → Walked (walk bytes skip stage) (drop skip bytes)
 unfolding walk
 walk-walked [] zero stage = stopped-walked stage
 walk-walked [] (suc k) stage = stopped-walked stage

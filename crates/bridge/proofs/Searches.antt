@@ -144,7 +144,8 @@ module _ {A : Type 0} (t : A → Bool) where
   member-some (b ∷ l) a (List·Memᴰ·head e) h = some-head b l (subst (λ c. T (t c)) e h)
   member-some (b ∷ l) a (List·Memᴰ·tail m) h = some-tail b l (member-some l a m h)
 
-  pub none-cons : (a : A) (l : List A) → t a ≡ false → holdsForSome t l ≡ false → holdsForSome t (a ∷ l) ≡ false
+  pub none-cons : (a : A) (l : List A) → t a ≡ false → holdsForSome t l ≡ false
+      → holdsForSome t (a ∷ l) ≡ false
   unfolding holdsForSome
   none-cons a l e h = rw (e, holdsForSome) h
 

@@ -12,7 +12,7 @@ use mathlib.Core.Path.{_≡_, refl, sym, ap, _∙_}
 use mathlib.Core.Bool.{Bool, true, false, not, _||_}
 use mathlib.Core.List.{List, [], _∷_, _++_, map}
 use mathlib.Core.Option.{some, Option·some-injective}
-use lib.Dec.{T, ltb, eqb}
+use lib.Dec.{ltb, eqb}
 use lib.ListN.{length, getD, take, length-drop, length-map}
 use lib.Seq.{length-take-le}
 use borrow.Author.Tests.{ltb-false, eqb-true}
@@ -154,8 +154,8 @@ module _ (p : ℕ) (fs : List WrittenFactor) (full : AllFull fs) (I : IsField (p
       )
 
   pub set-lists :
-      setAnswer p (holdsForSome (fileDegreeOutOfRange (prime p)) fs) (holdsForSome (fileNotMonic (prime p)) fs)
-      (map (λ f. (polynomialOf f, f .upper)) fs) ts answer work
+      setAnswer p (holdsForSome (fileDegreeOutOfRange (prime p)) fs)
+      (holdsForSome (fileNotMonic (prime p)) fs) (map (λ f. (polynomialOf f, f .upper)) fs) ts answer work
       ≡ rateSet p (map polynomialOf fs) (map (λ f. f .upper) fs) ts answer work
   unfolding rateSet
   set-lists = rw (ten, eleven, list-ten, list-eleven, named-map)

@@ -1,5 +1,5 @@
--- Computed rows for the contracts: each is met by the right answer with the right bytes, accepted and refused.
--- (WrongRaters.antt has the wrong answers that do not meet them.)
+-- Computed rows for the contracts: each is met by the right answer with the right bytes, accepted and
+-- refused. (WrongRaters.antt has the wrong answers that do not meet them.)
 --
 --   CallRows  == the table of answers that meet their contracts      call-rows  == every row holds
 -- Assumes nothing.
@@ -117,7 +117,7 @@ pub record CallRows : Type 0 where
       (1 ∷ 0 ∷ 0 ∷ 0 ∷ 1 ∷ replicate 4094 7)
       cleared
   pub ratedA : FileCall square fileA answer work
-      (record { sender = 7; outcome = FileOutcome.Powers 12 18 1; powers = 4 ∷ 0 ∷ 0 ∷ 0 ∷ 0 ∷ 0 ∷ 0 ∷ 0 ∷ [] })
+      (record { sender = 7; outcome = FileOutcome.Powers 12 18 1; powers = 4 ∷ replicate 7 0 })
       (1 ∷ 0 ∷ 0 ∷ 0 ∷ 1 ∷ 0 ∷ 0 ∷ 0 ∷ 0 ∷ 0 ∷ 0 ∷ 0 ∷ 1 ∷ replicate 4086 7)
       cleared
   pub ratedH : FileCall square fileH answer work

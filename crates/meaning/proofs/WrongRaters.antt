@@ -1,5 +1,5 @@
--- The wrong raters that paper 01 names, refuted by rows: what each of them answers does not meet the contract,
--- whatever it leaves in the lent bytes of which nothing is said.
+-- The wrong raters that paper 01 names, refuted by rows: what each of them answers does not meet the
+-- contract, whatever it leaves in the lent bytes of which nothing is said.
 --
 --   WrongRaters == the period, the portion and the free call      wrong-raters == every row holds
 --   WrongSets, WrongFiles, WrongPrograms == the set call, the file call, the program
@@ -24,8 +24,8 @@ use Rattle.meaning.proofs.Computed.{computed}
 use Rattle.meaning.proofs.Rows.{x+1, x²+1, x²+x+1}
 use Rattle.meaning.proofs.CallRows.{answer, work, square, fileA, fileH, fileI, eightZeros, differ}
 
--- THE PORTION, THE PERIOD AND THE FREE CALL, on row A (a portion, with x³ + x + 1 and the upper power 6) and on
--- row B (a period, with x + 1)
+-- THE PORTION, THE PERIOD AND THE FREE CALL, on row A (a portion, with x³ + x + 1 and the upper power 6) and
+-- on row B (a period, with x + 1)
 
 abbrev termsA : List ℕ
 termsA = 0 ∷ 1 ∷ 0 ∷ 1 ∷ 0 ∷ 0 ∷ 0 ∷ 0 ∷ 1 ∷ 0 ∷ 1 ∷ 1 ∷ 0 ∷ 1 ∷ 0 ∷ 1 ∷ 1 ∷ 0 ∷ []
@@ -101,8 +101,8 @@ wrong-raters =
       degree-not-least = λ a w c. differ 2 1 (ap free-degree (c .rating)) refl;
     }
 
--- THE SET CALL, on row A with its one factor and on row K: x + 1 and x² + x + 1, each 1, terms 0, 1, 1, of which
--- the powers are 0 and 1
+-- THE SET CALL, on row A with its one factor and on row K: x + 1 and x² + x + 1, each 1, terms 0, 1, 1, of
+-- which the powers are 0 and 1
 
 -- one power in the first of the eight places
 abbrev first : ℕ → List ℕ
@@ -161,8 +161,8 @@ wrong-sets =
       refused-and-written = λ a w e c. differ 1 7 (ap (at 0) (sym e ∙ c .lent .answerBytes)) refl;
     }
 
--- THE FILE CALL, on row A as a file of box 7 in mode 2, and on the rows H and I as files in mode 3, of which H
--- has `one` and I has `some`
+-- THE FILE CALL, on row A as a file of box 7 in mode 2, and on the rows H and I as files in mode 3, of which
+-- H has `one` and I has `some`
 
 abbrev FileOf : List ℕ → FileOutcome → List ℕ → List ℕ → List ℕ → Type 0
 FileOf file o eight answer′ work′ =
@@ -178,7 +178,9 @@ pub record WrongFiles : Type 0 where
   pub seventeen-for-all : AnswersFile fileA (FileOutcome.Refused Refusal.NotAnnihilated) eightZeros
   pub one-for-all : AnswersFile fileA (FileOutcome.Powers 0 18 1) eightZeros
   pub refuses-all : AnswersFile fileA (FileOutcome.Refused Refusal.ModeUnsuited) eightZeros
-  pub nothing-written : (work′ : List ℕ) → FileOf fileA (FileOutcome.Powers 12 18 1) (first 4) answer work′ → ⊥
+  pub nothing-written : (work′ : List ℕ)
+      → FileOf fileA (FileOutcome.Powers 12 18 1) (first 4) answer work′
+      → ⊥
   pub work-not-cleared : (answer′ : List ℕ)
       → FileOf fileA (FileOutcome.Powers 12 18 1) (first 4) answer′ work
       → ⊥
@@ -225,8 +227,8 @@ wrong-files =
       box-forgotten = λ a w c. differ 0 7 (c .sender) refl;
     }
 
--- THE PROGRAM, on the file of row A: it prints the line `7 ok 12/18 4`. A wrong program prints another, and then
--- anything
+-- THE PROGRAM, on the file of row A: it prints the line `7 ok 12/18 4`. A wrong program prints another, and
+-- then anything
 
 abbrev PrintsA : List ℕ → Type 0
 PrintsA front = (rest : List ℕ) → ProgramCall square fileA (front ++ rest) → ⊥

@@ -4,15 +4,16 @@
 --
 --   statusOf r         == 0 where the call is accepted, and else the number of the refusal
 --   numberAfter f r n  == the lent number n afterwards: f of the answer, and n as it was where refused
---   PowerTold r …      == the status is that of the result r, and the three lent numbers are its power, degree
---                         and repeat bound, or as they were where it is refused
+--   PowerTold r …      == the status is that of the result r, and the three lent numbers are its power,
+--                         degree and repeat bound, or as they were where it is refused
 --   PowerExported r …  == the same of a rating r, and the answer and work bytes are left as it says
 --                         (`rater_rate_period`, `rater_rate_portion`)
---   PowersAfter r b b′ == the bytes b lent for the powers, any number of them, are b′ afterwards. The powers in
---                         the order of the factors, then zeros, are eight numbers, and so 64 bytes: as many of
---                         these as were lent, from the front, and those lent beyond 64 as they were; b as it
---                         was where refused. So 8·n bytes take the powers of n factors
---   SetExported r …    == `rater_rate_set` with the result r; its factors are the parts of one slice (`split`)
+--   PowersAfter r b b′ == the bytes b lent for the powers, any number of them, are b′ afterwards. The powers
+--                         in the order of the factors, then zeros, are eight numbers, and so 64 bytes: as
+--                         many of these as were lent, from the front, and those lent beyond 64 as they were;
+--                         b as it was where refused. So 8·n bytes take the powers of n factors
+--   SetExported r …    == `rater_rate_set` with the result r; its factors are the parts of one slice
+--                         (`split`)
 --   wordNumber u       == the word as a number: 1 for `one`, 0 for `some`
 --   FreeExported pick … == `rater_rate_free`: the degree and the number of the word in the two lent numbers
 --   Filled r …         == `rater_continue_sequence` with the result r
@@ -77,8 +78,8 @@ wordOf a = wordNumber (a .unique)
 pub record FreeExported (pick : Choice) (p : ℕ) (ts answer work : List ℕ) (degree unique status : ℕ)
     (answer′ work′ : List ℕ) (degree′ unique′ : ℕ) : Type 0 where
   pub told : status ≡ statusOf (rateFree pick p ts (length answer) (length work))
-  pub degreeAfter :
-      degree′ ≡ numberAfter (λ a. a .degree) (figuresOf (rateFree pick p ts (length answer) (length work))) degree
+  pub degreeAfter : degree′
+      ≡ numberAfter (λ a. a .degree) (figuresOf (rateFree pick p ts (length answer) (length work))) degree
   pub uniqueAfter :
       unique′ ≡ numberAfter wordOf (figuresOf (rateFree pick p ts (length answer) (length work))) unique
   pub chosen : ChosenFits pick p ts

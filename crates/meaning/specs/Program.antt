@@ -4,11 +4,12 @@
 --                        beside it: of the powers as many as it counts, of the bytes as many as its degree
 --                        and one more
 --   linesOf r answer  == the lines of that result, for the box that the rating names
---   PrintCall r answer out n out′ == the lines of the rating r stand at the front of the lent bytes `out`, all
---                        other bytes are as they were, and n is the number of bytes in the lines
---   Response pick buffer count n out′ == the first n bytes of `out′` are what the program is to print for every
---                        input that the first `count` bytes of the buffer come from: they are the input as far
---                        as the buffer holds it. What a longer input has beyond it does not matter
+--   PrintCall r answer out n out′ == the lines of the rating r stand at the front of the lent bytes `out`,
+--                        all other bytes are as they were, and n is the number of bytes in the lines
+--   Response pick buffer count n out′ == the first n bytes of `out′` are what the program is to print for
+--                        every input that the first `count` bytes of the buffer come from: they are the
+--                        input as far as the buffer holds it. What a longer input has beyond it does not
+--                        matter
 use Prim.Native.Nat.{ℕ, suc, _≤_}
 use mathlib.Core.Path.{_≡_}
 use mathlib.Core.List.{List}

@@ -6,7 +6,7 @@
 --   firstOf table     == the number of the first condition of the table that holds, or none
 --   settle table v    == refused by the table's first condition that holds, else the value v. A missing value
 --                        would be `refused 0`, a number that no answer of the program has: it never comes to
---                        that
+--                        that (`NeverZero` of crate theorems)
 --   Rated A           == what a rating answers: its figures, and its polynomial, which goes into the lent
 --                        answer bytes
 --   figuresOf r       == the same result without the polynomial

@@ -8,12 +8,12 @@ use Prim.Native.Nat.{ℕ, suc, _-_, _≤_}
 use native.Mathlib.Omega.{arith}
 use mathlib.Core.Path.{_≡_, refl, sym, ap, subst, _∙_}
 use mathlib.Core.Logic.{_⊎_, inl, inr}
-use mathlib.Core.Bool.{Bool, true, false, true≢false, _||_}
-use mathlib.Core.List.{List, [], _∷_, _++_}
+use mathlib.Core.Bool.{Bool, true, false, true≢false}
+use mathlib.Core.List.{List, [], _∷_}
 use mathlib.Core.Option.{Option, none, some, Option·some-injective}
 use lib.ListN.{length, take, length-append}
 use lib.Seq.{length-take-le}
-use lib.Dec.{T, ltb, eqb}
+use lib.Dec.{ltb}
 use borrow.Author.Tests.{ltb-false}
 use Rattle.meaning.specs.declared.PowerRating.{PowerRating}
 use Rattle.meaning.specs.declared.SetOutcome.{SetOutcome}
@@ -25,27 +25,28 @@ use Rattle.meaning.specs.Search.{holdsForAll, holdsForSome, isNone, bind}
 use Rattle.meaning.specs.Field.{primeInRange}
 use Rattle.meaning.specs.Polynomial.{Polynomial}
 use Rattle.meaning.specs.Sequence.{cut, continuation}
-use Rattle.meaning.specs.Result.{Result, Rated, answered, refused, figuresOf, mapResult, answerAfter, workAfter}
+use Rattle.meaning.specs.Result.{Result, Rated, answered, refused, figuresOf, mapResult, answerAfter}
+use Rattle.meaning.specs.Result.{workAfter}
 use Rattle.meaning.specs.Conditions.{named, totalDegree, factorDegreeOutOfRange, notMonic, lentTooShort}
 use Rattle.meaning.specs.Conditions.{placeOutOfRange, countOutOfRange}
 use Rattle.meaning.specs.Power.{PowerFigures, powerRating}
 use Rattle.meaning.specs.Period.{periodPower, periodTable, periodAnswer, ratePeriod}
-use Rattle.meaning.specs.Portion.{SetFigures, factorsOf, leastAt, portionTable, ratePortion, setPowers}
+use Rattle.meaning.specs.Portion.{SetFigures, factorsOf, leastAt, portionTable, ratePortion}
 use Rattle.meaning.specs.Portion.{setRating, setTable, setAnswer, rateSet}
 use Rattle.meaning.specs.Free.{Choice, FreeFigures, ChosenFits, leastDegree, isUnique, freePolynomial}
 use Rattle.meaning.specs.Free.{freeRating, freeTable, rateFree}
 use Rattle.meaning.specs.Continuation.{continueSequence, continueTable, filled}
 use Rattle.meaning.specs.Irreducibility.{askIrreducible, irreducibleTable}
-use Rattle.meaning.specs.Answers.{setFiguresTold, SetTold, setPadded, toldPower, toldSet, toldFree}
+use Rattle.meaning.specs.Answers.{setFiguresTold, setPadded, toldPower, toldSet, toldFree}
 use Rattle.meaning.specs.Answers.{toldFilling, toldIrreducible}
-use Rattle.meaning.specs.Calls.{PeriodCall, PortionCall, SetCall, FreeCall, ContinueCall, bufferAfter}
+use Rattle.meaning.specs.Calls.{PeriodCall, PortionCall, SetCall, FreeCall, bufferAfter}
 use Rattle.meaning.proofs.Determined.{refusals, refusalOf}
 use Rattle.meaning.proofs.Determined.{period-call-determined, portion-call-determined, set-call-determined}
 use Rattle.meaning.proofs.Determined.{free-call-determined, continue-call-determined}
 use Rattle.meaning.proofs.Determined.{irreducible-call-determined}
 use Rattle.meaning.proofs.Passes.{Passes}
 use Rattle.meaning.specs.Route.{lookUp}
-use Rattle.bridge.proofs.Searches.{settle-refused, settle-answered, bind-some, mapOption-some, map-answered}
+use Rattle.bridge.proofs.Searches.{settle-refused, settle-answered, bind-some, mapOption-some}
 use Rattle.bridge.proofs.Searches.{map-refused, or-false}
 use Rattle.bridge.proofs.Interpretation.{IsField, inRange-isField, characteristic-two}
 use Rattle.bridge.proofs.Polynomials.{monic-nonempty, degree-length}
@@ -61,8 +62,8 @@ use Rattle.bridge.proofs.Accepted.{rated-power}
 use Rattle.bridge.proofs.FileRatings.{period-size, set-size, free-size}
 use Rattle.theorems.specs.Ratings.{GF}
 use Rattle.theorems.specs.Answering.{periodNumbers, portionNumbers, setNumbers, freeNumbers}
-use Rattle.theorems.specs.Answering.{continueNumbers, irreducibleNumbers, Answered, Tells, PeriodAnswers}
-use Rattle.theorems.specs.Answering.{PortionAnswers, SetAnswers, FreeAnswers, ContinueAnswers}
+use Rattle.theorems.specs.Answering.{continueNumbers, irreducibleNumbers, Answered, Tells}
+use Rattle.theorems.specs.Answering.{PeriodAnswers, PortionAnswers, SetAnswers, FreeAnswers, ContinueAnswers}
 use Rattle.theorems.specs.Answering.{IrreducibleAnswers, PrimeAnswers}
 use Rattle.theorems.proofs.Ways.{one-total, period-promise, portion-promise, set-promise, free-promise}
 use Rattle.theorems.proofs.Telling.{settle-tells, map-tells, Listed, meets, Sized, lent-after}
@@ -188,8 +189,8 @@ period-answers p f ts answer work =
     record {
       each =
           λ r answer′ work′ c.
-          rating-answers periodNumbers (λ a. a .degree) (λ a. a) (periodResult p f ts answer work) (toldPower r)
-          answer work answer′ work′ (c .rating ∙ figures-themselves _)
+          rating-answers periodNumbers (λ a. a .degree) (λ a. a) (periodResult p f ts answer work)
+          (toldPower r) answer work answer′ work′ (c .rating ∙ figures-themselves _)
           (period-told p f ts (length answer) (length work)) (period-sized p f ts answer work) (c .lent);
       some = period-some p f ts answer work;
       one = λ r s _ _ _ _ c d. period-call-determined c d;
@@ -268,7 +269,8 @@ portion-answers p f v ts answer work =
           λ r answer′ work′ c.
           rating-answers portionNumbers (λ a. a .degree) (λ a. a) (portionResult p f v ts answer work)
           (toldPower r) answer work answer′ work′ (c .rating ∙ figures-themselves _)
-          (portion-tells p f v ts (length answer) (length work)) (portion-sized p f v ts answer work) (c .lent);
+          (portion-tells p f v ts (length answer) (length work)) (portion-sized p f v ts answer work)
+          (c .lent);
       some = portion-some p f v ts answer work;
       one = λ r s _ _ _ _ c d. portion-call-determined c d;
     }
@@ -516,9 +518,11 @@ module _ (p : ℕ) (g : Polynomial) (start buffer : List ℕ) (place : ℕ) wher
   continue-length (answered after) e =
       let (h, w) = settle-answered _ (continueTable p g start place (length buffer)) e in
       let inside = place-inside (length buffer) place (h .countInRange) in
+      let s = continuation (GF p) g start in
+      let n = length-cut s 0 (length buffer - place) in
       ap length (sym (Option·some-injective _ _ w))
-      ∙ length-append (take place buffer) (cut (continuation (GF p) g start) 0 (length buffer - place))
-      ∙ omega (arith, length-take-le place buffer inside, length-cut (continuation (GF p) g start) 0 (length buffer - place))
+      ∙ length-append (take place buffer) (cut s 0 (length buffer - place))
+      ∙ omega (arith, length-take-le place buffer inside, n)
 
 pub continue-answers : ContinueAnswers
 unfolding toldFilling bufferAfter
@@ -540,7 +544,8 @@ continue-answers p g start buffer place =
           continue-listed (mapResult (λ _. tt) (continued p g start buffer place))
           (map-tells continueNumbers (λ _. tt) (continued p g start buffer place) refl
           (continue-told p g start buffer place)) in
-          (r, bufferAfter (continued p g start buffer place) buffer, record { filling = e; bufferBytes = refl });
+          let after = bufferAfter (continued p g start buffer place) buffer in
+          (r, after, record { filling = e; bufferBytes = refl });
       one = λ r s _ _ c d. continue-call-determined c d;
     }
 

@@ -9,20 +9,20 @@ use native.Mathlib.Omega.{arith}
 use mathlib.Core.Path.{_≡_, refl, sym, ap, subst, _∙_}
 use mathlib.Core.Logic.{_⊎_, inl, inr}
 use mathlib.Core.Bool.{Bool, true, false, true≢false}
-use mathlib.Core.List.{List, [], _∷_, map}
+use mathlib.Core.List.{List, [], map}
 use mathlib.Core.Option.{Option, none, some}
 use lib.ListN.{length, getD}
-use lib.Dec.{T, eqb}
 use Rattle.meaning.specs.declared.FileOutcome.{FileOutcome}
 use Rattle.meaning.specs.declared.FileRating.{FileRating}
 use Rattle.meaning.specs.declared.RecordOutcome.{RecordOutcome}
 use Rattle.meaning.specs.Search.{holdsForAll, holdsForSome, isNone}
-use Rattle.meaning.specs.Result.{Result, Rated, refused, answered, mapResult, figuresOf, answerAfter, workAfter}
+use Rattle.meaning.specs.Result.{Result, Rated, refused, answered, mapResult, figuresOf, answerAfter}
+use Rattle.meaning.specs.Result.{workAfter}
 use Rattle.meaning.specs.Free.{Choice, FreeFigures}
 use Rattle.meaning.specs.Route.{RouteRecord, Mode, periodMode, setMode, freeMode, modeOf, byteOf, bodies}
 use Rattle.meaning.specs.Route.{lookUp, records, modeUnsuited, readRecord, endRecord, boxOf}
 use Rattle.meaning.specs.File.{fileFactor, termsOf, Label, powers, unique, several, FileFigures, rateMode}
-use Rattle.meaning.specs.File.{ofPeriod, ofSet, ofFree, rateFile, FileChosenFits}
+use Rattle.meaning.specs.File.{rateFile, FileChosenFits}
 use Rattle.meaning.specs.Answers.{toldFile, fileFiguresTold, labelTold, toldRecord, FileTold, filePadded}
 use Rattle.meaning.specs.Answers.{withPowers, withOne, withSome}
 use Rattle.meaning.specs.Calls.{FileCall, bodyAfter}
@@ -106,7 +106,8 @@ mode-tells pick rs answer work periodMode =
     (period-tells (byteOf 2 rs) _ _ _ (termsOf rs) answer work)
 mode-tells pick rs answer work setMode =
     map-tells _ _ _ (set-map (length (termsOf rs)) _)
-    (set-tells (byteOf 2 rs) _ _ _ (termsOf rs) answer work (λ _. pairs-nonempty (map fileFactor (bodies 4 rs))))
+    (set-tells (byteOf 2 rs) _ _ _ (termsOf rs) answer work
+    (λ _. pairs-nonempty (map fileFactor (bodies 4 rs))))
 mode-tells pick rs answer work freeMode =
     map-tells _ _ _ (free-map (length (termsOf rs)) _)
     (free-tells pick (byteOf 2 rs) (termsOf rs) answer work)
@@ -266,8 +267,10 @@ module _ (pick : Choice) (file answer work : List ℕ) (chosen : FileChosenFits 
       (m : Mode) (rs : List RouteRecord) (a : FileTold) (eight answer′ : List ℕ)
       → RatedBy m rs a eight answer′
       → fileDegree a ≤ 4096
-  rated-small periodMode rs a eight answer′ x = subst (λ a. fileDegree a ≤ 4096) (sym (x .tells)) (x .rated .small)
-  rated-small setMode rs a eight answer′ x = subst (λ a. fileDegree a ≤ 4096) (sym (x .tells)) (x .rated .small)
+  rated-small periodMode rs a eight answer′ x =
+      subst (λ a. fileDegree a ≤ 4096) (sym (x .tells)) (x .rated .small)
+  rated-small setMode rs a eight answer′ x =
+      subst (λ a. fileDegree a ≤ 4096) (sym (x .tells)) (x .rated .small)
   rated-small freeMode rs a eight answer′ x =
       subst (λ a. fileDegree a ≤ 4096) (sym (x .tells))
       (subst (λ d. d ≤ 4096) (sym (free-degree (x .figures) (length (termsOf rs)))) (x .rated .small))

@@ -14,8 +14,8 @@ use Rattle.meaning.specs.declared.SetOutcome.{SetOutcome}
 use Rattle.meaning.specs.declared.FileRating.{FileRating}
 use Rattle.meaning.specs.Search.{holdsForSome}
 use Rattle.meaning.specs.Polynomial.{Polynomial}
-use Rattle.meaning.specs.Result.{Result, Rated, refused, answered, mapResult, figuresOf, answerAfter, workAfter}
-use Rattle.meaning.specs.Result.{written}
+use Rattle.meaning.specs.Result.{Result, Rated, refused, answered, mapResult, figuresOf, answerAfter}
+use Rattle.meaning.specs.Result.{workAfter, written}
 use Rattle.meaning.specs.Power.{PowerFigures}
 use Rattle.meaning.specs.Period.{periodTable, periodAnswer, ratePeriod, NoPower}
 use Rattle.meaning.specs.Portion.{SetFigures, setTable, setAnswer, rateSet}
@@ -25,7 +25,7 @@ use Rattle.meaning.specs.Route.{records}
 use Rattle.meaning.specs.File.{WrittenFactor, fileFactor, polynomialOf, fileDegreeOutOfRange, fileNotMonic}
 use Rattle.meaning.specs.File.{termsOf, FileFigures, fileAnswer, powers, freeLabel, ofPeriod, ofSet, ofFree}
 use Rattle.meaning.specs.File.{rateMode, rateFile}
-use Rattle.meaning.specs.Answers.{toldPower, toldSet, toldFree, toldFile, setFiguresTold, setPadded, FileTold}
+use Rattle.meaning.specs.Answers.{toldPower, toldSet, toldFile, setFiguresTold, setPadded, FileTold}
 use Rattle.meaning.specs.Answers.{fileFiguresTold, labelTold, filePadded, labelPowers, padded}
 use Rattle.meaning.specs.Calls.{LentAfter, FileCall}
 use Rattle.bridge.proofs.Searches.{settle-answered, settle-refused, map-answered, map-refused, never-answered}
@@ -202,7 +202,8 @@ module _ (pick : Choice) (file answer work : List ℕ) (r : FileRating) (answer�
           map-refused _ periodResult
           (sym (period-map (length ts) periodResult) ∙ sym period-is ∙ told-refused 17 e) in
           let (h, _) =
-          settle-refused _ (periodTable p ten eleven first ts (length answer) (length work)) (omega arith) w in
+          settle-refused _ (periodTable p ten eleven first ts (length answer) (length work)) (omega arith)
+          w in
           let I = inRange-isField p (prime-accepted p (h .fieldExists)) in
           let same : ratePeriod p first ts (length answer) (length work) ≡ refused 17 =
           sym (period-lists p fs full I (h .degreesInRange) (h .monic) ts (length answer) (length work)
@@ -230,13 +231,14 @@ module _ (pick : Choice) (file answer work : List ℕ) (r : FileRating) (answer�
           → setResult ≡ answered d
           → fileAnswer (d .figures .degree) (length ts) (powers (d .figures .powers)) (d .polynomial) ≡ b
           → SetFile rs a (r .powers) answer′
-      unfolding setAnswer setTable fileAnswer fileFiguresTold labelTold labelPowers toldSet figuresOf mapResult
-          setFiguresTold setPadded
+      unfolding setAnswer setTable fileAnswer fileFiguresTold labelTold labelPowers toldSet figuresOf
+          mapResult setFiguresTold setPadded
       set-rated a b d q u w v =
           let (h, _) =
           settle-answered _ (setTable p ten eleven pairs ts (length answer) (length work)) w in
           let I = inRange-isField p (prime-accepted p (h .fieldExists)) in
-          let same : rateSet p (polynomialsIn rs) (uppersIn rs) ts (length answer) (length work) ≡ answered d =
+          let same :
+          rateSet p (polynomialsIn rs) (uppersIn rs) ts (length answer) (length work) ≡ answered d =
           sym (set-lists p fs full I (h .degreesInRange) (h .monic) ts (length answer) (length work)) ∙ w in
           record {
             figures = setFiguresTold (d .figures);
@@ -346,7 +348,10 @@ module _ (pick : Choice) (file answer work : List ℕ) (r : FileRating) (answer�
   file-way :
       {B : List RouteRecord → Mode → Type 0}
       → ((n : ℕ) → result ≡ refused n → n ≤ 5 → ⊥)
-      → ((rs : List RouteRecord) (m : Mode) → records file ≡ answered rs → modeOf (byteOf 3 rs) ≡ some m → B rs m)
+      → ((rs : List RouteRecord) (m : Mode)
+      → records file ≡ answered rs
+      → modeOf (byteOf 3 rs) ≡ some m
+      → B rs m)
       → (rs : List RouteRecord) × (m : Mode) × Holds file rs m × B rs m
   file-way {B} later way = go (records file) refl
     where
@@ -355,7 +360,8 @@ module _ (pick : Choice) (file answer work : List ℕ) (r : FileRating) (answer�
           → records file ≡ x
           → (rs : List RouteRecord) × (m : Mode) × Holds file rs m × B rs m
       go (refused n) its =
-          absurd (later n (refused-file pick file (length answer) (length work) its) (records-number file its .1))
+          absurd
+          (later n (refused-file pick file (length answer) (length work) its) (records-number file its .1))
       go (answered rs) its = by (modeOf (byteOf 3 rs)) refl
         where
           by :

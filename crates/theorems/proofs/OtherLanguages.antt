@@ -6,14 +6,12 @@ use mathlib.Core.Logic.{inl, inr}
 use mathlib.Core.List.{List, _++_}
 use lib.ListN.{length, take, drop}
 use Rattle.meaning.specs.Search.{holdsForSome}
-use Rattle.meaning.specs.Result.{Result, Rated, refused, answered, figuresOf, mapResult}
-use Rattle.meaning.specs.Period.{ratePeriod}
-use Rattle.meaning.specs.Portion.{SetFigures, ratePortion, rateSet}
+use Rattle.meaning.specs.Result.{Result, refused, answered, figuresOf, mapResult}
+use Rattle.meaning.specs.Portion.{SetFigures, rateSet}
 use Rattle.meaning.specs.Free.{rateFree}
 use Rattle.meaning.specs.Continuation.{continueSequence}
-use Rattle.meaning.specs.Irreducibility.{askIrreducible}
 use Rattle.meaning.specs.Answers.{toldPower, toldSet, toldFree, toldFilling, toldIrreducible, setFiguresTold}
-use Rattle.meaning.specs.Answers.{setPadded, padded}
+use Rattle.meaning.specs.Answers.{setPadded}
 use Rattle.meaning.specs.Calls.{PeriodCall, PortionCall, SetCall, FreeCall, ContinueCall}
 use Rattle.meaning.specs.FlatBytes.{bytesOfAll}
 use Rattle.meaning.specs.Exports.{statusOf, numberAfter, PowerTold, PowersAfter, wordOf, yesAfter}

@@ -1,8 +1,7 @@
--- The records that the reader hands back are the file; the program prints what the rating of the file tells and
--- leaves. From the contracts alone.
+-- The records that the reader hands back are the file; the program prints what the rating of the file tells
+-- and leaves. From the contracts alone.
 -- Assumes nothing.
-use Prim.Native.Nat.{ℕ, suc, _≤_, _<_}
-use native.Mathlib.Omega.{arith}
+use Prim.Native.Nat.{ℕ, suc}
 use mathlib.Core.Path.{_≡_, refl, sym, ap, _∙_}
 use mathlib.Core.List.{List, [], _∷_, _++_, map, append-nil}
 use lib.ListN.{length, getD, take, replicate, length-replicate, List·getD-eq-default}

@@ -1,10 +1,7 @@
 -- All promises hold.
 -- Assumes nothing.
-use Prim.Native.Nat.{ℕ}
-use mathlib.Core.Path.{_≡_}
 use mathlib.Core.List.{List, []}
 use mathlib.Core.Option.{Option, none, some}
-use lib.Dec.{T}
 use Rattle.meaning.specs.Search.{holdsForSome}
 use Rattle.meaning.specs.Result.{Result, refused, answered}
 use Rattle.meaning.specs.Route.{RouteRecord, Mode, periodMode, setMode, freeMode, modeOf, byteOf, records}

@@ -1,10 +1,10 @@
--- What a table of conditions tells: an answer, or a refusal by one of its own numbers. What a rating with such a
--- result leaves in the lent bytes.
+-- What a table of conditions tells: an answer, or a refusal by one of its own numbers. What a rating with
+-- such a result leaves in the lent bytes.
 --
 --   settle-tells     == a settled table tells so, where the value is not missing
 --   meets            == some answer tells it
---   Sized …          == the polynomial of an answer has one coefficient more than the degree that is told, and
---                       there is room for it; the work bytes have their 8,192
+--   Sized …          == the polynomial of an answer has one coefficient more than the degree that is told,
+--                       and there is room for it; the work bytes have their 8,192
 --   rating-answers   == the lent bytes after the result of a rating
 -- Assumes nothing.
 use Prim.Native.Nat.{ℕ, suc, _≤_}
@@ -13,7 +13,7 @@ use native.Mathlib.Decide.{ℕ-discrete}
 use mathlib.Core.Path.{_≡_, refl, sym, ap, subst, _∙_}
 use mathlib.Core.Logic.{_⊎_, inl, inr}
 use mathlib.Core.Bool.{Bool, true, false, not}
-use mathlib.Core.List.{List, [], _∷_, _++_, map}
+use mathlib.Core.List.{List, [], _∷_, map}
 use mathlib.Core.Option.{Option, none, some, Option·some-injective, Option·none-ne-some}
 use lib.ListN.{length, take, drop, replicate, length-append, length-drop, length-replicate}
 use lib.Seq.{take-at, drop-at}
@@ -21,8 +21,8 @@ use lib.Dec.{T, T-not, eqb, eqb-refl, eqb→eq}
 use borrow.Author.Tests.{ne-eqb}
 use Rattle.meaning.specs.declared.Refusal.{Refusal}
 use Rattle.meaning.specs.Search.{holdsForAll, holdsForSome, isNone}
-use Rattle.meaning.specs.Result.{Check, Result, Rated, answered, refused, firstOf, settle, figuresOf, mapResult}
-use Rattle.meaning.specs.Result.{valueOf, answerAfter, workAfter, written, cleared}
+use Rattle.meaning.specs.Result.{Check, Result, Rated, answered, refused, firstOf, settle, figuresOf}
+use Rattle.meaning.specs.Result.{mapResult, valueOf, answerAfter, workAfter, written, cleared}
 use Rattle.meaning.specs.Answers.{numberOf}
 use Rattle.meaning.specs.Calls.{LentAfter}
 use Rattle.meaning.proofs.Determined.{refusalOf, refusal-found}
@@ -135,7 +135,9 @@ pub lent-after : {A : Type 0} (x : Result (Rated A)) (answer work : List ℕ)
     → LentAfter x answer work (answerAfter x answer) (workAfter x work)
 lent-after x answer work = record { answerBytes = refl; workBytes = refl }
 
-work-untouched : (A : Type 0) (n : ℕ) (work : List ℕ) → (n ≡ 17 → ⊥) → workAfter {A = A} (refused n) work ≡ work
+work-untouched : (A : Type 0) (n : ℕ) (work : List ℕ)
+    → (n ≡ 17 → ⊥)
+    → workAfter {A = A} (refused n) work ≡ work
 unfolding workAfter
 work-untouched A n work l = rw (ne-eqb n 17 l, workAfter)
 

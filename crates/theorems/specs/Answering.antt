@@ -1,18 +1,18 @@
 -- Demand 1, as statements about the contracts of the calls: every call gives an answer or one of its numbered
--- refusals, on every input; a refusal leaves the answer bytes as they were; the input alone decides. The signs
--- are those of Promises.
+-- refusals, on every input; a refusal leaves the answer bytes as they were; the input alone decides. The
+-- signs are those of Promises.
 --
 --   periodNumbers, … == the numbers by which paper 01 lets the call refuse
 --   OneOf n numbers  == n is one of the numbers
 --   Tells numbers told == what is told is an answer, or a refusal by one of the numbers
 --   RatingAnswers …  == what a rating tells, and what it leaves in the lent bytes
---   Answering …      == for one input of one call: so it is of whatever meets the contract; something meets it;
---                       and two results that meet it are the same, in every byte
+--   Answering …      == for one input of one call: so it is of whatever meets the contract; something meets
+--                       it; and two results that meet it are the same, in every byte
 --   …Answers         == so it is for every input of the call
 --   NeverZero        == the definitions never reach `refused 0`, which would stand for a missing value
 --
--- `tell` is what a result tells, `degreeIn` the degree in what is told, and `Call` the contract on one input, of
--- a result and the lent bytes that it leaves.
+-- `tell` is what a result tells, `degreeIn` the degree in what is told, and `Call` the contract on one
+-- input, of a result and the lent bytes that it leaves.
 use Prim.Native.Nat.{ℕ, suc, _≤_}
 use mathlib.Core.Path.{_≡_}
 use mathlib.Core.Logic.{_⊎_, _≢_}
@@ -87,9 +87,9 @@ RefusedBy numbers told = (n : ℕ) × (told ≡ refused n) × OneOf n numbers
 abbrev pub Tells : {A : Type 0} → List ℕ → Result A → Type 0
 Tells numbers told = Answered told ⊎ RefusedBy numbers told
 
--- The answer bytes are as they were where the call is refused, and else as they were after the coefficients. The
--- work bytes are as they were after 1 to 16; after 17 and after an answer their first 8,192 are 0; those beyond
--- are as they were in every case. Lent bytes keep their number.
+-- The answer bytes are as they were where the call is refused, and else as they were after the coefficients.
+-- The work bytes are as they were after 1 to 16; after 17 and after an answer their first 8,192 are 0; those
+-- beyond are as they were in every case. Lent bytes keep their number.
 pub record RatingAnswers {A : Type 0} (numbers : List ℕ) (degreeIn : A → ℕ) (told : Result A)
     (answer work answer′ work′ : List ℕ) : Type 0 where
   pub tells : Tells numbers told

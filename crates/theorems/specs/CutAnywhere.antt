@@ -1,9 +1,10 @@
 -- Demand 3, as a statement about the contracts of the calls: the same polynomial wherever the stretch is cut,
 -- however long it is, and whichever way rates it. The signs are those of Promises.
 --
---   …Returns         == whatever meets the contract of the call on these terms, with accepted lent bytes, rates
---                       them and returns g
---   CutAnywhere      == one polynomial, the minimal polynomial of the sequence: every way returns it on every cut
+--   …Returns         == whatever meets the contract of the call on these terms, with accepted lent bytes,
+--                       rates them and returns g
+--   CutAnywhere      == one polynomial, the minimal polynomial of the sequence: every way returns it on
+--                       every cut
 --   CutAnywherePromise == so it is of every sequence that the product of accepted factors annihilates
 use Prim.Native.Nat.{ℕ, _*_, _≤_}
 use mathlib.Core.Path.{_≡_}

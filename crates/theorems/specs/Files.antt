@@ -1,8 +1,9 @@
--- Route files, the reader and the program, as statements about their contracts. The signs are those of Promises;
--- rs are the records of a file, and its field, terms and factors are those that they hold.
+-- Route files, the reader and the program, as statements about their contracts. The signs are those of
+-- Promises; rs are the records of a file, and its field, terms and factors are those that they hold.
 --
 --   polynomialsIn rs, uppersIn rs == the factors of the file, as polynomials, and their upper powers
---   PeriodFile, SetFile, FreeFile == what an answer for a file in mode 1, 2 or 3 means: that of the mode's way
+--   PeriodFile, SetFile, FreeFile == what an answer for a file in mode 1, 2 or 3 means: that of the mode's
+--                                    way
 --   Holds file rs m  == the file has the records rs, and its mode is m
 --   FilePromise      == what the rating of a file tells and leaves is right
 --   ReadBack         == the records that the reader hands back, put one after another, are the file
@@ -154,8 +155,8 @@ ProgramAsCall =
     → FileCall pick input answer work r answer′ work′
     → output ≡ header ++ linesTold (r .sender) (toldFile (r .outcome)) (r .powers) answer′
 
--- So it prints the line of a refusal by one of the file's numbers, or the lines of figures and a polynomial that
--- have the promise of the file's mode. (`left` are answer bytes with that polynomial.)
+-- So it prints the line of a refusal by one of the file's numbers, or the lines of figures and a polynomial
+-- that have the promise of the file's mode. (`left` are answer bytes with that polynomial.)
 pub record PrintedRight (input output : List ℕ) : Type 0 where
   pub told : Result FileTold
   pub eight : List ℕ

@@ -1,11 +1,11 @@
--- The calls for other languages, as statements about their contracts: each keeps the promise of the call that it
--- wraps, through its numbers and bytes. The signs are those of Promises.
+-- The calls for other languages, as statements about their contracts: each keeps the promise of the call
+-- that it wraps, through its numbers and bytes. The signs are those of Promises.
 --
--- `told` is what the call tells: the status is 0 where that is an answer and else the number of the refusal, and
--- 0 is told of nothing but an answer. The lent numbers and bytes are the figures of the answer, or as they were.
--- What is told, and what is left in the answer, work and buffer bytes, has the promises of the wrapped call:
--- demand 1 (`answers`) and demand 2 (`right`). The exported question for primes has the contract `PrimeCall`, and
--- so its promise.
+-- `told` is what the call tells: the status is 0 where that is an answer and else the number of the refusal,
+-- and 0 is told of nothing but an answer. The lent numbers and bytes are the figures of the answer, or as
+-- they were. What is told, and what is left in the answer, work and buffer bytes, has the promises of the
+-- wrapped call: demand 1 (`answers`) and demand 2 (`right`). The exported question for primes has the
+-- contract `PrimeCall`, and so its promise.
 use Prim.Native.Nat.{ℕ}
 use mathlib.Core.Path.{_≡_}
 use mathlib.Core.Logic.{_↔_}
@@ -26,7 +26,8 @@ use Rattle.meaning.specs.FlatBytes.{bytesOfAll}
 use Rattle.meaning.specs.Exports.{statusOf, numberAfter, PowerTold, PowerExported, SetExported, wordOf}
 use Rattle.meaning.specs.Exports.{FreeExported, Filled, yesAfter, Question}
 use Rattle.theorems.specs.Answering.{periodNumbers, portionNumbers, setNumbers, freeNumbers}
-use Rattle.theorems.specs.Answering.{continueNumbers, irreducibleNumbers, Answered, Tells, RatingAnswers}
+use Rattle.theorems.specs.Answering.{continueNumbers, irreducibleNumbers, Answered, Tells}
+use Rattle.theorems.specs.Answering.{RatingAnswers}
 use Rattle.theorems.specs.Ratings.{GF, PeriodRight, PortionRight, SetRight, FreeAnswered, ContinueRight}
 
 pub record StatusTold {A : Type 0} (told : Result A) (status : ℕ) : Type 0 where

@@ -1,8 +1,9 @@
--- What is promised, as statements about the contracts of the calls, and nothing else: each is a named type with
--- all of its hypotheses, and `promises` of proofs/Promises.antt proves the record of them all.
+-- What is promised, as statements about the contracts of the calls, and nothing else: each is a named type
+-- with all of its hypotheses, and `promises` of proofs/Promises.antt proves the record of them all.
 --
 --   Answering        == demand 1: every call gives an answer or one of its numbered refusals, on every input
---   Ratings          == demand 2: the polynomial is the minimal polynomial; the repeat bound; the two questions
+--   Ratings          == demand 2: the polynomial is the minimal polynomial; the repeat bound; the two
+--                       questions
 --   CutAnywhere      == demand 3: the same polynomial wherever the stretch is cut
 --   Files            == route files, the reader, the program
 --   OtherLanguages   == the exported calls

@@ -1,5 +1,5 @@
--- Demand 2, as statements about the contracts of the calls: the polynomial is the minimal polynomial, or for a
--- portion alone the shortest recurrence. The signs are those of Promises.
+-- Demand 2, as statements about the contracts of the calls: the polynomial is the minimal polynomial, or for
+-- a portion alone the shortest recurrence. The signs are those of Promises.
 --
 --   Returns g told answer′ == the call returns g: it tells the degree of g, and the answer bytes begin with g
 --   …Answered        == what an answer of the way means: its figures, and the list in the answer bytes
@@ -8,7 +8,8 @@
 --   OneContinuation  == the first terms have exactly one continuation that the product annihilates
 --   NoneBegins       == no sequence that a polynomial annihilates begins with the terms
 --   BoundTold        == what the repeat bound that is told means; RepeatPromise: for any sequence
---   PrimeWords, IrreducibleWords == the tests for primes and irreducible polynomials are the words of the request
+--   PrimeWords, IrreducibleWords == the tests for primes and irreducible polynomials are the words of the
+--                                   request
 use Prim.Native.Nat.{ℕ, suc, _*_, _-_, _^_, _≤_, _<_}
 use mathlib.Core.Path.{_≡_}
 use mathlib.Core.Logic.{_⊎_, _↔_}
@@ -62,8 +63,8 @@ pub record BoundTold (p : ℕ) (f : Polynomial) (r b : ℕ) (s : Sequence) : Typ
   pub meaning : (isX f ≡ false) ⊎ (r ≡ 0) → BoundMeaning s b
 
 -- The period way: the power is the least that annihilates the endless repetition, and the polynomial returned
--- is the minimal polynomial of it. (In every way the degree is at most 4,096, so that the list has its place in
--- the 4,097 answer bytes: `small`.)
+-- is the minimal polynomial of it. (In every way the degree is at most 4,096, so that the list has its place
+-- in the 4,097 answer bytes: `small`.)
 pub record PeriodAnswered (p : ℕ) (f : Polynomial) (ts : List ℕ) (a : PowerFigures) (answer′ : List ℕ)
     : Type 0 where
   pub small : a .degree ≤ 4096
@@ -88,9 +89,9 @@ PeriodPromise =
 abbrev pub NoneBegins : ℕ → Polynomial → List ℕ → Type 0
 NoneBegins p g ts = (s : Sequence) → AnnihilatesEndless (GF p) g s → cut s 0 (length ts) ≡ ts → ⊥
 
--- The first D terms, D the total degree of the factors l with their upper powers, have exactly one continuation
--- that the product of l annihilates (`onward`): it is over the field, begins with these terms and is annihilated;
--- and there is no other.
+-- The first D terms, D the total degree of the factors l with their upper powers, have exactly one
+-- continuation that the product of l annihilates (`onward`): it is over the field, begins with these terms
+-- and is annihilated; and there is no other.
 pub record OneContinuation (p : ℕ) (l : List (Polynomial × ℕ)) (ts : List ℕ) : Type 0 where
   pub continues : Continues (GF p) (product (GF p) l) (take (totalDegree l) ts) (onward (GF p) l ts)
   pub only : (s : Sequence)
@@ -98,9 +99,9 @@ pub record OneContinuation (p : ℕ) (l : List (Polynomial × ℕ)) (ts : List �
       → (k : ℕ)
       → s k ≡ onward (GF p) l ts k
 
--- The portion way: the first terms have exactly one continuation that f^v annihilates, all the terms agree with
--- it, the power is the least that annihilates it and at most v, and the polynomial returned is its minimal
--- polynomial. The factor x is allowed.
+-- The portion way: the first terms have exactly one continuation that f^v annihilates, all the terms agree
+-- with it, the power is the least that annihilates it and at most v, and the polynomial returned is its
+-- minimal polynomial. The factor x is allowed.
 pub record PortionAnswered (p : ℕ) (f : Polynomial) (v : ℕ) (ts : List ℕ) (a : PowerFigures)
     (answer′ : List ℕ) : Type 0 where
   pub small : a .degree ≤ 4096
@@ -124,8 +125,8 @@ PortionPromise =
     → PortionCall p f v ts answer work r answer′ work′
     → PortionRight p f v ts (toldPower r) answer′
 
--- The set way: the same with several factors. Their powers stand in the eight places, each is at most its upper
--- power, and the polynomial returned is the product of the factors to these powers.
+-- The set way: the same with several factors. Their powers stand in the eight places, each is at most its
+-- upper power, and the polynomial returned is the product of the factors to these powers.
 pub record SetAnswered (p : ℕ) (fs : List Polynomial) (vs ts : List ℕ) (a : SetTold) (eight answer′ : List ℕ)
     : Type 0 where
   pub powers : List ℕ
