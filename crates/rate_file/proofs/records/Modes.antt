@@ -28,6 +28,7 @@ use Rattle.meaning.specs.Route.{Mode, periodMode, setMode, freeMode}
 use Rattle.meaning.specs.File.{WrittenFactor, polynomialOf, fileDegreeOutOfRange, fileNotMonic}
 use Rattle.meaning.specs.File.{ofPeriod, ofSet, ofFree, rateMode}
 use Rattle.meaning.specs.Answers.{numberOf}
+use Rattle.meaning.proofs.Passes.{Passes}
 use Rattle.bridge.proofs.Accepted.{prime-accepted}
 use Rattle.bridge.proofs.Interpretation.{IsField, inRange-isField}
 use Rattle.bridge.proofs.Searches.{none-at}
@@ -143,25 +144,27 @@ module _ (p : ℕ) (fs : List WrittenFactor) (ts : List ℕ) (answer work : ℕ)
 
         -- the factors are accepted too
         module _ (q : v ≡ Verdict.Accepted) (whole : AllWhole fs) where
-          passed : (ten ≡ false) × (eleven ≡ false)
-          unfolding writtenTable
-          passed = let h = verdict-passes (writtenTable p fs) ev q in (h .degreesInRange, h .monic)
+          passes : Passes (writtenTable p fs)
+          passes = verdict-passes (writtenTable p fs) ev q
 
           list-ten : holdsForSome (factorDegreeOutOfRange (prime p)) (map polynomialOf fs) ≡ false
-          list-ten = polynomials-ten (prime p) fs whole (passed .0)
+          unfolding writtenTable
+          list-ten = polynomials-ten (prime p) fs whole (passes .degreesInRange)
 
           list-eleven : holdsForSome (notMonic (prime p)) (map polynomialOf fs) ≡ false
-          list-eleven = polynomials-eleven (prime p) fieldExists fs whole (passed .0) (passed .1)
+          unfolding writtenTable
+          list-eleven =
+              polynomials-eleven (prime p) fieldExists fs whole (passes .degreesInRange) (passes .monic)
 
           pub period-way : (pick : Choice) → 1 ≤ length fs
               → rateMode pick periodMode p fs ts answer work
               ≡ ofPeriod (length ts) (ratePeriod p first ts answer work)
-          unfolding rateMode ratePeriod
+          unfolding rateMode ratePeriod writtenTable
           period-way pick low =
               let n : 0 < length (map polynomialOf fs) = rw length-map low in
               rw (
-                passed .0,
-                passed .1,
+                passes .degreesInRange,
+                passes .monic,
                 none-at (factorDegreeOutOfRange (prime p)) [] (map polynomialOf fs) 0 list-ten n,
                 none-at (notMonic (prime p)) [] (map polynomialOf fs) 0 list-eleven n,
               )
@@ -169,5 +172,5 @@ module _ (p : ℕ) (fs : List WrittenFactor) (ts : List ℕ) (answer work : ℕ)
           pub set-way : (pick : Choice)
               → rateMode pick setMode p fs ts answer work
               ≡ ofSet (length ts) (rateSet p (map polynomialOf fs) (map (λ f. f .upper) fs) ts answer work)
-          unfolding rateMode rateSet
-          set-way pick = rw (passed .0, passed .1, list-ten, list-eleven, named-map)
+          unfolding rateMode rateSet writtenTable
+          set-way pick = rw (passes .degreesInRange, passes .monic, list-ten, list-eleven, named-map)
