@@ -23,8 +23,8 @@ use Rattle.meaning.specs.Conditions.{named, totalDegree, notPrime, factorDegree
 use Rattle.meaning.specs.Conditions.{isReducible}
 use Rattle.meaning.specs.Power.{PowerFigures, repeatBound}
 use Rattle.meaning.specs.Period.{NoPower, periodPower, ratePeriod, periodAnswer, periodTable}
-use Rattle.meaning.specs.Portion.{acceptedFactors, factorTable, factorsOf, leastAt, onward, portionTable, ratePortion}
-use Rattle.meaning.specs.Portion.{SetFigures, setRating, setPowers, setTable, setAnswer, rateSet}
+use Rattle.meaning.specs.Portion.{acceptedFactors, factorTable, factorsOf, leastAt, onward, portionTable}
+use Rattle.meaning.specs.Portion.{ratePortion, SetFigures, setRating, setPowers, setTable, setAnswer, rateSet}
 use Rattle.meaning.specs.Free.{Choice, Fits, leastDegree, isUnique, freePolynomial, freeRating, freeTable}
 use Rattle.meaning.specs.Free.{rateFree, IsLeastDegree}
 use Rattle.meaning.specs.Answers.{SetTold, toldPower, toldSet, setFiguresTold, setPadded}
@@ -115,7 +115,8 @@ bound-told :
 bound-told p f x r b s inField min few e =
     let (small, P) = inRange-prime p (x .inRange) in
     let bits : b < 2 ^ 64 =
-    prime-repeatBound-bits p f r b (monic-nonempty (GF p) f (x .monic)) (prime-pos P) small (x .degreeInRange) few e in
+    prime-repeatBound-bits p f r b (monic-nonempty (GF p) f (x .monic)) (prime-pos P) small
+    (x .degreeInRange) few e in
     record {
       value = e;
       bits64 = bits;
@@ -396,7 +397,8 @@ free-promise pick p ts answer work r answer′ work′ c a e =
     let (g, s, t) = some-mapOption _ (freePolynomial pick p ts L) z in
     let I = inRange-isField p (prime-accepted p (h .fieldExists)) in
     let least = leastDegree-least I y in
-    let fits = free-fits p I pick ts L g least (c .chosen (h .fieldExists) (h .countInRange) (h .termsInField) L y) s in
+    let chosen = c .chosen (h .fieldExists) (h .countInRange) (h .termsInField) L y in
+    let fits = free-fits p I pick ts L g least chosen s in
     let back : listIn answer′ L ≡ g =
     subst (λ d. listIn answer′ d ≡ g) (fits .ofDegree)
     (written-returns g g answer answer′ (monic-nonempty (GF p) g (fits .monic)) refl

@@ -131,7 +131,8 @@ free-size pick p ts answer work chosen {b} e =
         let least = leastDegree-least (inRange-isField p (prime-accepted p (h .fieldExists))) l in
         by-fitting (least .fitting) h l (least .fits) (λ z. absurd (true≢false (sym u ∙ z)))
     go h l false u =
-        by-fitting (pick p ts) h l (chosen (h .fieldExists) (h .countInRange) (h .termsInField) L l u) (λ _. refl)
+        by-fitting (pick p ts) h l (chosen (h .fieldExists) (h .countInRange) (h .termsInField) L l u)
+        (λ _. refl)
 
 -- THE MODES
 period-map :
