@@ -42,7 +42,8 @@ module _ (p : ℕ) (g : Polynomial) (start : List ℕ) (place size : ℕ) {v : V
   pub continue-place : place ≤ size
   unfolding continueTable placeOutOfRange
   continue-place =
-      ltb-false size place (or-false (ltb size place) (countOutOfRange (size - place)) (passes .countInRange) .0)
+      ltb-false size place
+      (or-false (ltb size place) (countOutOfRange (size - place)) (passes .countInRange) .0)
 
   pub continue-accepted : {F : Field} → F ≡ prime p → Continuable F g start
   unfolding continueTable continuationDegreeOutOfRange startUnlikeDegree

@@ -3,8 +3,8 @@
 --
 --   holds n table     == a condition numbered n of the table holds
 --   before n table    == the conditions before the first that is numbered n
---   Passes table      == no condition of the table holds: `noneHolds` says it of the table, the other fields of
---                        one condition each. Of a condition that the table has not, a field says nothing
+--   Passes table      == no condition of the table holds: `noneHolds` says it of the table, each other field
+--                        of one condition. Of a condition that the table does not have it says nothing
 --   firstOf-passes    == so it is where the table decides nothing; accepted-passes == of accepted factors
 --   a & b & … & nothing == the same from what is known of each condition, in the order of the table
 --   firstOf-decides   == a table that decides by n: n holds, and no condition before it

@@ -66,7 +66,8 @@ zeros-passes : (p n : ℕ) (f : Polynomial) (answer work : ℕ)
     → lentTooShort answer work ≡ false
     → 1 ≤ n
     → n ≤ 4096
-    → Passes (periodTable p (factorDegreeOutOfRange (prime p) f) (notMonic (prime p) f) f (zeros n) answer work)
+    → Passes
+    (periodTable p (factorDegreeOutOfRange (prime p) f) (notMonic (prime p) f) f (zeros n) answer work)
 unfolding periodTable factorTable isNone
 zeros-passes p n f answer work h a l m =
     let q = accepted-passes p (f ∷ []) (1 ∷ []) h in

@@ -290,7 +290,8 @@ module _
         let result =
         stretch-answer p (product (GF p) l) g s annihilated (product-elements I l) constant minimal k m twice
         (length answer) (length work) pick
-        (accepts-free p (cut s k m) (length answer) (length work) (accepted-prime p fs vs accepted) t lent) in (
+        (accepts-free p (cut s k m) (length answer) (length work) (accepted-prime p fs vs accepted) t
+        lent) in (
           record { degree = degree g; unique = true },
           c .rating ∙ ap figuresOf result,
           written-returns g g answer answer′ (monic-nonempty (GF p) g (minimal .monic)) refl

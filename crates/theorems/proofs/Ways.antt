@@ -118,8 +118,8 @@ bound-told :
 bound-told p f x r b s inField min few e =
     let (small, P) = inRange-prime p (x .inRange) in
     let bits : b < 2 ^ 64 =
-    prime-repeatBound-bits p f r b (monic-nonempty (GF p) f (x .monic)) (prime-pos P) small (x .degreeInRange)
-    few e in
+    prime-repeatBound-bits p f r b (monic-nonempty (GF p) f (x .monic)) (prime-pos P) small
+    (x .degreeInRange) few e in
     record {
       value = e;
       bits64 = bits;
@@ -443,8 +443,8 @@ free-promise pick p ts answer work r answer′ work′ c a e =
     let (g, s, t) = some-mapOption _ (freePolynomial pick p ts L) z in
     let I = inRange-isField p (prime-accepted p (h .fieldExists)) in
     let least = leastDegree-least I y in
-    let fits =
-    free-fits p I pick ts L g least (c .chosen (h .fieldExists) (h .countInRange) (h .termsInField) L y) s in
+    let chosen = c .chosen (h .fieldExists) (h .countInRange) (h .termsInField) L y in
+    let fits = free-fits p I pick ts L g least chosen s in
     let back : listIn answer′ L ≡ g =
     subst (λ d. listIn answer′ d ≡ g) (fits .ofDegree)
     (written-returns g g answer answer′ (monic-nonempty (GF p) g (fits .monic)) refl

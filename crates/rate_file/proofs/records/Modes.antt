@@ -109,7 +109,8 @@ module _ (p : ℕ) (fs : List WrittenFactor) (ts : List ℕ) (answer work : ℕ)
     module _ (accepted : u ≡ Verdict.Accepted) where
       fieldExists : IsField (prime p)
       unfolding termsTable
-      fieldExists = inRange-isField p (prime-accepted p (verdict-passes (termsTable p ts) eu accepted .fieldExists))
+      fieldExists =
+          inRange-isField p (prime-accepted p (verdict-passes (termsTable p ts) eu accepted .fieldExists))
 
       -- the terms are accepted, and v is the verdict on the factors
       module _ {v : Verdict} (ev : numberIn v ≡ firstOf (writtenTable p fs)) where
