@@ -233,6 +233,19 @@ free-degree x m = go (x .unique) refl
     go true e = rw e
     go false e = rw e
 
+-- the degree that is told of a rated file
+rated-small :
+    (m : Mode) (rs : List RouteRecord) (a : FileTold) (eight answer′ : List ℕ)
+    → RatedBy m rs a eight answer′
+    → fileDegree a ≤ 4096
+rated-small periodMode rs a eight answer′ x =
+    subst (λ a. fileDegree a ≤ 4096) (sym (x .tells)) (x .rated .small)
+rated-small setMode rs a eight answer′ x =
+    subst (λ a. fileDegree a ≤ 4096) (sym (x .tells)) (x .rated .small)
+rated-small freeMode rs a eight answer′ x =
+    subst (λ a. fileDegree a ≤ 4096) (sym (x .tells))
+    (subst (λ d. d ≤ 4096) (sym (free-degree (x .figures) (length (termsOf rs)))) (x .rated .small))
+
 module _ (pick : Choice) (file answer work : List ℕ) (chosen : FileChosenFits pick file) where
   abbrev result : Result (Rated FileFigures)
   result = rateFile pick file (length answer) (length work)
@@ -262,18 +275,6 @@ module _ (pick : Choice) (file answer work : List ℕ) (chosen : FileChosenFits 
           lent = lent-after result answer work;
         },
       )
-
-  rated-small :
-      (m : Mode) (rs : List RouteRecord) (a : FileTold) (eight answer′ : List ℕ)
-      → RatedBy m rs a eight answer′
-      → fileDegree a ≤ 4096
-  rated-small periodMode rs a eight answer′ x =
-      subst (λ a. fileDegree a ≤ 4096) (sym (x .tells)) (x .rated .small)
-  rated-small setMode rs a eight answer′ x =
-      subst (λ a. fileDegree a ≤ 4096) (sym (x .tells)) (x .rated .small)
-  rated-small freeMode rs a eight answer′ x =
-      subst (λ a. fileDegree a ≤ 4096) (sym (x .tells))
-      (subst (λ d. d ≤ 4096) (sym (free-degree (x .figures) (length (termsOf rs)))) (x .rated .small))
 
   file-sized : Sized (λ a. fileDegree (fileFiguresTold a)) result (length answer) (length work)
   unfolding fileFiguresTold figuresOf mapResult
