@@ -23,11 +23,11 @@ answer-known (answered qs) rs h = ap answered (h .0)
 module _ (file : List ℕ) where
   walk-whole : AnswersWhole (walk file 0 atStart) (recordsFrom file 0)
   unfolding recordsFrom
-  walk-whole = walked-whole file _ (walk-walked file 0 atStart)
+  walk-whole = walked-whole file (walk file 0 atStart) (walk-walked file 0 atStart)
 
   pub records-whole : AnswersWhole (records file) (recordsFrom file 0)
   unfolding recordsFrom
-  records-whole = walked-whole file _ (bridge.records-walked file)
+  records-whole = walked-whole file (records file) (bridge.records-walked file)
 
   -- the records of an accepted file
   pub records-known : {v : Result (Unit {0})} → v ≡ verdictOf (records file)
