@@ -31,8 +31,8 @@ module _ (k : ℕ) where
     where
       go : AllWhole (bodies k rs) → (t : Bool) → eqb (r .kind) k ≡ t → AllWhole (bodies k (r ∷ rs))
       go rest true e =
-          rw (e, bodies)
-          (whole-cons (r .body) (bodies k rs) (sym (length-found (r .kind) (w .0)) ∙ ap bodyLength (eqb-true (r .kind) k e)) rest)
+          let n = sym (length-found (r .kind) (w .0)) ∙ ap bodyLength (eqb-true (r .kind) k e) in
+          rw (e, bodies) (whole-cons (r .body) (bodies k rs) n rest)
       go rest false e = rw (e, bodies) rest
 
 module _ (file : List ℕ) (accepted : answered tt ≡ verdictOf (records file)) where

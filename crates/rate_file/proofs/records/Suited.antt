@@ -3,7 +3,7 @@
 use Prim.Native.Nat.{ℕ, _≤_, _<_}
 use native.Mathlib.Decide.{decLt, ℕ-discrete}
 use native.Mathlib.Omega.{arith}
-use mathlib.Core.Path.{_≡_, refl, _∙_}
+use mathlib.Core.Path.{_≡_, refl, sym, ap, _∙_}
 use mathlib.Core.Bool.{false, true≢false}
 use mathlib.Core.List.{List}
 use mathlib.Core.Option.{Option, none, some}
@@ -56,7 +56,7 @@ module _ (pick : Choice) (file : List ℕ) (answer work : ℕ) {mode : ℕ}
 
   rated-by : (m : Mode) → modeOf mode ≡ some m → By m
   unfolding factorsIn
-  rated-by m e = known-mode pick (recordsFrom file 0) answer work (rw (← mode-is) e)
+  rated-by m e = known-mode pick (recordsFrom file 0) answer work (sym (ap modeOf mode-is) ∙ e)
 
   pub by-period : mode ≡ 1 → By periodMode
   unfolding modeOf lookUp
