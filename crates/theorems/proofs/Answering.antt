@@ -63,8 +63,8 @@ use Rattle.bridge.proofs.FileRatings.{period-size, set-size, free-size}
 use Rattle.theorems.specs.Ratings.{GF}
 use Rattle.theorems.specs.Answering.{periodNumbers, portionNumbers, setNumbers, freeNumbers}
 use Rattle.theorems.specs.Answering.{continueNumbers, irreducibleNumbers, Answered, Tells}
-use Rattle.theorems.specs.Answering.{PeriodAnswers, PortionAnswers, SetAnswers, FreeAnswers, ContinueAnswers}
-use Rattle.theorems.specs.Answering.{IrreducibleAnswers, PrimeAnswers}
+use Rattle.theorems.specs.Answering.{PeriodAnswers, PortionAnswers, SetAnswers, FreeAnswers}
+use Rattle.theorems.specs.Answering.{ContinueAnswers, IrreducibleAnswers, PrimeAnswers}
 use Rattle.theorems.proofs.Ways.{one-total, period-promise, portion-promise, set-promise, free-promise}
 use Rattle.theorems.proofs.Telling.{settle-tells, map-tells, Listed, meets, Sized, lent-after}
 use Rattle.theorems.proofs.Telling.{rating-answers}
