@@ -1,4 +1,4 @@
--- Laws of the natural numbers: remainders of products, least numbers, primes, Euclid's lemma, bytes.
+-- Laws of the natural numbers: remainders of products, least numbers, primes, Euclid's lemma.
 --
 --   mul-mod          == a * b % m = (a % m) * (b % m) % m; for m = 0 the remainder of a is a
 --   Least P n        == n has the property P and no smaller number has it
@@ -13,7 +13,6 @@
 --   prime-inverse    == a prime p that does not divide a: some x with a * x = 1 modulo p
 --   euclid           == Euclid's lemma: a prime that divides a product divides a factor
 --   split-power      == N > 0 is p^w * M with p not dividing M, for p > 1
---   number-below     == a number of i bytes, continued by one byte, is below 256^(i + 1)
 --
 -- "a divides b" is `a ∣ b` of the native library; `b % a ≡ 0` says the same.
 --
@@ -52,7 +51,6 @@ use native.Mathlib.Nat.{
 }
 use native.Mathlib.Decide.{decLt, decDvd}
 use native.Mathlib.Omega.{arith}
-use lib.Pow.{pow-add}
 
 -- Remainders
 pub mul-mod-mod : (a b m : ℕ) → a * (b % m) % m ≡ a * b % m
@@ -218,9 +216,3 @@ split-bounded p l (suc b) N k s = elim (decDvd p N) [
 
 pub split-power : (p : ℕ) → 1 < p → (N : ℕ) → 0 < N → (w M : ℕ) × (N ≡ p ^ w * M) × ¬ (p ∣ M)
 split-power p l N s = split-bounded p l N N (le-refl N) s
-
--- Numbers of several bytes
-pub number-below : (n b i : ℕ) → n < 2 ^ (8 * i) → b < 256 → 256 * n + b < 2 ^ (8 * (i + 1))
-number-below n b i h hb =
-    let e : 2 ^ (8 * (i + 1)) ≡ 2 ^ (8 * i) * 2 ^ 8 = ap (λ k. 2 ^ k) (omega arith) ∙ pow-add 2 (8 * i) 8 in
-    omega arith

@@ -97,6 +97,14 @@ enough-accepted d ts h =
     let b : ¬ (length ts < d) = λ l. false-T h (lt→ltb (length ts) d l) in
     omega arith
 
+pub lent-enough : (answer work : ℕ) → lentTooShort answer work ≡ false → (4097 ≤ answer) × (8192 ≤ work)
+unfolding lentTooShort
+lent-enough answer work h =
+    let z = or-false (ltb answer 4097) (ltb work 8192) h in
+    let a : ¬ (answer < 4097) = λ l. false-T (z .0) (lt→ltb answer 4097 l) in
+    let b : ¬ (work < 8192) = λ l. false-T (z .1) (lt→ltb work 8192 l) in
+    (omega arith, omega arith)
+
 pub total-accepted : (l : List (Polynomial × ℕ)) → upperPowersOutOfRange l ≡ false → totalDegree l ≤ 4096
 unfolding upperPowersOutOfRange
 total-accepted l h =

@@ -5,7 +5,8 @@
 --   actAt-below    == it is an element of the field; no condition
 --   actAt-zero, zero-actAt == it is 0 exactly where the action of the polynomial is
 --   actAt-times    == a product acts as its factors one after the other; no condition
---   actAt-scale, actAt-sequence-add, actAt-sequence-scale == of multiples, and of sums and multiples of sequences
+--   actAt-scale, actAt-sequence-add, actAt-sequence-scale == of multiples, and of sums and multiples of
+--                     sequences
 --   actAt-local    == the action at place k depends on the terms from k on alone, as many as the list has
 --   actStride F g q s k == c0·s(k) + c1·s(k+q) + c2·s(k+2q) + …, the action with the stride q; it is that of
 --                     the list spread q places apart by `actAt-spread`

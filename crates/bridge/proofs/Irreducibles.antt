@@ -13,7 +13,8 @@
 --   irreducible-constant == an irreducible list other than x has a constant term other than 0, so that
 --                        `irreducible-x` tells x by its constant term
 --   Factors F fs      == monic irreducible lists of positive degree, no two of them equal
---   reducible-asked   == 12 of a factor that 6, 10 and 11 let pass; unasked-by-six, … == of one that they do not
+--   reducible-asked   == 12 of a factor that 6, 10 and 11 let pass; unasked-by-six, … == of one that they do
+--                        not
 --   accepted-factors  == factors that 6 and 10 to 13 let pass are so; `accepted-different` says it of the
 --                        factors that `acceptedFactors` accepts
 --   factors-atoms     == and their polynomials are coprime atoms

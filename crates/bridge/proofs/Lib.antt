@@ -24,3 +24,4 @@ pub mod Accepted
 pub mod Records
 pub mod WrittenFactors
 pub mod FileRatings
+pub mod Bytes

@@ -9,6 +9,7 @@
 --   InvertsPrimes inverse == the function inverts in GF(p) for every prime in range
 --   masseyChoice inverse == the choice of the free way: the polynomial of the model
 --   massey-chosen    == it fits wherever the free way answers `some`
+--   choice-exists    == some choice fits on every input
 --   massey-answer    == the answer of the free way is the polynomial of the model, under both words
 --
 -- No condition on the terms is needed: a number beyond the field stands for its element.
@@ -17,12 +18,14 @@ use Prim.Native.Nat.{ℕ, zero, suc, _+_, _*_, _-_, _≤_, _<_}
 use mathlib.Core.Path.{_≡_, refl, sym, ap, ap₂, subst, subst₂, subst₃, _∙_}
 use mathlib.Core.Logic.{_≢_}
 use mathlib.Core.List.{List, [], _∷_, _++_}
-use mathlib.Core.Option.{some, Option·some-injective}
+use mathlib.Core.Option.{Option, none, some, Option·some-injective}
 use native.Mathlib.Decide.{decLt, ℕ-discrete}
+use native.Mathlib.Nat.{le-of-lt}
 use native.Mathlib.Omega.{arith}
 use lib.ListN.{length, getD, take, drop, take-append-drop, List·getD-eq-default}
 use lib.Seq.{length-take-le}
-use lib.Dec.{T}
+use lib.Dec.{T, eqb, eqb→eq, eqb-refl}
+use Rattle.meaning.specs.Search.{least}
 use Rattle.meaning.specs.Field.{Field, prime, primeInRange, areElements}
 use Rattle.meaning.specs.Polynomial.{degree, isMonicOver, plus, scale}
 use Rattle.meaning.specs.Sequence.{actAt, known}
@@ -39,9 +42,11 @@ use Rattle.algebra.proofs.Action.{act, act-add, act-one, act-x-power-mul}
 use Rattle.algebra.proofs.MasseyStep.{shift, State, start, step-same}
 use Rattle.algebra.proofs.MasseyStep.{discrepancy as algebra-discrepancy}
 use Rattle.algebra.proofs.MasseyStep.{step-kept as algebra-kept, step-changed as algebra-changed}
-use Rattle.bridge.proofs.Searches.{not-false}
+use Rattle.bridge.proofs.Searches.{not-false, least-none, least-some}
 use Rattle.bridge.proofs.Interpretation.{IsField, inRange-isField, element-add, element-mul}
-use Rattle.bridge.proofs.Interpretation.{element-negative, element-nonzero}
+use Rattle.bridge.proofs.Interpretation.{element-negative, element-nonzero, reciprocal}
+use Rattle.bridge.proofs.Interpretation.{reciprocal-below}
+use Rattle.bridge.proofs.Interpretation.{number-mul-reciprocal}
 use Rattle.bridge.proofs.Interpretation.{add-below, mul-below, size-two}
 use Rattle.bridge.proofs.Polynomials.{Poly, polyRing, poly, poly-nil, poly-one, poly-cons, poly-plus}
 use Rattle.bridge.proofs.Polynomials.{poly-scale, coefficient-poly, length-scale, elements-nil}
@@ -443,3 +448,27 @@ module _ (inverse : Field → ℕ → ℕ) (v : InvertsPrimes inverse) (p : ℕ)
       (massey-least I (inverse (prime p)) (v p q) ts)
       (massey-fits I (inverse (prime p)) (v p q) ts)
       (λ _. refl)
+
+-- Some choice fits on every input: that of the model, with inverses found by trying all numbers.
+tried : Field → ℕ → ℕ
+tried F a = elim (least (F .size) (λ b. eqb ((F .mul) a b) 1)) [ none ↦ 0 | some b ↦ b ]
+
+tried-inverts : InvertsPrimes tried
+unfolding tried
+tried-inverts p q a l h = go (least (prime p .size) (λ b. eqb ((prime p .mul) a b) 1)) refl
+  where
+    go :
+        (o : Option ℕ)
+        → least (prime p .size) (λ b. eqb ((prime p .mul) a b) 1) ≡ o
+        → (prime p .mul) a (elim o [ none ↦ 0 | some b ↦ b ]) ≡ 1
+    go none e =
+        let I = inRange-isField p q in
+        absurd
+        (least-none (prime p .size) (λ b. eqb ((prime p .mul) a b) 1) e (reciprocal I a)
+        (le-of-lt (reciprocal-below I a))
+        (subst (λ n. T (eqb n 1)) (sym (number-mul-reciprocal I l h)) (eqb-refl 1)))
+    go (some b) e =
+        eqb→eq _ _ (least-some (prime p .size) (λ b. eqb ((prime p .mul) a b) 1) e .1 .holds)
+
+pub choice-exists : (pick : Choice) × ((p : ℕ) (ts : List ℕ) → ChosenFits pick p ts)
+choice-exists = (masseyChoice tried, λ p ts. massey-chosen tried tried-inverts p ts)

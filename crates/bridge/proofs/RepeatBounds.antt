@@ -30,7 +30,10 @@ use Rattle.meaning.specs.Polynomial.{Polynomial, degree, isMonicOver, power, ir
 use Rattle.meaning.specs.Sequence.{Sequence, InField, actAt, AnnihilatesEndless, LeastPeriod}
 use Rattle.meaning.specs.Conditions.{degreeOutOfRange, factorDegreeOutOfRange}
 use Rattle.meaning.specs.Power.{isX, repeatBound, BoundMeaning}
-use Rattle.algebra.proofs.Number.{least-below}
+use Rattle.meaning.specs.Portion.{acceptedFactors, factorTable}
+use Rattle.meaning.proofs.Tables.{of-one}
+use Rattle.meaning.proofs.Passes.{accepted-passes}
+use Rattle.algebra.proofs.Number.{prime-pos, least-below}
 use Rattle.algebra.proofs.Power.{power as algebra-power}
 use Rattle.algebra.proofs.Polynomial.{X}
 use Rattle.algebra.proofs.Action.{Kills}
@@ -38,12 +41,12 @@ use Rattle.algebra.proofs.Cut.{Periodic}
 use Rattle.algebra.proofs.Order.{LeastPeriod as AlgebraLeastPeriod, power-least-period, constant-least-period}
 use Rattle.bridge.proofs.Searches.{T-true, true-T, false-T, least-found}
 use Rattle.bridge.proofs.Searches.{mapOption-some, some-mapOption, least-some, LeastPasses}
-use Rattle.bridge.proofs.Interpretation.{IsField, element-injective, elements}
+use Rattle.bridge.proofs.Interpretation.{IsField, element-injective, elements, inRange-prime}
 use Rattle.bridge.proofs.Interpretation.{prime-size, prime-characteristic-number}
-use Rattle.bridge.proofs.Polynomials.{polyRing, poly, poly-x, monic-equal}
+use Rattle.bridge.proofs.Polynomials.{monic-nonempty, polyRing, poly, poly-x, monic-equal}
 use Rattle.bridge.proofs.Products.{poly-power, power-zero-list}
 use Rattle.bridge.proofs.Actions.{sequence, endless-kills, actAt-one}
-use Rattle.bridge.proofs.Irreducibles.{irreducible-poly, equal-isX}
+use Rattle.bridge.proofs.Irreducibles.{accepted-prime, accepted-different, irreducible-poly, equal-isX}
 use Rattle.bridge.proofs.Irreducibles.{x-monic, accepted-degree}
 
 pub record Level (p r t : ℕ) : Type 0 where
@@ -318,6 +321,21 @@ prime-repeatBound-bits p f r b l c k =
     (subst (λ n. n ≤ 251) (sym (prime-characteristic-number p)) k)
     (subst (λ n. 0 < n) (sym (prime-size p)) c)
     (subst (λ n. n ≤ 251) (sym (prime-size p)) k)
+
+-- for a factor that is accepted
+pub accepted-repeatBound-bits :
+    (p : ℕ) (f : Polynomial) (u r b : ℕ)
+    → T (acceptedFactors p (f ∷ []) (u ∷ []))
+    → r * degree f ≤ 4096
+    → repeatBound (prime p) f r ≡ some b
+    → b < 2 ^ 64
+unfolding factorTable
+accepted-repeatBound-bits p f u r b h =
+    let (k, P) = inRange-prime p (accepted-prime p (f ∷ []) (u ∷ []) h) in
+    prime-repeatBound-bits p f r b
+    (monic-nonempty (prime p) f (accepted-different p (f ∷ []) (u ∷ []) h .monic 0 (omega arith)))
+    (prime-pos P) k
+    (of-one (factorDegreeOutOfRange (prime p)) f (accepted-passes p (f ∷ []) (u ∷ []) h .degreesInRange))
 
 pub prime-repeatBound-value :
     (p : ℕ) (f : Polynomial) {r t : ℕ}

@@ -13,7 +13,7 @@ ghost use Rattle.meaning.specs.Calls.{SetCall};
 ghost use Rattle.meaning.specs.FlatBytes.{split, numbersOf};
 ghost use Rattle.meaning.specs.Exports.{SetExported};
 
-// The set way with the lengths of the joined factors and their upper powers as numbers in bytes. Nine factors
+// The set way with the lengths of the flat factors and their upper powers as numbers in bytes. Nine factors
 // are refused whatever they are, so nine numbers of each are all that is looked at.
 fn rate_numbered_set(
     p: u64,

@@ -1,5 +1,5 @@
-// The set way with its factors joined in one slice of bytes, one after another without gaps, and their
-// lengths apart. Nothing is copied: the factors that are rated are parts of that slice.
+// The set way with its factors flat: one after another without gaps in one slice of bytes, and their lengths
+// apart. Nothing is copied: the factors that are rated are parts of that slice.
 use lent::smaller;
 use meaning::SetRating;
 use rate_set::rate_set;
@@ -28,11 +28,11 @@ fn part_end(size: usize, from: usize, lengths: &[u64], i: usize) -> usize
     }
 }
 
-// Factor i of the joined bytes; the empty part where there is no length for it.
-fn factor_at<'a>(joined: &'a [u8], lengths: &[u64], i: usize) -> &'a [u8]
-    ensures { λ r. ⌜ now r ≡ getD (split (now (joined .entry)) (now (lengths .entry))) i [] ⌝ }
+// Factor i of the flat bytes; the empty part where there is no length for it.
+fn factor_at<'a>(flat: &'a [u8], lengths: &[u64], i: usize) -> &'a [u8]
+    ensures { λ r. ⌜ now r ≡ getD (split (now (flat .entry)) (now (lengths .entry))) i [] ⌝ }
 {
-    let size = joined.len();
+    let size = flat.len();
     let mut from = 0;
     // part i is part i − j of the bytes from `from` on, cut by the lengths from j on
     let mut j = 0;
@@ -41,33 +41,33 @@ fn factor_at<'a>(joined: &'a [u8], lengths: &[u64], i: usize) -> &'a [u8]
         j += 1;
     }
     let end = part_end(size, from, lengths, i);
-    &joined[from..end]
+    &flat[from..end]
 }
 
-// The call `rate_set` with the factors that are joined, for any number of lengths and any lengths: nine factors
-// are turned down like any greater number of them. It leaves all lent bytes as that call does.
+// The call `rate_set` with flat factors, for any number of lengths and any lengths: nine factors are turned
+// down like any greater number of them. It leaves all lent bytes as that call does.
 pub fn rate_concatenated(
     p: u64,
-    joined: &[u8],
+    flat: &[u8],
     lengths: &[u64],
     uppers: &[u64],
     terms: &[u8],
     answer: &mut [u8],
     work: &mut [u8],
 ) -> SetRating
-    ensures { λ r. ⌜ SetCall p (split (now (joined .entry)) (now (lengths .entry))) (now (uppers .entry))
+    ensures { λ r. ⌜ SetCall p (split (now (flat .entry)) (now (lengths .entry))) (now (uppers .entry))
         (now (terms .entry)) (now (answer .entry)) (now (work .entry)) r (now (answer .exit))
         (now (work .exit)) ⌝ }
 {
-    let a = factor_at(joined, lengths, 0);
-    let b = factor_at(joined, lengths, 1);
-    let c = factor_at(joined, lengths, 2);
-    let d = factor_at(joined, lengths, 3);
-    let e = factor_at(joined, lengths, 4);
-    let f = factor_at(joined, lengths, 5);
-    let g = factor_at(joined, lengths, 6);
-    let h = factor_at(joined, lengths, 7);
-    let i = factor_at(joined, lengths, 8);
+    let a = factor_at(flat, lengths, 0);
+    let b = factor_at(flat, lengths, 1);
+    let c = factor_at(flat, lengths, 2);
+    let d = factor_at(flat, lengths, 3);
+    let e = factor_at(flat, lengths, 4);
+    let f = factor_at(flat, lengths, 5);
+    let g = factor_at(flat, lengths, 6);
+    let h = factor_at(flat, lengths, 7);
+    let i = factor_at(flat, lengths, 8);
     let parts = [a, b, c, d, e, f, g, h, i];
     let count = smaller(lengths.len(), 9);
     rate_set(p, &parts[0..count], uppers, terms, answer, work)

@@ -48,8 +48,10 @@ use Rattle.bridge.proofs.Remainders.{
   number-negative-zero,
 }
 use Rattle.irreducible.specs.trial_division.Word.{value, Below, below-nil, below-cons}
-use Rattle.irreducible.specs.trial_division.Trial.{turned, remainder, divides, dividesAt, dividesSome, hasDivisor}
-use Rattle.irreducible.proofs.trial_division.Word.{digits-value, digits-below, value-below, take-below, drop-below}
+use Rattle.irreducible.specs.trial_division.Trial.{turned, remainder, divides, dividesAt, dividesSome}
+use Rattle.irreducible.specs.trial_division.Trial.{hasDivisor}
+use Rattle.irreducible.proofs.trial_division.Word.{digits-value, digits-below, value-below, take-below}
+use Rattle.irreducible.proofs.trial_division.Word.{drop-below}
 use Rattle.irreducible.proofs.trial_division.Remainder.{length-remainder}
 
 -- Elements and digits below the size

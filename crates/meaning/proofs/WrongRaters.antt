@@ -34,22 +34,22 @@ abbrev x³+x+1 : Polynomial
 x³+x+1 = 1 ∷ 1 ∷ 0 ∷ 1 ∷ []
 
 -- what a wrong rater answers on row A or B; the bytes afterwards may be any
-abbrev AnswersA : PowerRating → Type 0
-AnswersA r = (answer′ work′ : List ℕ) → PortionCall 2 x³+x+1 6 termsA answer work r answer′ work′ → ⊥
+abbrev WrongOnA : PowerRating → Type 0
+WrongOnA r = (answer′ work′ : List ℕ) → PortionCall 2 x³+x+1 6 termsA answer work r answer′ work′ → ⊥
 
-abbrev AnswersB : PowerRating → Type 0
-AnswersB r = (answer′ work′ : List ℕ) → PeriodCall 2 x+1 (0 ∷ 0 ∷ 0 ∷ 1 ∷ []) answer work r answer′ work′ → ⊥
+abbrev WrongOnB : PowerRating → Type 0
+WrongOnB r = (answer′ work′ : List ℕ) → PeriodCall 2 x+1 (0 ∷ 0 ∷ 0 ∷ 1 ∷ []) answer work r answer′ work′ → ⊥
 
 pub record WrongRaters : Type 0 where
   -- finds the top digit of r − 1 = 11 (base 2) and invents the other
-  pub top-digit-only : AnswersA (PowerRating.Rated 3 9 28)
+  pub top-digit-only : WrongOnA (PowerRating.Rated 3 9 28)
   -- returns f^v
-  pub upper-power : AnswersA (PowerRating.Rated 6 18 56)
-  pub invented-power : AnswersB (PowerRating.Rated 3 3 4)
-  pub invented-bound : AnswersB (PowerRating.Rated 4 4 5)
-  pub seventeen-for-all : AnswersB (PowerRating.Refused Refusal.NotAnnihilated)
-  pub one-for-all : AnswersB (PowerRating.Rated 0 0 1)
-  pub refuses-all : AnswersB (PowerRating.Refused Refusal.NotPrime)
+  pub upper-power : WrongOnA (PowerRating.Rated 6 18 56)
+  pub invented-power : WrongOnB (PowerRating.Rated 3 3 4)
+  pub invented-bound : WrongOnB (PowerRating.Rated 4 4 5)
+  pub seventeen-for-all : WrongOnB (PowerRating.Refused Refusal.NotAnnihilated)
+  pub one-for-all : WrongOnB (PowerRating.Rated 0 0 1)
+  pub refuses-all : WrongOnB (PowerRating.Refused Refusal.NotPrime)
   -- tells the right figures and writes nothing, or something else
   pub nothing-written : (work′ : List ℕ)
       → PeriodCall 2 x+1 (0 ∷ 0 ∷ 0 ∷ 1 ∷ []) answer work (PowerRating.Rated 4 4 4) answer work′
@@ -112,27 +112,27 @@ abbrev SetA : SetOutcome → List ℕ → List ℕ → List ℕ → Type 0
 SetA o eight answer′ work′ =
     SetCall 2 (x³+x+1 ∷ []) (6 ∷ []) termsA answer work (record { outcome = o; powers = eight }) answer′ work′
 
-abbrev AnswersSetA : SetOutcome → List ℕ → Type 0
-AnswersSetA o eight = (answer′ work′ : List ℕ) → SetA o eight answer′ work′ → ⊥
+abbrev WrongSetOnA : SetOutcome → List ℕ → Type 0
+WrongSetOnA o eight = (answer′ work′ : List ℕ) → SetA o eight answer′ work′ → ⊥
 
-abbrev AnswersSetK : SetOutcome → List ℕ → Type 0
-AnswersSetK o eight =
+abbrev WrongSetOnK : SetOutcome → List ℕ → Type 0
+WrongSetOnK o eight =
     (answer′ work′ : List ℕ)
     → SetCall 2 (x+1 ∷ x²+x+1 ∷ []) (1 ∷ 1 ∷ []) (0 ∷ 1 ∷ 1 ∷ []) answer work
     (record { outcome = o; powers = eight }) answer′ work′
     → ⊥
 
 pub record WrongSets : Type 0 where
-  pub top-digit-only : AnswersSetA (SetOutcome.Rated 9 1) (first 3)
+  pub top-digit-only : WrongSetOnA (SetOutcome.Rated 9 1) (first 3)
   -- returns the product of the upper powers
-  pub upper-powers : AnswersSetA (SetOutcome.Rated 18 1) (first 6)
-  pub both-upper-powers : AnswersSetK (SetOutcome.Rated 3 2) (1 ∷ first 1)
+  pub upper-powers : WrongSetOnA (SetOutcome.Rated 18 1) (first 6)
+  pub both-upper-powers : WrongSetOnK (SetOutcome.Rated 3 2) (1 ∷ first 1)
   -- tells another power beside the right degree; the powers in the other order
-  pub invented-power : AnswersSetA (SetOutcome.Rated 12 1) (first 5)
-  pub powers-exchanged : AnswersSetK (SetOutcome.Rated 2 2) (1 ∷ replicate 7 0)
-  pub seventeen-for-all : AnswersSetA (SetOutcome.Refused Refusal.NotAnnihilated) eightZeros
-  pub one-for-all : AnswersSetA (SetOutcome.Rated 0 1) eightZeros
-  pub refuses-all : AnswersSetA (SetOutcome.Refused Refusal.NotPrime) eightZeros
+  pub invented-power : WrongSetOnA (SetOutcome.Rated 12 1) (first 5)
+  pub powers-exchanged : WrongSetOnK (SetOutcome.Rated 2 2) (1 ∷ replicate 7 0)
+  pub seventeen-for-all : WrongSetOnA (SetOutcome.Refused Refusal.NotAnnihilated) eightZeros
+  pub one-for-all : WrongSetOnA (SetOutcome.Rated 0 1) eightZeros
+  pub refuses-all : WrongSetOnA (SetOutcome.Refused Refusal.NotPrime) eightZeros
   pub nothing-written : (work′ : List ℕ) → SetA (SetOutcome.Rated 12 1) (first 4) answer work′ → ⊥
   pub work-not-cleared : (answer′ : List ℕ) → SetA (SetOutcome.Rated 12 1) (first 4) answer′ work → ⊥
   pub refused-and-written : (answer′ work′ : List ℕ)
@@ -168,16 +168,16 @@ abbrev FileOf : List ℕ → FileOutcome → List ℕ → List ℕ → List ℕ 
 FileOf file o eight answer′ work′ =
     FileCall square file answer work (record { sender = 7; outcome = o; powers = eight }) answer′ work′
 
-abbrev AnswersFile : List ℕ → FileOutcome → List ℕ → Type 0
-AnswersFile file o eight = (answer′ work′ : List ℕ) → FileOf file o eight answer′ work′ → ⊥
+abbrev WrongOnFile : List ℕ → FileOutcome → List ℕ → Type 0
+WrongOnFile file o eight = (answer′ work′ : List ℕ) → FileOf file o eight answer′ work′ → ⊥
 
 pub record WrongFiles : Type 0 where
-  pub top-digit-only : AnswersFile fileA (FileOutcome.Powers 9 18 1) (first 3)
-  pub upper-powers : AnswersFile fileA (FileOutcome.Powers 18 18 1) (first 6)
-  pub invented-power : AnswersFile fileA (FileOutcome.Powers 12 18 1) (first 5)
-  pub seventeen-for-all : AnswersFile fileA (FileOutcome.Refused Refusal.NotAnnihilated) eightZeros
-  pub one-for-all : AnswersFile fileA (FileOutcome.Powers 0 18 1) eightZeros
-  pub refuses-all : AnswersFile fileA (FileOutcome.Refused Refusal.ModeUnsuited) eightZeros
+  pub top-digit-only : WrongOnFile fileA (FileOutcome.Powers 9 18 1) (first 3)
+  pub upper-powers : WrongOnFile fileA (FileOutcome.Powers 18 18 1) (first 6)
+  pub invented-power : WrongOnFile fileA (FileOutcome.Powers 12 18 1) (first 5)
+  pub seventeen-for-all : WrongOnFile fileA (FileOutcome.Refused Refusal.NotAnnihilated) eightZeros
+  pub one-for-all : WrongOnFile fileA (FileOutcome.Powers 0 18 1) eightZeros
+  pub refuses-all : WrongOnFile fileA (FileOutcome.Refused Refusal.ModeUnsuited) eightZeros
   pub nothing-written : (work′ : List ℕ)
       → FileOf fileA (FileOutcome.Powers 12 18 1) (first 4) answer work′
       → ⊥
@@ -185,9 +185,9 @@ pub record WrongFiles : Type 0 where
       → FileOf fileA (FileOutcome.Powers 12 18 1) (first 4) answer′ work
       → ⊥
   -- the word, the number of terms and the box
-  pub some-for-one : AnswersFile fileH (FileOutcome.Several 1 2) eightZeros
-  pub one-for-some : AnswersFile fileI (FileOutcome.Unique 2 2) eightZeros
-  pub terms-miscounted : AnswersFile fileA (FileOutcome.Powers 12 17 1) (first 4)
+  pub some-for-one : WrongOnFile fileH (FileOutcome.Several 1 2) eightZeros
+  pub one-for-some : WrongOnFile fileI (FileOutcome.Unique 2 2) eightZeros
+  pub terms-miscounted : WrongOnFile fileA (FileOutcome.Powers 12 17 1) (first 4)
   pub box-forgotten : (answer′ work′ : List ℕ)
       → FileCall square fileA answer work
       (record { sender = 0; outcome = FileOutcome.Powers 12 18 1; powers = first 4 }) answer′ work′
@@ -230,21 +230,21 @@ wrong-files =
 -- THE PROGRAM, on the file of row A: it prints the line `7 ok 12/18 4`. A wrong program prints another, and
 -- then anything
 
-abbrev PrintsA : List ℕ → Type 0
-PrintsA front = (rest : List ℕ) → ProgramCall square fileA (front ++ rest) → ⊥
+abbrev WrongLinesOnA : List ℕ → Type 0
+WrongLinesOnA front = (rest : List ℕ) → ProgramCall square fileA (front ++ rest) → ⊥
 
 pub record WrongPrograms : Type 0 where
-  pub top-digit-only : PrintsA (text "box result density powers\n7 ok 9/18 3\n")
-  pub upper-powers : PrintsA (text "box result density powers\n7 ok 18/18 6\n")
-  pub invented-power : PrintsA (text "box result density powers\n7 ok 12/18 5\n")
-  pub seventeen-for-all : PrintsA (text "box result density powers\n7 refused 17\n")
-  pub one-for-all : PrintsA (text "box result density powers\n7 ok 0/18 0\npoly 1\n")
-  pub refuses-all : PrintsA (text "box result density powers\n7 refused 6\n")
+  pub top-digit-only : WrongLinesOnA (text "box result density powers\n7 ok 9/18 3\n")
+  pub upper-powers : WrongLinesOnA (text "box result density powers\n7 ok 18/18 6\n")
+  pub invented-power : WrongLinesOnA (text "box result density powers\n7 ok 12/18 5\n")
+  pub seventeen-for-all : WrongLinesOnA (text "box result density powers\n7 refused 17\n")
+  pub one-for-all : WrongLinesOnA (text "box result density powers\n7 ok 0/18 0\npoly 1\n")
+  pub refuses-all : WrongLinesOnA (text "box result density powers\n7 refused 6\n")
   pub nothing-written : ProgramCall square fileA [] → ⊥
   -- the coefficients leading first; the density turned
-  pub leading-first : PrintsA
+  pub leading-first : WrongLinesOnA
       (text "box result density powers\n7 ok 12/18 4\npoly 1 0 0 0 0 0 0 0 1 0 0 0 1\n")
-  pub density-turned : PrintsA (text "box result density powers\n7 ok 18/12 4\n")
+  pub density-turned : WrongLinesOnA (text "box result density powers\n7 ok 18/12 4\n")
 
 pub wrong-programs : WrongPrograms
 unfolding computed at

@@ -26,7 +26,8 @@ use Rattle.powers.specs.declared.levels.Level.{Level}
 use Rattle.powers.specs.levels.Levels.{Dividing}
 use Rattle.lent.specs.halves.Halves.{half, Halves, Placed, Acted}
 use Rattle.powers.specs.digit_search.Searching.{Searchable, Searched}
-use Rattle.lent.proofs.halves.Bytes.{half-length, half-cut, placed-same, placed-kept, kept-trans, cleared-kept}
+use Rattle.lent.proofs.halves.Bytes.{half-length, half-cut, placed-same, placed-kept, kept-trans}
+use Rattle.lent.proofs.halves.Bytes.{cleared-kept}
 use Rattle.period_way.specs.declared.Found.{Found}
 use Rattle.period_way.specs.declared.Found.the-variants.{Power, Nothing}
 use Rattle.period_way.specs.Period.{told, PeriodInput, PeriodSearched, PeriodFound}

@@ -28,7 +28,9 @@ unfolding freeTable holdsForSome
 no-seventeen p ts answer work = refl
 
 -- what a refused rating tells
-told-refused : {n : ℕ} {result : Result (Rated FreeFigures)} → result ≡ refused n → refused n ≡ figuresOf result
+told-refused : {n : ℕ} {result : Result (Rated FreeFigures)}
+    → result ≡ refused n
+    → refused n ≡ figuresOf result
 unfolding figuresOf mapResult
 told-refused {n} e = ap figuresOf (sym e)
 

@@ -37,7 +37,8 @@ use Rattle.period_way.specs.declared.Found.{Found}
 use Rattle.period_way.specs.Period.{told, PeriodInput, PeriodFound}
 use Rattle.period_way.proofs.Sizes.{period-small}
 use Rattle.period_way.specs.one_factor.OneFactor.{ratingFound, Answerable, FoundRated}
-use Rattle.refusals.proofs.Lent.{lent-enough, never-refused, lent-refused}
+use Rattle.bridge.proofs.Accepted.{lent-enough}
+use Rattle.refusals.proofs.Lent.{never-refused, lent-refused}
 use Rattle.period_way.proofs.one_factor.OneFactor.{call-rating, call-lent, settled-none, settled-some}
 use Rattle.period_way.proofs.one_factor.OneFactor.{factor-monic, factor-positive}
 

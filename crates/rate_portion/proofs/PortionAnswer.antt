@@ -43,7 +43,8 @@ use Rattle.set_way.specs.portion.Portion.{portionFound, PortionFound}
 use Rattle.set_way.proofs.actions.Inputs.{input-monics}
 use Rattle.set_way.proofs.portion.Portions.{portion-small}
 use Rattle.period_way.specs.one_factor.OneFactor.{ratingFound, Answerable, FoundRated}
-use Rattle.refusals.proofs.Lent.{lent-enough, never-refused, lent-refused}
+use Rattle.bridge.proofs.Accepted.{lent-enough}
+use Rattle.refusals.proofs.Lent.{never-refused, lent-refused}
 use Rattle.period_way.proofs.one_factor.OneFactor.{call-rating, call-lent, settled-none, settled-some}
 use Rattle.period_way.proofs.one_factor.OneFactor.{factor-monic, factor-positive}
 

@@ -45,7 +45,8 @@ use Rattle.set_way.specs.SetWay.{SetFound}
 use Rattle.set_way.proofs.actions.Inputs.{input-monics}
 use Rattle.set_way.proofs.Answers.{answer-annihilated, answer-powers}
 use Rattle.set_way.proofs.Sizes.{set-count, set-product, named-padded}
-use Rattle.refusals.proofs.Lent.{lent-enough, names, never-refused, lent-refused, lent-seventeen}
+use Rattle.bridge.proofs.Accepted.{lent-enough}
+use Rattle.refusals.proofs.Lent.{names, never-refused, lent-refused, lent-seventeen}
 use Rattle.refusals.proofs.Lent.{lent-rated}
 
 -- A refusal tells its number and no powers.

@@ -13,5 +13,3 @@ pub use rate_set::rate_set;
 // on route files
 pub use rate_file::rate_file;
 pub use route::reader::record;
-pub use route::reader::record_body;
-pub use route::reader::record_outcome;

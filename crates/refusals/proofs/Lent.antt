@@ -27,12 +27,6 @@ use Rattle.bridge.proofs.Searches.{or-false, none-uncons}
 use Rattle.refusals.specs.declared.Verdict.{Verdict}
 use Rattle.refusals.specs.Verdicts.{numberIn}
 
-pub lent-enough : (answer work : ℕ) → lentTooShort answer work ≡ false → (4097 ≤ answer) × (8192 ≤ work)
-unfolding lentTooShort
-lent-enough answer work h =
-    let (a, b) = or-false (ltb answer 4097) (ltb work 8192) h in
-    (ltb-false answer 4097 a, ltb-false work 8192 b)
-
 abbrev pub names : ℕ → List Check → Bool
 names n table = holdsForSome (λ c. eqb (c .0) n) table
 

@@ -48,6 +48,7 @@ use Rattle.meaning.proofs.Passes.{Passes}
 use Rattle.meaning.specs.Route.{lookUp}
 use Rattle.bridge.proofs.Searches.{settle-refused, settle-answered, bind-some, mapOption-some}
 use Rattle.bridge.proofs.Searches.{map-refused, or-false}
+use Rattle.bridge.proofs.Accepted.{lent-enough}
 use Rattle.bridge.proofs.Interpretation.{IsField, inRange-isField, characteristic-two}
 use Rattle.bridge.proofs.Polynomials.{monic-nonempty, degree-length}
 use Rattle.bridge.proofs.Products.{Nonempties, accepted-monic, monics-nonempty, factorsOf-named}
@@ -79,13 +80,6 @@ present : {A : Type 0} (o : Option A) → isNone o ≡ false → (a : A) × (o �
 unfolding isNone
 present none e = absurd (true≢false e)
 present (some a) e = (a, refl)
-
--- 16 passes
-lent-enough : (answer work : ℕ) → lentTooShort answer work ≡ false → (4097 ≤ answer) × (8192 ≤ work)
-unfolding lentTooShort
-lent-enough answer work h =
-    let (a, w) = or-false (ltb answer 4097) (ltb work 8192) h in
-    (ltb-false answer 4097 a, ltb-false work 8192 w)
 
 -- there is a bound for every power
 power-value :

@@ -197,7 +197,7 @@ module _ (pick : Choice) (file answer work : List ℕ) (r : FileRating) (answer�
 
       period-seventeen : toldFile (r .outcome) ≡ refused 17 → SeventeenBy periodMode rs
       unfolding periodAnswer periodTable
-      period-seventeen e f one =
+      period-seventeen e =
           let w : periodResult ≡ refused 17 =
           map-refused _ periodResult
           (sym (period-map (length ts) periodResult) ∙ sym period-is ∙ told-refused 17 e) in
@@ -208,9 +208,11 @@ module _ (pick : Choice) (file answer work : List ℕ) (r : FileRating) (answer�
           let same : ratePeriod p first ts (length answer) (length work) ≡ refused 17 =
           sym (period-lists p fs full I (h .degreesInRange) (h .monic) ts (length answer) (length work)
           (omega (arith, one-factor)))
-          ∙ w in
-          subst (λ g. NoPower (GF p) g ts) (ap (λ l. getD l 0 []) one)
-          (period-none p first ts (length answer) (length work) same)
+          ∙ w in (
+            first,
+            single (polynomialsIn rs) (length-map fs polynomialOf ∙ one-factor),
+            period-none p first ts (length answer) (length work) same,
+          )
 
     -- MODE 2
     module _ (mode : modeOf (byteOf 3 rs) ≡ some setMode) where

@@ -1,23 +1,25 @@
 -- The records that the reader hands back are the file; the program prints what the rating of the file tells
 -- and leaves. From the contracts alone.
 -- Assumes nothing.
-use Prim.Native.Nat.{ℕ, suc}
+use Prim.Native.Nat.{ℕ, zero, suc, _<_}
 use mathlib.Core.Path.{_≡_, refl, sym, ap, _∙_}
 use mathlib.Core.List.{List, [], _∷_, _++_, map, append-nil}
+use mathlib.Core.Option.{some}
+use native.Mathlib.Omega.{arith}
 use lib.ListN.{length, getD, take, replicate, length-replicate, List·getD-eq-default}
 use lib.Seq.{take-at}
 use Rattle.meaning.specs.declared.FileRating.{FileRating}
 use Rattle.meaning.specs.Polynomial.{Polynomial}
 use Rattle.meaning.specs.Result.{Result, Rated, refused, answered, mapResult, figuresOf, answerAfter, written}
 use Rattle.meaning.specs.Free.{Choice}
-use Rattle.meaning.specs.Route.{RouteRecord, records, endRecord, boxOf}
+use Rattle.meaning.specs.Route.{RouteRecord, records, endRecord, boxOf, lookUp, bodyLengths}
 use Rattle.meaning.specs.File.{Label, powers, unique, several, FileFigures, rateFile}
 use Rattle.meaning.specs.Answers.{toldFile, fileFiguresTold, labelTold, filePadded, labelPowers, padded}
 use Rattle.meaning.specs.Calls.{FileCall, ProgramCall, bodyAfter}
 use Rattle.meaning.specs.Print.{printed, report, resultLine, polyLine, labelWord, density, header, decimal}
 use Rattle.meaning.specs.Print.{text, joined}
 use Rattle.bridge.proofs.Searches.{never-answered, answered-same}
-use Rattle.bridge.proofs.Records.{flat, records-whole}
+use Rattle.bridge.proofs.Records.{Whole, flat, records-whole}
 use Rattle.bridge.proofs.FileRatings.{file-size}
 use Rattle.theorems.specs.Ratings.{listIn}
 use Rattle.theorems.specs.Files.{HandsBack, oneAfterAnother, ReadBack, RecordPromise, ratedLines}
@@ -52,12 +54,23 @@ module _ (file : List ℕ) (kinds : ℕ → ℕ) (parts : ℕ → List ℕ)
     unfolding bodyAfter
     body-is n = let (r, c, q) = back n in c .part ∙ ap bodyAfter (read-accepted file n its)
 
+    whole-at : (qs : List RouteRecord)
+        → Whole qs
+        → (n : ℕ)
+        → n < length qs
+        → lookUp (getD qs n endRecord .kind) bodyLengths ≡ some (length (getD qs n endRecord .body))
+    whole-at [] h n l = absurd (omega arith)
+    whole-at (q ∷ qs) h zero l = h .0
+    whole-at (q ∷ qs) h (suc n) l = whole-at qs (h .1) n (omega arith)
+
     read-back : ReadBack file kinds parts
     unfolding endRecord
     read-back =
         record {
           count = length rs;
           whole = put-together rs kinds parts kind-is body-is ∙ records-whole file its .0;
+          lengths =
+              λ n l. rw (kind-is n, body-is n) (whole-at rs (records-whole file its .1) n l);
           beyond =
               λ n l.
               let last = List·getD-eq-default rs endRecord l in (

@@ -5,6 +5,7 @@ use mathlib.Core.Option.{Option, none, some}
 use Rattle.meaning.specs.Search.{holdsForSome}
 use Rattle.meaning.specs.Result.{Result, refused, answered}
 use Rattle.meaning.specs.Route.{RouteRecord, Mode, periodMode, setMode, freeMode, modeOf, byteOf, records}
+use Rattle.bridge.proofs.MasseyAnswer.{choice-exists}
 use Rattle.theorems.specs.Ratings.{GF, RepeatPromise}
 use Rattle.theorems.specs.Answering.{periodNumbers, portionNumbers, setNumbers, freeNumbers}
 use Rattle.theorems.specs.Answering.{continueNumbers, irreducibleNumbers, readerNumbers, fileNumbers}
@@ -95,6 +96,7 @@ promises =
       file-answers = file-answers;
       record-answers = record-answers;
       program-answers = program-answers;
+      choice-exists = choice-exists;
       never-zero = never-zero;
       period = period-promise;
       portion = portion-promise;

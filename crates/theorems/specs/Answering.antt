@@ -9,6 +9,8 @@
 --   Answering …      == for one input of one call: so it is of whatever meets the contract; something meets
 --                       it; and two results that meet it are the same, in every byte
 --   …Answers         == so it is for every input of the call
+--   ChoiceExists     == some choice fits on every input, so that the answers of the free way, of files and of
+--                       the program, which assume that it does, are about something
 --   NeverZero        == the definitions never reach `refused 0`, which would stand for a missing value
 --
 -- `tell` is what a result tells, `degreeIn` the degree in what is told, and `Call` the contract on one
@@ -138,6 +140,10 @@ FreeAnswers =
     (pick : Choice) (p : ℕ) (ts answer work : List ℕ)
     → ChosenFits pick p ts
     → Answering freeNumbers toldFree (λ a. a .degree) answer work (FreeCall pick p ts answer work)
+
+-- There is such a choice.
+abbrev pub ChoiceExists : Type 0
+ChoiceExists = (pick : Choice) × ((p : ℕ) (ts : List ℕ) → ChosenFits pick p ts)
 
 abbrev pub fileDegree : FileTold → ℕ
 fileDegree (withPowers d m n) = d

@@ -11,7 +11,7 @@
 --   ratedLines, linesTold == the result line and the poly line, from what a rating tells and leaves
 --   ProgramAsCall    == the program prints the lines of what the rating of the file tells and leaves
 --   ProgramPromise   == what it prints is right
-use Prim.Native.Nat.{ℕ, zero, suc, _≤_}
+use Prim.Native.Nat.{ℕ, zero, suc, _≤_, _<_}
 use mathlib.Core.Path.{_≡_}
 use mathlib.Core.Bool.{true, false}
 use mathlib.Core.List.{List, [], _∷_, _++_, map}
@@ -26,7 +26,7 @@ use Rattle.meaning.specs.Power.{PowerFigures}
 use Rattle.meaning.specs.Period.{NoPower}
 use Rattle.meaning.specs.Free.{Choice, FreeFigures}
 use Rattle.meaning.specs.Route.{RouteRecord, Mode, periodMode, setMode, freeMode, modeOf, byteOf, bodies}
-use Rattle.meaning.specs.Route.{records, boxOf}
+use Rattle.meaning.specs.Route.{records, boxOf, lookUp, bodyLengths}
 use Rattle.meaning.specs.File.{WrittenFactor, fileFactor, polynomialOf, termsOf}
 use Rattle.meaning.specs.Print.{text, decimal, joined, line, header}
 use Rattle.meaning.specs.Answers.{SetTold, FileTold, withPowers, withOne, withSome, toldFile, toldRecord}
@@ -85,7 +85,7 @@ RatedBy freeMode = FreeFile
 -- 17 means what it means in the mode's way; the free way does not give it.
 abbrev pub SeventeenBy : Mode → List RouteRecord → Type 0
 SeventeenBy periodMode rs =
-    (f : Polynomial) → polynomialsIn rs ≡ f ∷ [] → NoPower (GF (byteOf 2 rs)) f (termsOf rs)
+    (f : Polynomial) × (polynomialsIn rs ≡ f ∷ []) × NoPower (GF (byteOf 2 rs)) f (termsOf rs)
 SeventeenBy setMode rs =
     NoneBegins (byteOf 2 rs) (product (GF (byteOf 2 rs)) (named (polynomialsIn rs) (uppersIn rs)))
     (termsOf rs)
@@ -116,10 +116,11 @@ oneAfterAnother kinds bodies zero = []
 oneAfterAnother kinds bodies (suc n) =
     kinds 0 ∷ (bodies 0 ++ oneAfterAnother (λ k. kinds (suc k)) (λ k. bodies (suc k)) n)
 
--- from the last record on it is the end record
+-- The file has `count` records, each body as long as its kind says; beyond the last it is the end record.
 pub record ReadBack (file : List ℕ) (kinds : ℕ → ℕ) (bodies : ℕ → List ℕ) : Type 0 where
   pub count : ℕ
   pub whole : oneAfterAnother kinds bodies count ≡ file
+  pub lengths : (n : ℕ) → n < count → lookUp (kinds n) bodyLengths ≡ some (length (bodies n))
   pub beyond : (n : ℕ) → count ≤ n → (kinds n ≡ 8) × (bodies n ≡ [])
 
 abbrev pub RecordPromise : Type 0

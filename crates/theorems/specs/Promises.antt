@@ -23,7 +23,7 @@
 -- given; s an endless sequence; g a polynomial; r what a call returns, and `told…` of it what it tells.
 use Rattle.theorems.specs.Answering.{PeriodAnswers, PortionAnswers, SetAnswers, FreeAnswers}
 use Rattle.theorems.specs.Answering.{ContinueAnswers, IrreducibleAnswers, PrimeAnswers, FileAnswers}
-use Rattle.theorems.specs.Answering.{RecordAnswers, ProgramAnswers, NeverZero}
+use Rattle.theorems.specs.Answering.{RecordAnswers, ProgramAnswers, ChoiceExists, NeverZero}
 use Rattle.theorems.specs.Ratings.{PeriodPromise, PortionPromise, SetPromise, FreePromise}
 use Rattle.theorems.specs.Ratings.{ContinuePromise, IrreduciblePromise, PrimePromise, RepeatPromise}
 use Rattle.theorems.specs.Ratings.{PrimeWords, IrreducibleWords}
@@ -44,6 +44,7 @@ pub record Promises : Type 0 where
   pub file-answers : FileAnswers
   pub record-answers : RecordAnswers
   pub program-answers : ProgramAnswers
+  pub choice-exists : ChoiceExists
   pub never-zero : NeverZero
   -- demand 2
   pub period : PeriodPromise

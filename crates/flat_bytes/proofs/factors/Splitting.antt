@@ -1,4 +1,4 @@
--- Joined bytes part by part.
+-- Flat bytes part by part.
 --
 --   PartFrom b ns i from j == part i of the bytes b, cut by the lengths ns, is part i − j of the bytes from the
 --                     place `from` on, cut by the lengths from j on

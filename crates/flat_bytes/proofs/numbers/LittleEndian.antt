@@ -20,13 +20,10 @@ use lib.Pow.{pow-add, pow-mono}
 use lib.Seq.{drop-cons, drop-drop, take-at, drop-at, take-suc, take-suc-set, take-all, take-nil}
 use lib.Seq.{take-length, take-append-add}
 use lib.Seq.{getD-set-same, getD-set-other}
-use Rattle.algebra.proofs.Number.{number-below}
+use Rattle.bridge.proofs.Bytes.{number-below}
 use Rattle.meaning.specs.FlatBytes.{littleEndian, eights, numbersOf, bytesOf, bytesOfAll}
 
 -- Numbers of several bytes
-pub number-fits : (n b i : ℕ) → n < 2 ^ (8 * i) → b < 256 → i < 8 → 256 * n + b < 2 ^ 64
-number-fits n b i h hb hi = lt-of-lt-of-le (number-below n b i h hb) (pow-mono {j = 64} (omega arith))
-
 pub number-none : (bytes : List ℕ) → 0 < 2 ^ (8 * (length bytes - length bytes))
 number-none bytes =
     let e : 0 ≡ 8 * (length bytes - length bytes) = omega arith in subst (λ k. 0 < 2 ^ k) e (omega arith)

@@ -12,7 +12,8 @@ use lib.Seq.{drop-cons, drop-length}
 use native.Mathlib.Nat.{mul-comm, mul-le-mul-left, mod-eq-of-lt}
 use native.Mathlib.Omega.{arith}
 use Rattle.irreducible.specs.trial_division.Word.{value, Packable}
-use Rattle.irreducible.proofs.trial_division.Word.{value-nil, value-cons, value-below, drop-below, word-fits}
+use Rattle.irreducible.proofs.trial_division.Word.{value-nil, value-cons, value-below, drop-below}
+use Rattle.irreducible.proofs.trial_division.Word.{word-fits}
 
 pub packed-none : (b : ℕ) (f : List ℕ) → 0 ≡ value b (drop (length f) f)
 packed-none b f = sym (ap (value b) (drop-length f) ∙ value-nil b)

@@ -1,4 +1,5 @@
--- What the contract of an answer with one factor cites, beside crate meaning. o is the power that a way found.
+-- What the contract of an answer with one factor cites, beside crate meaning. o is the power that a way
+-- found.
 --
 --   ratingFound F f o == the answer with f to the power found, or 17 where none was found
 --   Answerable F f o  == f is monic over F, of a degree that 10 lets pass, and f to the power found has a degree

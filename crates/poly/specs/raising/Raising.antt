@@ -1,5 +1,5 @@
--- What the contract of a product with a power cites. A polynomial of degree n stands in the first n + 1 bytes of
--- `answer`.
+-- What the contract of a product with a power cites. A polynomial of degree n stands in the first n + 1 bytes
+-- of `answer`.
 --
 --   Raising F f r answer n == there is room for the product of the polynomial in `answer` and f^r, whose
 --                          degree is at most 4,096; f has a positive degree, and both have elements of F for

@@ -23,7 +23,8 @@ use Rattle.lent.specs.halves.Halves.{half, Halves}
 use Rattle.lent.specs.halves.Kept.{Kept}
 use Rattle.lent.proofs.halves.Bytes.{half-cut, kept-same, kept-trans}
 use Rattle.powers.proofs.digit_search.Trying.{Tried, tried-low, resumed, resumed-start, resumed-zeros}
-use Rattle.powers.proofs.digit_search.Trying.{resumed-first, resumed-later, resumed-none, resumed-level}
+use Rattle.powers.proofs.digit_search.Trying.{resumed-first, resumed-later, resumed-none}
+use Rattle.powers.proofs.digit_search.Trying.{resumed-level}
 use Rattle.powers.proofs.digit_search.Trying.{level-down, level-parts}
 
 abbrev pub stepOf : GaloisField → Polynomial → ℕ → List ℕ → List ℕ

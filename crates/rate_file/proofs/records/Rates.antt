@@ -29,10 +29,12 @@ use Rattle.rate_file.proofs.factors.Places.{factors-count}
 use Rattle.bridge.proofs.WrittenFactors.{AllFull}
 use Rattle.rate_file.proofs.factors.Polynomials.{factors-whole, polynomials-fit}
 use Rattle.rate_file.specs.records.Accepted.{AcceptedRecords, Rateable}
-use Rattle.rate_file.proofs.records.Suited.{one-factor, some-mode, some-factors, by-period, by-set, by-free}
+use Rattle.rate_file.proofs.records.Suited.{one-factor, some-mode, some-factors, by-period, by-set}
+use Rattle.rate_file.proofs.records.Suited.{by-free}
 use Rattle.rate_file.proofs.records.Suited.{rated-refused}
 use Rattle.rate_file.proofs.records.Terms.{cutTerms, cut-terms, cut-accepted}
-use Rattle.rate_file.proofs.records.Modes.{mode-terms, period-factors, set-factors, period-way, set-way}
+use Rattle.rate_file.proofs.records.Modes.{mode-terms, period-factors, set-factors, period-way}
+use Rattle.rate_file.proofs.records.Modes.{set-way}
 
 -- the first list of several is no longer than all
 first-within : (l : List (List ℕ)) → length (getD l 0 []) ≤ length (flatten l)

@@ -1,5 +1,5 @@
--- `rate_set` meets its contract: the verdict refuses, or the search finds no powers, which is 17, or the powers
--- that are found are written as a product. Assumes nothing.
+-- `rate_set` meets its contract: the verdict refuses, or the search finds no powers, which is 17, or the
+-- powers that are found are written as a product. Assumes nothing.
 use mathlib.Core.Path.{sym}
 use borrow.Author.Needs.{needs}
 use Rattle.arith.proofs.Represented.{field-isField}

@@ -11,7 +11,6 @@ use lib.ListN.{length, getD, take, drop, length-take, drop-of-length-le}
 use lib.Pow.{pow-mono}
 use lib.Seq.{drop-cons}
 use Rattle.meaning.specs.Route.{number, appended, boxOf}
-use Rattle.algebra.proofs.Number.{number-below}
 
 pub number-start : (bytes : List ℕ) → appended 0 (drop 0 bytes) ≡ number bytes
 unfolding number
@@ -26,10 +25,6 @@ number-more bytes n i h = rw (drop-cons bytes i 0 h, ← add-one)
 pub number-end : (bytes : List ℕ) (n i : ℕ) → length bytes ≤ i → appended n (drop i bytes) ≡ n
 unfolding appended
 number-end bytes n i h = rw (drop-of-length-le bytes h)
-
--- i bytes make a number below 256^i (`number-below`)
-pub number-fits : (n b i : ℕ) → n < 2 ^ (8 * i) → b < 256 → i < 4 → 256 * n + b < 2 ^ 32
-number-fits n b i h hb hi = lt-of-lt-of-le (number-below n b i h hb) (pow-mono {j = 32} (omega arith))
 
 -- at most n bytes are taken
 pub length-part : (n : ℕ) (s part : List ℕ) → part ≡ take n s → length part ≤ n

@@ -4,7 +4,8 @@ use native.Mathlib.Omega.{arith}
 use mathlib.Core.Path.{_∙_, sym, ap}
 use lib.Dec.{ltb}
 use borrow.Author.Needs.{needs}
-use Rattle.conditions.proofs.files.FileFactor.{file-without-coefficients, file-without-upper, file-foreign}
+use Rattle.conditions.proofs.files.FileFactor.{file-without-coefficients, file-without-upper}
+use Rattle.conditions.proofs.files.FileFactor.{file-foreign}
 use Rattle.conditions.proofs.files.FileFactor.{file-upper}
 use Rattle.conditions.proofs.files.file_not_monic.Statement.{statement}
 use Rattle.conditions.proofs.files.file_not_monic.Tie as tie

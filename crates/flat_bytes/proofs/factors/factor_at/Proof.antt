@@ -1,5 +1,5 @@
--- `factors::factor_at` meets its contract. The invariant: part i is part i − j of the bytes from `from` on, cut by
--- the lengths from j on. The measure is the number of parts that are left. Assumes nothing.
+-- `factors::factor_at` meets its contract. The invariant: part i is part i − j of the bytes from `from` on,
+-- cut by the lengths from j on. The measure is the number of parts that are left. Assumes nothing.
 use Prim.Native.Nat.{_-_}
 use native.Mathlib.Omega.{arith}
 use borrow.Author.Needs.{needs}
@@ -8,10 +8,10 @@ use Rattle.flat_bytes.proofs.factors.factor_at.Statement.{statement}
 use Rattle.flat_bytes.proofs.factors.factor_at.Tie as tie
 
 abbrev Inv-loop : tie.InvT-loop
-Inv-loop joined lengths i size from₀ j₀ from j = PartFrom joined lengths i from j
+Inv-loop flat lengths i size from₀ j₀ from j = PartFrom flat lengths i from j
 
 abbrev μ-loop : tie.MeasureT-loop
-μ-loop joined lengths i size from₀ j₀ from j = i - j
+μ-loop flat lengths i size from₀ j₀ from j = i - j
 
 loop-holds : tie.Need-loop-holds Inv-loop μ-loop
 loop-holds c = part-start _ _ _

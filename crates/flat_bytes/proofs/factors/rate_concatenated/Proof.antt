@@ -1,5 +1,5 @@
--- `rate_concatenated` meets its contract: the slices that it makes are the first nine parts of the joined bytes,
--- and the call that it wraps looks at no more. Assumes nothing.
+-- `rate_concatenated` meets its contract: the slices that it makes are the first nine parts of the flat
+-- bytes, and the call that it wraps looks at no more. Assumes nothing.
 use mathlib.Core.Path.{refl, subst}
 use borrow.Author.Needs.{needs}
 use Rattle.meaning.specs.Calls.{SetCall}
@@ -77,7 +77,7 @@ returns c =
     (r .rate-set .result)
     (r .rate-set .last .1 .1 .1 .1 .0)
     (r .rate-set .last .1 .1 .1 .1 .1 .0))
-    (rated-parts (s .args .joined .now) (s .args .lengths .now) _ refl (
+    (rated-parts (s .args .flat .now) (s .args .lengths .now) _ refl (
       a .factor-at .ensures,
       (
         b .factor-at2 .ensures,

@@ -6,7 +6,8 @@ use native.Mathlib.Omega.{arith}
 use borrow.Author.Needs.{needs}
 use lib.ListN.{length, getD, drop}
 use Rattle.meaning.specs.FlatBytes.{littleEndian}
-use Rattle.flat_bytes.proofs.numbers.LittleEndian.{number-none, number-start, number-more, number-room, number-fits}
+use Rattle.bridge.proofs.Bytes.{number-fits}
+use Rattle.flat_bytes.proofs.numbers.LittleEndian.{number-none, number-start, number-more, number-room}
 use Rattle.flat_bytes.proofs.numbers.little_endian.Statement.{statement}
 use Rattle.flat_bytes.proofs.numbers.little_endian.Tie as tie
 
@@ -28,7 +29,7 @@ sub-i c = search needs
 mul-n : tie.Need-mul-n Inv-loop μ-loop
 mul-n c =
     let l = c .before .loop in
-    omega (arith, number-fits (l .n) 0 _ (l .inv .1) (search needs) (omega (arith, l .inv .0)))
+    omega (arith, number-fits 8 (l .n) 0 _ (l .inv .1) (search needs) (omega (arith, l .inv .0)))
 
 shared-slice-read-n : tie.Need-shared-slice-read-n Inv-loop μ-loop
 shared-slice-read-n c = search needs
@@ -43,7 +44,7 @@ cast-n c = omega (arith, c .shared-slice-known .given (c .before .before .loop .
 add-n : tie.Need-add-n Inv-loop μ-loop
 add-n c =
     let l = c .before .before .loop in
-    omega (arith, number-fits (l .n) _ _ (l .inv .1) (byte c) (omega (arith, l .inv .0)))
+    omega (arith, number-fits 8 (l .n) _ _ (l .inv .1) (byte c) (omega (arith, l .inv .0)))
 
 loop-less : tie.Need-loop-less Inv-loop μ-loop
 loop-less c = search needs

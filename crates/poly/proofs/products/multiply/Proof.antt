@@ -5,7 +5,8 @@ use native.Mathlib.Omega.{arith}
 use borrow.Author.Needs.{needs}
 use Rattle.arith.specs.Represented.{fieldOf}
 use Rattle.arith.proofs.Represented.{field-isField}
-use Rattle.poly.proofs.products.Growing.{Multiplying, multiplying-start, multiplying-next, multiplying-end}
+use Rattle.poly.proofs.products.Growing.{Multiplying, multiplying-start, multiplying-next}
+use Rattle.poly.proofs.products.Growing.{multiplying-end}
 use Rattle.poly.proofs.products.Growing.{next-below}
 use Rattle.poly.proofs.products.multiply.Statement.{statement}
 use Rattle.poly.proofs.products.multiply.Tie as tie

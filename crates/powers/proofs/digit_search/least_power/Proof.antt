@@ -18,7 +18,8 @@ use Rattle.arith.specs.Represented.{fieldOf}
 use Rattle.lent.specs.halves.Halves.{half, Halves}
 use Rattle.lent.specs.halves.Kept.{Kept}
 use Rattle.lent.proofs.halves.Bytes.{lent-half, acted-values, acted-same, acted-halves, acted-again}
-use Rattle.lent.proofs.halves.Bytes.{acted-zero, acted-nonzero, acted-enough, acted-kept, kept-same, kept-trans}
+use Rattle.lent.proofs.halves.Bytes.{acted-zero, acted-nonzero, acted-enough, acted-kept, kept-same}
+use Rattle.lent.proofs.halves.Bytes.{kept-trans}
 use Rattle.powers.proofs.digit_search.Trying.{Trying, Tried, trying-none, trying-more, trying-stop}
 use Rattle.powers.proofs.digit_search.Trying.{trying-all, tried-low}
 use Rattle.powers.proofs.digit_search.Seeking.{stepOf, Seeking, Going, seeking-start, seeking-zero}

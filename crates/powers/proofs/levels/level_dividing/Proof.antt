@@ -2,7 +2,8 @@
 -- measure is the rest. Assumes nothing.
 use native.Mathlib.Omega.{arith}
 use Rattle.powers.proofs.levels.Climbing.{Splitting, splitting-none, splitting-more, splitting-end}
-use Rattle.powers.proofs.levels.Climbing.{splitting-low, splitting-exponent, splitting-falls, product-small}
+use Rattle.powers.proofs.levels.Climbing.{splitting-low, splitting-exponent, splitting-falls}
+use Rattle.powers.proofs.levels.Climbing.{product-small}
 use Rattle.powers.proofs.levels.level_dividing.Statement.{statement}
 use Rattle.powers.proofs.levels.level_dividing.Tie as tie
 

@@ -4,7 +4,8 @@ use mathlib.Core.Path.{_≡_}
 use borrow.Author.Needs.{needs}
 use Rattle.massey.specs.Shortest.{freeChoice}
 use Rattle.rate_file.proofs.records.Rates.{count-factors, not-others, records-free, records-refused}
-use Rattle.rate_file.proofs.records.Rates.{factors-number, records-period, records-set, one-fits, all-fit}
+use Rattle.rate_file.proofs.records.Rates.{factors-number, records-period, records-set, one-fits}
+use Rattle.rate_file.proofs.records.Rates.{all-fit}
 use Rattle.rate_file.proofs.modes.Calls.{rated-as, refused-rated}
 use Rattle.rate_file.proofs.records.rate_accepted.Statement.{statement}
 use Rattle.rate_file.proofs.records.rate_accepted.Tie as tie

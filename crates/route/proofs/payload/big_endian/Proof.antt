@@ -6,8 +6,8 @@ use native.Mathlib.Omega.{arith}
 use borrow.Author.Needs.{needs}
 use lib.ListN.{length, getD, drop}
 use Rattle.meaning.specs.Route.{appended, number}
-use Rattle.algebra.proofs.Number.{number-below}
-use Rattle.route.proofs.payload.Numbers.{number-start, number-more, number-end, number-fits}
+use Rattle.bridge.proofs.Bytes.{number-below, number-fits}
+use Rattle.route.proofs.payload.Numbers.{number-start, number-more, number-end}
 use Rattle.route.proofs.payload.big_endian.Statement.{statement}
 use Rattle.route.proofs.payload.big_endian.Tie as tie
 
@@ -24,7 +24,7 @@ loop-holds c = (search needs, search needs, number-start (c .args .bytes .now))
 mul-n : tie.Need-mul-n Inv-loop μ-loop
 mul-n c =
     let l = c .before .loop in
-    omega (arith, number-fits (l .n) 0 (l .i) (l .inv .1) (search needs) (omega arith))
+    omega (arith, number-fits 4 (l .n) 0 (l .i) (l .inv .1) (search needs) (omega arith))
 
 shared-slice-read-n : tie.Need-shared-slice-read-n Inv-loop μ-loop
 shared-slice-read-n c = search needs
@@ -39,7 +39,7 @@ cast-n c = omega (arith, c .shared-slice-known .given (c .before .before .loop .
 add-n : tie.Need-add-n Inv-loop μ-loop
 add-n c =
     let l = c .before .before .loop in
-    omega (arith, number-fits (l .n) _ (l .i) (l .inv .1) (byte c) (omega arith))
+    omega (arith, number-fits 4 (l .n) _ (l .i) (l .inv .1) (byte c) (omega arith))
 
 add-i : tie.Need-add-i Inv-loop μ-loop
 add-i c = search needs

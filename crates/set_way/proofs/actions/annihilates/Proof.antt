@@ -5,7 +5,8 @@ use native.Mathlib.Omega.{arith}
 use borrow.Author.Needs.{needs}
 use Rattle.lent.specs.halves.Halves.{Halves}
 use Rattle.meaning.proofs.Slices.{lists-length}
-use Rattle.set_way.proofs.actions.Loaded.{set-halves, loaded-halves, loaded-set, left-halves, decided-set}
+use Rattle.set_way.proofs.actions.Loaded.{set-halves, loaded-halves, loaded-set, left-halves}
+use Rattle.set_way.proofs.actions.Loaded.{decided-set}
 use Rattle.set_way.proofs.actions.annihilates.Statement.{statement}
 use Rattle.set_way.proofs.actions.annihilates.Tie as tie
 

@@ -1,5 +1,5 @@
--- `trial_division::packing::packed` meets its contract. The invariant: the word of the coefficients from i on.
--- Assumes nothing.
+-- `trial_division::packing::packed` meets its contract. The invariant: the word of the coefficients from i
+-- on. Assumes nothing.
 use Prim.Native.Nat.{_-_, _^_, _≤_}
 use mathlib.Core.Path.{_≡_}
 use lib.ListN.{length, drop}
