@@ -286,7 +286,7 @@ def slower(jobs, routes):
         for j in jobs + routes:
             r = best_ratio(j, who) if j.rounds else None
             if r is not None and r > EQUAL:
-                why = REASONS.get((group_of(j), who), 'the reason is not known')
+                why = REASONS.get((group_of(j), who))
                 lists.setdefault((group_of(j), why), collections.OrderedDict()).setdefault(who, []).append(r)
     lines = []
     for (group, why), whos in lists.items():
@@ -297,7 +297,8 @@ def slower(jobs, routes):
             count = 'all %d' % total if len(ratios) == total else '%d of %d' % (len(ratios), total)
             parts.append('%s times as long as %s in %s jobs' %
                          (low if low == high else low + ' to ' + high, TITLES.get(who, who), count))
-        text = '%s: the rater takes %s. The reason: %s.' % (GROUPS[group], ', '.join(parts), why)
+        reason = 'The reason: %s.' % why if why else 'The reason is not known.'
+        text = '%s: the rater takes %s. %s' % (GROUPS[group], ', '.join(parts), reason)
         lines.append(textwrap.fill(text[0].upper() + text[1:], 124, initial_indent='- ', subsequent_indent='  '))
     return '\n'.join(lines) if lines else 'Nothing.'
 
