@@ -171,14 +171,45 @@ static void linear_set(uint32_t p) {
     snprintf(j->name, sizeof j->name, "set of eight factors of degree 1, D = 4,096, GF(%u)", p);
 }
 
-// an irreducible polynomial, so that trial division tries every divisor
-static void irreducibility(uint32_t p, size_t degree) {
-    job *j = add("irreducible", IRREDUCIBLE, p);
-    uint8_t f[33];
+static void random_irreducible(uint32_t p, uint8_t *f, size_t degree) {
     f[degree] = 1;
     do {
         for (size_t i = 0; i < degree; i++) f[i] = below(p);
-    } while (!c_irreducible_packed(p, f, degree));
+    } while (!c_irreducible_ben_or(p, f, degree));
+}
+
+// as much as there may be of one random factor of a large degree, and of eight
+static void large_portion(uint32_t p, size_t degree) {
+    uint8_t f[33];
+    char shown[32];
+    random_irreducible(p, f, degree);
+    snprintf(shown, sizeof shown, "f of degree %zu", degree);
+    portion("portion, large factor", p, shown, f, degree, 4096 / degree, 4096);
+}
+
+static void large_set(uint32_t p, size_t degree) {
+    job *j = add("set", SET, p);
+    for (int i = 0; i < 8; i++) {
+        uint8_t f[33];
+        bool again;
+        do {
+            random_irreducible(p, f, degree);
+            again = false;
+            for (int k = 0; k < i; k++) again |= memcmp(j->coefficients + k * (degree + 1), f, degree + 1) == 0;
+        } while (again);
+        add_factor(j, f, degree, 4096 / (8 * degree));
+    }
+    j->count = 4096;
+    random_terms(j, 0, 4096);
+    snprintf(j->name, sizeof j->name, "set of eight factors of degree %zu, powers %zu, GF(%u)", degree,
+             4096 / (8 * degree), p);
+}
+
+// an irreducible polynomial, so that no common divisor ends the test
+static void irreducibility(uint32_t p, size_t degree) {
+    job *j = add("irreducible", IRREDUCIBLE, p);
+    uint8_t f[33];
+    random_irreducible(p, f, degree);
     add_factor(j, f, degree, 0);
     snprintf(j->name, sizeof j->name, "irreducible or not, degree %zu over GF(%u)", degree, p);
 }
@@ -210,6 +241,12 @@ static void fill(void) {
     for (size_t k = 1; k <= 16; k *= 2) period("period, GF(251), powers up to 251", 251, "x+250", 251 * k, 251, 250);
     binary_set();
     linear_set(251);
+    static const struct {
+        uint32_t p;
+        size_t degree;
+    } large[5] = {{2, 32}, {3, 21}, {7, 11}, {13, 9}, {251, 5}};
+    for (int k = 0; k < 5; k++) large_portion(large[k].p, large[k].degree);
+    for (int k = 0; k < 5; k++) large_set(large[k].p, large[k].degree);
     irreducibility(2, 32);
     irreducibility(3, 21);
     irreducibility(5, 13);

@@ -81,29 +81,20 @@ static void vectors(uint16_t p) {
     line(what, g / BYTES, h / BYTES, "ns");
 }
 
-// an irreducible polynomial of this degree, so that every divisor is tried
+// an irreducible polynomial of this degree, so that no common divisor ends the test
 static void irreducibility(uint32_t p, int d) {
     uint8_t f[33], yes = 0;
     char what[80];
-    uint64_t word = 0;
     do {
         for (int i = 0; i < d; i++) f[i] = below(p);
         f[d] = 1;
         same(rater_is_irreducible(p, f, d + 1, &yes) == 0, "an accepted polynomial");
     } while (!yes);
-    for (int i = 0; i <= d; i++) word |= (uint64_t)f[i] << i;
-    bool binary = p == 2;
-    same(binary ? c_irreducible_binary(word, d) : c_irreducible(p, f, d), "irreducibility");
+    same(c_irreducible_ben_or(p, f, d), "irreducibility");
     volatile bool sink;
-    if (binary) {
-        MEASURE(rater_is_irreducible(p, f, d + 1, &yes), sink = c_irreducible_binary(word, d), 3, a, b)
-        snprintf(what, sizeof what, "irreducible, degree %d over %d", d, p);
-        line(what, a / 1e6, b / 1e6, "ms");
-    } else {
-        MEASURE(rater_is_irreducible(p, f, d + 1, &yes), sink = c_irreducible(p, f, d), 3, a, b)
-        snprintf(what, sizeof what, "irreducible, degree %d over %d", d, p);
-        line(what, a / 1e6, b / 1e6, "ms");
-    }
+    MEASURE(rater_is_irreducible(p, f, d + 1, &yes), sink = c_irreducible_ben_or(p, f, d), 300, a, b)
+    snprintf(what, sizeof what, "irreducible, degree %d over %d", d, p);
+    line(what, a / 1e3, b / 1e3, "µs");
     (void)sink;
 }
 

@@ -1,4 +1,4 @@
-// Sums of products, updates and irreducibility by trial division in C.
+// Sums of products, updates and irreducibility in C.
 #include <stdbool.h>
 #include <stddef.h>
 #include <stdint.h>
@@ -10,8 +10,6 @@ uint8_t c_dot(uint32_t p, const uint8_t *c, const uint8_t *s, size_t n);
 void c_update(uint16_t p, uint8_t *restrict a, uint8_t c, const uint8_t *restrict b, size_t n);
 void c_update_by_division(uint16_t p, uint8_t *restrict a, uint8_t c, const uint8_t *restrict b, size_t n);
 
-// whether a polynomial of degree d is irreducible: a word with a bit for each coefficient, or bytes; with the
-// remainders in bytes, or packed in a word
-bool c_irreducible_binary(uint64_t f, int d);
+// whether a polynomial of degree d is irreducible: by trial division, and by Ben-Or's test
 bool c_irreducible(uint32_t p, const uint8_t *f, int d);
-bool c_irreducible_packed(uint32_t p, const uint8_t *f, int d);
+bool c_irreducible_ben_or(uint32_t p, const uint8_t *f, int d);

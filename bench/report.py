@@ -267,8 +267,8 @@ REASONS = {
     ('irreducible', 'NTL'): FROBENIUS, ('irreducible', 'FLINT'): FROBENIUS, ('irreducible', 'PARI'): FROBENIUS,
     ('free 2', 'tuned'): SUMS, ('free', 'tuned'): SUMS,
     ('set', 'tuned'): PRODUCT,
-    ('irreducible', 'tuned'): 'the same trial division in packed words, but a remainder by p is found by a division of '
-                              '64 bits in the rater, and by a multiplication in C',
+    ('irreducible', 'tuned'): 'Ben-Or\'s test in C, in 16-bit numbers and with the sums reduced once a row, where the rater '
+                              'works in bytes',
 }
 
 

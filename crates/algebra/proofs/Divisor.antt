@@ -7,7 +7,11 @@
 --   gcd               == polynomials over a field have a greatest common divisor
 --   monic-gcd         == a monic one, where not both are 0
 --   gcd-unique        == there is at most one monic greatest common divisor
+--   gcd-associate     == a greatest common divisor may be taken with a multiple of b that divides b, as the
+--                        monic one does
+--   coprime-gcd       == over a field, coprime exactly where a greatest common divisor has degree 0
 --   coprime-or-common == polynomials over a field, not both 0, are coprime or have a common factor
+--   coprime-common    == a monic one and any other are coprime exactly where they have no common factor
 --   lcm               == polynomials over a field have a least common multiple
 --   monic-lcm         == monic ones have a monic one, of a degree that is at most the sum of the two
 --   gcd-lcm           == over any ring, where g is a monic greatest common divisor of a and b, the quotient
@@ -18,7 +22,7 @@
 --
 -- Assumes nothing.
 use mathlib.Core.Path.{_≡_, refl, sym, ap, subst, _∙_}
-use mathlib.Core.Logic.{_⊎_, inl, inr}
+use mathlib.Core.Logic.{_⊎_, inl, inr, _↔_}
 use Prim.Native.Nat.{ℕ, zero, suc, _+_, _≤_, _<_}
 use native.Mathlib.Nat as ℕ
 use native.Mathlib.Omega.{arith}
@@ -34,6 +38,7 @@ use Rattle.algebra.proofs.Ideal.{
   divides-trans,
   divides-mul,
   multiples-ideal,
+  coprime-whole,
   coprime-product-divides,
 }
 use Rattle.algebra.proofs.Polynomial.{Polynomial, polynomials, polynomial-discrete, coefficient, scale}
@@ -45,13 +50,16 @@ use Rattle.algebra.proofs.Monic.{
   leading-term,
   degree-below,
   monic-mul,
+  monic-degree,
   monic-nonzero,
+  monic-one,
   monic-scale,
 }
 use Rattle.algebra.proofs.Division.{
   zero-divides,
   divisors-equal,
   divides-cancel,
+  divisor-degree,
   monic-divisor,
   monic-degree-zero,
   monic-scale-divides,
@@ -60,7 +68,7 @@ use Rattle.algebra.proofs.Division.{
 
 -- In any ring.
 module _ {K : Type 0} (R : Ring K) where
-  open Ring R using (0#, 1#, _⊕_, _⊗_, ⊖_, add-comm, mul-comm)
+  open Ring R using (0#, 1#, _⊕_, _⊗_, ⊖_, add-comm, mul-assoc, mul-comm)
 
   infixl 60 _⊕_
   infixl 70 _⊗_
@@ -135,6 +143,16 @@ module _ {K : Type 0} (R : Ring K) where
             ∙ ap (_⊗_ c) (p .bezout);
         divides-left = divides-trans R d (p .divides-left);
         divides-right = divides-trans R d (p .divides-right);
+      }
+
+  pub gcd-associate : {a b g : K} (c : K) → Divides R (c ⊗ b) b → Gcd a (c ⊗ b) g → Gcd a b g
+  gcd-associate {a} {b} c d p =
+      record {
+        left = p .left;
+        right = p .right ⊗ c;
+        bezout = ap (λ u. p .left ⊗ a ⊕ u) (mul-assoc (p .right) c b) ∙ p .bezout;
+        divides-left = p .divides-left;
+        divides-right = divides-trans R (p .divides-right) d;
       }
 
   pub gcd-coprime : {a b : K} → Gcd a b 1# → Coprime R a b
@@ -320,6 +338,46 @@ module _ {K : Type 0} {R : Ring K} {D : Discrete K} (F : Field R) where
         where
           factor : {f : Polynomial R D} → Divides (polynomials R D) g f → Factor f g (suc k)
           factor d = record { monic = m; positive = omega arith; divides = d }
+
+  pub coprime-common :
+      {f h : Polynomial R D} {d : ℕ}
+      → Monic f d
+      → Coprime (polynomials R D) f h
+      ↔ ((g : Polynomial R D) (k : ℕ) → Factor f g k → ¬ Factor h g k)
+  coprime-common {f} {h} m = (
+    λ c g k x y.
+        let ideal = multiples-ideal (polynomials R D) g in
+        let e = coprime-whole (polynomials R D) ideal c (x .divides) (y .divides) in
+        let z = divisor-degree (x .monic) (monic-degree (F .one-nonzero) (monic-one R D)) e in
+        omega (arith, x .positive),
+    λ none. elim (coprime-or-common f h (λ z. monic-nonzero (F .one-nonzero) m (z .0))) [
+      | inl c ↦ c
+      | inr (g, k, x, y) ↦ absurd (none g k x y)
+    ],
+  )
+
+  gcd-monic :
+      {a b g : Polynomial R D} {k : ℕ}
+      → Monic g k
+      → Gcd (polynomials R D) a b g
+      → Coprime (polynomials R D) a b ↔ (k ≡ 0)
+  gcd-monic {a} {b} {g} m p = (
+    λ c.
+        let ideal = multiples-ideal (polynomials R D) g in
+        let e = coprime-whole (polynomials R D) ideal c (p .divides-left) (p .divides-right) in
+        let l = divisor-degree m (monic-degree (F .one-nonzero) (monic-one R D)) e in
+        omega arith,
+    λ z.
+        gcd-coprime (polynomials R D)
+        (subst (Gcd (polynomials R D) a b) (monic-degree-zero (subst (Monic g) z m)) p),
+  )
+
+  pub coprime-gcd :
+      {a b g : Polynomial R D} {k : ℕ}
+      → Degree g k
+      → Gcd (polynomials R D) a b g
+      → Coprime (polynomials R D) a b ↔ (k ≡ 0)
+  coprime-gcd d p = gcd-monic (monic-scale F d) (gcd-scale (polynomials R D) _ (monic-scale-divides F d) p)
 
   pub monic-lcm :
       {a b : Polynomial R D} {m n : ℕ}

@@ -7,9 +7,12 @@
 --                            the ring R are q; for d = 0 the polynomial 0 alone
 --   below-residues        == modulo a monic polynomial of degree d, the polynomials below d are a complete
 --                            system of residues
+--   irreducible-prime     == over a field of q elements, the multiples of an irreducible polynomial are a
+--                            prime ideal
 --   irreducible-power     == over a field of q elements, f irreducible of degree d: f divides h^(q^d-1) - 1
 --                            for every h that f does not divide
 --   element-power         == a^(q-1) = 1 for each a other than 0 in a field of q elements
+--   element-fixed         == a^q = a for each a in it
 --
 -- Assumes nothing.
 use mathlib.Core.Path.{_≡_, refl, sym, ap, ap₂, subst, _∙_}
@@ -23,8 +26,8 @@ use Prim.Native.Nat.{ℕ, zero, suc, _+_, _*_, _-_, _^_, _<_, suc-le-suc}
 use native.Mathlib.Nat as ℕ
 use native.Mathlib.Omega.{arith}
 use Rattle.algebra.proofs.Ring.{Ring, Field}
-use Rattle.algebra.proofs.Ring.{sub-unique, eq-of-sub-zero, mul-zero, mul-eq-zero}
-use Rattle.algebra.proofs.Power.{power}
+use Rattle.algebra.proofs.Ring.{sub-unique, eq-of-sub-zero, one-mul, mul-zero, mul-eq-zero}
+use Rattle.algebra.proofs.Power.{power, power-suc, power-of-zero}
 use Rattle.algebra.proofs.Ideal.{Divides}
 use Rattle.algebra.proofs.Polynomial.{
   Polynomial,
@@ -240,10 +243,20 @@ module _ {K : Type 0} {R : Ring K} {q : ℕ} (F : Field R) (E : Elements K q) wh
       subst (λ n. power R a (n - 1) ≡ 1#) (E .size)
       (eq-of-sub-zero R (residue-power R zero-prime (F .discrete) zero-residues h))
 
+  pub element-fixed : (a : K) → power R a q ≡ a
+  element-fixed a = elim (F .discrete a 0#) [
+    | yes z ↦ ap (λ u. power R u q) z ∙ power-of-zero R q (omega (arith, elements-two)) ∙ sym z
+    | no h ↦
+        ap (power R a) (omega (arith, elements-two))
+        ∙ power-suc R a (q - 1)
+        ∙ ap (λ u. u ⊗ a) (element-power h)
+        ∙ one-mul R a
+  ]
+
   module _ {D : Discrete K} where
     open Ring (polynomials R D) using (1# as 1ₚ)
 
-    irreducible-prime : {f : Polynomial R D} {d : ℕ}
+    pub irreducible-prime : {f : Polynomial R D} {d : ℕ}
         → Irreducible f d → PrimeIdeal (polynomials R D) (Divides (polynomials R D) f)
     irreducible-prime {f} {d} i = atom-prime (polynomials R D) (irreducible-atom F i) proper
       where

@@ -14,10 +14,12 @@
 --   coprime-product-divides
 --                   == coprime divisors of h have a product that divides h
 --   coprime-cancel  == a that is coprime to b and divides b·c divides c
+--   coprime-congruent
+--                   == being coprime to a depends on the residue modulo a alone
 --   atom-product    == an atom that divides a product divides a factor
 --
--- "a = b modulo I" is `I (a ⊕ ⊖ b)`; its laws are `congruent-refl`, `congruent-sym`, `congruent-trans` and
--- `congruent-mul`.
+-- "a = b modulo I" is `I (a ⊕ ⊖ b)`; its laws are `congruent-refl`, `congruent-sym`, `congruent-trans`,
+-- `congruent-mul` and `congruent-power`.
 -- Assumes nothing.
 use mathlib.Core.Path.{_≡_, refl, sym, ap, ap₂, subst, subst⁻¹, _∙_}
 use mathlib.Core.Logic.{_⊎_, inl, inr}
@@ -155,6 +157,11 @@ module _ {K : Type 0} (R : Ring K) where
         (solve R 4 (λ a b c d. c :* (a :+ :- b) :+ b :* (c :+ :- d) := a :* c :+ :- (b :* d)) refl a b c d)
         (sum (multiple c m) (multiple b n))
 
+    pub congruent-power : {a b : K} (n : ℕ) → I (a ⊕ ⊖ b) → I (power R a n ⊕ ⊖ power R b n)
+    congruent-power {a} {b} zero m = rw (power-zero R a, power-zero R b) (congruent-refl 1#)
+    congruent-power {a} {b} (suc n) m =
+        rw (power-suc R a n, power-suc R b n) (congruent-mul (congruent-power n m) m)
+
   -- Coprime elements
   pub coprime-sym : {a b : K} → Coprime a b → Coprime b a
   coprime-sym p = record { left = p .right; right = p .left; bezout = add-comm _ _ ∙ p .bezout }
@@ -184,6 +191,18 @@ module _ {K : Type 0} (R : Ring K) where
 
   pub coprime-power : {a b : K} → Coprime a b → (m n : ℕ) → Coprime (power R a m) (power R b n)
   coprime-power p m n = coprime-sym (coprime-power-right (coprime-sym (coprime-power-right p n)) m)
+
+  pub coprime-congruent : {a b c : K} → Divides a (b ⊕ ⊖ c) → Coprime a b → Coprime a c
+  coprime-congruent {a} {b} {c} d p = record {
+    left = p .left ⊕ p .right ⊗ d .quotient;
+    right = p .right;
+    bezout =
+        solve R 5 (λ a c l r q. (l :+ r :* q) :* a :+ r :* c := l :* a :+ r :* (q :* a :+ c))
+        refl a c (p .left) (p .right) (d .quotient)
+        ∙ ap (λ u. p .left ⊗ a ⊕ p .right ⊗ (u ⊕ c)) (sym (d .equation))
+        ∙ ap (λ u. p .left ⊗ a ⊕ p .right ⊗ u) (solve R 2 (λ b c. b :+ :- c :+ c := b) refl b c)
+        ∙ p .bezout;
+  }
 
   pub coprime-product-divides : {a b h : K} → Coprime a b → Divides a h → Divides b h → Divides (a ⊗ b) h
   coprime-product-divides {a} {b} p d e = coprime-member (multiples-ideal (a ⊗ b)) p

@@ -28,5 +28,8 @@ pub mod Period
 pub mod Digits
 pub mod LeastPower
 pub mod Residues
+pub mod Roots
 pub mod FiniteField
 pub mod Order
+pub mod BenOr
+pub mod Raised

@@ -12,6 +12,7 @@
 --   prime-decided    == whether p is prime is decided by trial division
 --   prime-inverse    == a prime p that does not divide a: some x with a * x = 1 modulo p
 --   euclid           == Euclid's lemma: a prime that divides a product divides a factor
+--   power-less       == powers of q > 1 grow with the exponent
 --   split-power      == N > 0 is p^w * M with p not dividing M, for p > 1
 --
 -- "a divides b" is `a ∣ b` of the native library; `b % a ≡ 0` says the same.
@@ -25,6 +26,9 @@ use native.Mathlib.Nat.{
   one-mul,
   pow-zero,
   pow-suc,
+  pow-succ',
+  one-le-pow,
+  pow-le-pow-right,
   mod-lt,
   mod-eq-of-lt,
   mod-add-div,
@@ -201,6 +205,14 @@ module _ {p : ℕ} (P : Prime p) where
           a * f .0 * b % p ≡⟨ ap (λ (y : ℕ). y % p) (mul-right-comm a (f .0) b) ⟩
           a * b * f .0 % p ≡⟨ mod-eq-zero-of-dvd p (dvd-mul-right-of-dvd p h (f .0)) ⟩
           0 ∎
+
+-- Powers
+pub power-less : {q i d : ℕ} → 1 < q → i < d → q ^ i < q ^ d
+power-less {q} {i} {d} l k =
+    let some : 1 ≤ q ^ i = one-le-pow i q (omega arith) in
+    let twice : 2 * q ^ i ≤ q * q ^ i = mul-le-mul-right (q ^ i) l in
+    let next : q ^ suc i ≤ q ^ d = pow-le-pow-right (omega arith) k in
+    omega (arith, pow-succ' q i)
 
 -- Powers of p in a number
 split-bounded : (p : ℕ) → 1 < p → (b N : ℕ) → N ≤ b → 0 < N → (w M : ℕ) × (N ≡ p ^ w * M) × ¬ (p ∣ M)

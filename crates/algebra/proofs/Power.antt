@@ -1,11 +1,14 @@
 -- Powers in a ring with natural exponents.
 --
 --   power R a n   == a ⊗ … ⊗ a with n factors; 1# for n = 0, also where a is 0#
+--   power-tower   == the power q^(i + 1) is the power q of the power q^i
+--   tower-fixed   == where a^q = a, so is a^(q^i)
+--   tower-sum     == where the power q respects sums, so does the power q^i
 --
 -- Assumes nothing.
-use mathlib.Core.Path.{_≡_, refl, sym, ap, _∙_}
+use mathlib.Core.Path.{_≡_, refl, sym, ap, ap₂, _∙_}
 use mathlib.Core.HLevel.{dec→stable}
-use Prim.Native.Nat.{ℕ, zero, suc, _+_, _*_, _-_, _≤_, _<_}
+use Prim.Native.Nat.{ℕ, zero, suc, _+_, _*_, _-_, _^_, _≤_, _<_}
 use native.Mathlib.Nat as ℕ
 use Rattle.algebra.proofs.Ring.{Ring, Field, Hom}
 use Rattle.algebra.proofs.Ring.{one-mul, mul-zero, mul-mul-comm}
@@ -68,6 +71,32 @@ module _ {K : Type 0} (R : Ring K) where
   -- A power of a unit is a unit.
   pub power-unit : {a b : K} (n : ℕ) → a ⊗ b ≡ 1# → power a n ⊗ power b n ≡ 1#
   power-unit {a} {b} n e = sym (power-mul a b n) ∙ ap (λ x. power x n) e ∙ power-of-one n
+
+-- Powers with the exponent q^i are taken by q one after the other.
+module _ {K : Type 0} (R : Ring K) (q : ℕ) where
+  open Ring R using (_⊕_)
+
+  infixl 60 _⊕_
+  pub power-tower : (a : K) (i : ℕ) → power R a (q ^ suc i) ≡ power R (power R a (q ^ i)) q
+  power-tower a i = ap (power R a) (ℕ.pow-suc q i) ∙ sym (power-power R a (q ^ i) q)
+
+  pub tower-one : (a : K) → power R a (q ^ 0) ≡ a
+  tower-one a = ap (power R a) (ℕ.pow-zero q) ∙ power-one R a
+
+  pub tower-fixed : {a : K} → power R a q ≡ a → (i : ℕ) → power R a (q ^ i) ≡ a
+  tower-fixed {a} e zero = tower-one a
+  tower-fixed {a} e (suc i) = power-tower a i ∙ ap (λ u. power R u q) (tower-fixed e i) ∙ e
+
+  pub tower-sum :
+      ((a b : K) → power R (a ⊕ b) q ≡ power R a q ⊕ power R b q)
+      → (i : ℕ) (a b : K)
+      → power R (a ⊕ b) (q ^ i) ≡ power R a (q ^ i) ⊕ power R b (q ^ i)
+  tower-sum h zero a b = tower-one (a ⊕ b) ∙ sym (ap₂ _⊕_ (tower-one a) (tower-one b))
+  tower-sum h (suc i) a b =
+      power-tower (a ⊕ b) i
+      ∙ ap (λ u. power R u q) (tower-sum h i a b)
+      ∙ h (power R a (q ^ i)) (power R b (q ^ i))
+      ∙ sym (ap₂ _⊕_ (power-tower a i) (power-tower b i))
 
 -- A homomorphism respects powers.
 pub hom-power :

@@ -2,6 +2,7 @@
 --
 --   field-isField     == it is a field
 --   field-size        == its size
+--   size-power        == it is a power of the characteristic
 --   size-prime        == the size is prime
 --   size-least, size-most == and from 2 to 251
 --   remainder-small   == a remainder by the size is below 251
@@ -11,18 +12,23 @@
 --   element-below, element-small == such an element is below the size, and so below 251
 --
 -- Assumes nothing.
-use Prim.Native.Nat.{ℕ, _+_, _*_, _%_, _≤_, _<_}
+use Prim.Native.Nat.{ℕ, _+_, _*_, _^_, _%_, _≤_, _<_}
 use mathlib.Core.Path.{_≡_, sym, ap, _∙_}
 use native.Mathlib.Nat.{mod-lt, mod-mod, zero-mod}
 use native.Mathlib.Omega.{arith}
 use Rattle.bridge.proofs.Interpretation.{IsField, Prime, prime-size, inRange-isField, inRange-prime}
 use Rattle.bridge.proofs.Interpretation.{prime-add, prime-add-product, prime-add-remainder}
+use Rattle.bridge.proofs.IrreducibleTests.{prime-size-power}
 use Rattle.arith.specs.Represented.{fieldOf, elementOf, WellFormed}
 use Rattle.arith.specs.declared.field.GaloisField.{GaloisField}
 
-field-size : (f : GaloisField) → fieldOf f .size ≡ f .size
+pub field-size : (f : GaloisField) → fieldOf f .size ≡ f .size
 unfolding fieldOf
 field-size f = prime-size (f .size)
+
+pub size-power : (f : GaloisField) → (w : ℕ) × (fieldOf f .size ≡ fieldOf f .characteristic ^ w)
+unfolding fieldOf
+size-power f = (1, prime-size-power (f .size))
 
 module _ (f : GaloisField) where
   pub element-remainder : (n : ℕ) → elementOf (fieldOf f) n ≡ n % f .size

@@ -36,10 +36,10 @@ use Rattle.meaning.specs.Field.{PrimeNumber}
 use Rattle.algebra.proofs.Ring.{Ring, Field as AlgebraField, neg-unique, one-mul, mul-zero, zero-add}
 use Rattle.algebra.proofs.Ring.{mul-neg, mul-nonzero}
 use Rattle.algebra.proofs.Number.{prime-by-remainders, prime-factors}
-use Rattle.algebra.proofs.Power.{power, power-one, power-of-zero, power-suc-left, power-power}
+use Rattle.algebra.proofs.Power.{power, tower-fixed}
 use Rattle.algebra.proofs.Multiple.{multiple as algebra-multiple, multiple-zero, multiple-suc}
 use Rattle.algebra.proofs.Characteristic.{Characteristic, multiple-divides}
-use Rattle.algebra.proofs.FiniteField.{Elements, element-power}
+use Rattle.algebra.proofs.FiniteField.{Elements, element-fixed}
 use Rattle.algebra.proofs.PrimeField.{Residue, residue, primeRing, primeField, prime-characteristic}
 use Rattle.algebra.proofs.PrimeField.{value-residue, residue-value, residue-add, residue-mul}
 use Rattle.algebra.proofs.PrimeField.{residue-zero, residue-one}
@@ -396,18 +396,8 @@ module _ {F : Field} (I : IsField F) where
 
   -- Raising to the size, and to powers of the characteristic where that is the size
   pub power-size : (c : K) → power ring c (F .size) ≡ c
-  power-size c = elim (field .discrete c 0#) [
-    | yes z ↦ ap (λ x. power ring x (F .size)) z ∙ power-of-zero ring (F .size) size-positive ∙ sym z
-    | no h ↦
-        ap (power ring c) (omega (arith, size-two))
-        ∙ power-suc-left ring c (F .size - 1)
-        ∙ ap (_⊗_ c) (element-power field elements h)
-        ∙ ring .mul-one c
-  ]
+  power-size c = element-fixed field elements c
 
   pub power-fixed :
       F .size ≡ F .characteristic → (w : ℕ) (c : K) → power ring c (F .characteristic ^ w) ≡ c
-  power-fixed e zero c = rw pow-zero (power-one ring c)
-  power-fixed e (suc w) c =
-      rw (pow-suc, ← power-power ring c)
-      (ap₂ (power ring) (power-fixed e w c) (sym e) ∙ power-size c)
+  power-fixed e w c = tower-fixed ring _ (rw e at (power-size c)) w

@@ -7,6 +7,11 @@ pub mod Actions
 pub mod Monics
 pub mod Irreducibles
 pub mod Remainders
+pub mod IrreducibleTests
+pub mod Residues
+pub mod Words
+pub mod TrialDivision
+pub mod Bits
 pub mod Continuations
 pub mod Minimal
 pub mod KnownActions

@@ -16,6 +16,7 @@ use mathlib.Core.Bool.{Bool}
 use mathlib.Core.List.{List, [], _∷_, _++_, map, List·Memᴰ, List·Memᴰ·head, List·Memᴰ·tail}
 use mathlib.Core.List.{Memᴰ·cast, Memᴰ·append-left, Memᴰ·append-right, Memᴰ·map}
 use mathlib.Core.List.{Memᴰ·of-map}
+use native.Mathlib.Nat.{pow-succ', div-div-eq-div-mul, div-one}
 use native.Mathlib.Nat.{not-suc-le-zero, le-of-suc-le-suc, pow-zero, pow-suc, mod-lt, div-add-mod'}
 use native.Mathlib.Nat.{div-lt-iff-lt-mul, suc-mul}
 use native.Mathlib.Omega.{arith}
@@ -46,6 +47,14 @@ pub length-digits : (q d n : ℕ) → length (digits q d n) ≡ d
 unfolding digits
 length-digits q zero n = refl
 length-digits q (suc d) n = ap suc (length-digits q d (n / q))
+
+pub getD-digits : (q d n i : ℕ) → i < d → getD (digits q d n) i 0 ≡ digit q n i
+unfolding digits digit
+getD-digits q zero n i l = absurd (not-suc-le-zero l)
+getD-digits q (suc d) n zero l = ap (λ m. m % q) (sym (div-one n) ∙ ap (_/_ n) (sym (pow-zero q)))
+getD-digits q (suc d) n (suc i) l =
+    getD-digits q d (n / q) i (le-of-suc-le-suc l)
+    ∙ ap (λ m. m % q) (div-div-eq-div-mul n q (q ^ i) ∙ ap (_/_ n) (sym (pow-succ' q i)))
 
 pub monicAt-zero : (q n : ℕ) → monicAt q 0 n ≡ 1 ∷ []
 unfolding monicAt digits

@@ -1,3 +1,3 @@
-pub mod Trial
+pub mod Lists
 pub mod Accepted
-pub mod Binary
+pub mod Testing

@@ -1,4 +1,5 @@
-pub mod Trial
-pub mod trial_division
-pub mod binary_division
-pub mod lane_division
+pub mod Accepted
+pub mod residues
+pub mod frobenius
+pub mod binary
+pub mod BenOr

@@ -1,3 +1,4 @@
+pub mod common_divisor
 pub mod convolution
 pub mod products
 pub mod raising

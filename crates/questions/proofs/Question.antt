@@ -14,7 +14,7 @@ use Rattle.meaning.specs.Calls.{IrreducibleCall}
 use Rattle.refusals.specs.declared.Verdict.{Verdict}
 use Rattle.refusals.specs.Verdicts.{numberIn}
 use Rattle.refusals.proofs.Settled.{verdict-passes, settle-refused, settle-accepted}
-use Rattle.irreducible.specs.Trial.{Accepted}
+use Rattle.irreducible.specs.Accepted.{Accepted}
 
 module _ (p : ℕ) (f : Polynomial) {v : Verdict} (e : numberIn v ≡ firstOf (irreducibleTable p f)) where
   pub question-refused : {x : Refusal}

@@ -28,7 +28,7 @@ use Rattle.meaning.proofs.Passes.{Passes}
 use Rattle.bridge.proofs.Interpretation.{inRange-isField}
 use Rattle.bridge.proofs.Irreducibles.{accepted-irreducible}
 use Rattle.bridge.proofs.Accepted.{prime-accepted, count-accepted, terms-accepted}
-use Rattle.irreducible.specs.Trial.{Accepted}
+use Rattle.irreducible.specs.Accepted.{Accepted}
 use Rattle.irreducible.proofs.Accepted.{accepted-short}
 use Rattle.refusals.specs.declared.Verdict.{Verdict}
 use Rattle.refusals.specs.Verdicts.{numberIn, allButLast, periodChecks}

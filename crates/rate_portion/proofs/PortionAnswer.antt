@@ -32,7 +32,7 @@ use Rattle.bridge.proofs.Products.{monics-nonempty}
 use Rattle.bridge.proofs.Irreducibles.{accepted-irreducible, single-factor}
 use Rattle.bridge.proofs.Portions.{leastAt-exists}
 use Rattle.bridge.proofs.Accepted.{prime-accepted, count-accepted, terms-accepted, enough-accepted}
-use Rattle.irreducible.specs.Trial.{Accepted}
+use Rattle.irreducible.specs.Accepted.{Accepted}
 use Rattle.refusals.specs.declared.Verdict.{Verdict}
 use Rattle.refusals.specs.Verdicts.{numberIn, allButLast, portionChecks}
 use Rattle.refusals.proofs.Settled.{verdict-passes, settle-early, portion-last}

@@ -30,7 +30,7 @@ use Rattle.bridge.proofs.Polynomials.{monic-nonempty}
 use Rattle.bridge.proofs.Products.{accepted-monic}
 use Rattle.bridge.proofs.Irreducibles.{accepted-degree}
 use Rattle.bridge.proofs.RepeatBounds.{repeatBound-exists}
-use Rattle.irreducible.specs.Trial.{Accepted}
+use Rattle.irreducible.specs.Accepted.{Accepted}
 use Rattle.refusals.specs.declared.Verdict.{Verdict}
 use Rattle.refusals.specs.Verdicts.{numberIn}
 use Rattle.refusals.proofs.Settled.{settle-last, settle-over}

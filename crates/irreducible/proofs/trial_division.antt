@@ -1,4 +1,0 @@
-pub mod Word
-pub mod Remainder
-pub mod Searching
-pub mod Packed
