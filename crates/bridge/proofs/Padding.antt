@@ -6,6 +6,7 @@
 --                      alone for the empty list
 --   pad-take, pad-drop, pad-split, pad-append, pad-after == its parts
 --   pad-leading     == writing 1 in place of the first zero puts 1 at the end of l
+--   getD-zeros-after == zeros after a list are not seen when it is read past its end
 --   part-paste      == a list written into a part of w changes that part as if it stood alone
 --   paste-pad       == a list written into one with zeros after it, in full
 --   getD-plus, getD-scale, length-plus-left == sums and multiples by places, over any `Field`
@@ -29,6 +30,13 @@ use Rattle.meaning.specs.Sequence.{known, cut}
 use Rattle.bridge.proofs.Polynomials.{length-scale}
 use Rattle.bridge.proofs.Actions.{length-cut, getD-cut, cut-take, cut-drop, cut-append, cut-known}
 use Rattle.bridge.proofs.Actions.{cut-equal, known-getD}
+
+pub getD-zeros-after : (f : List ℕ) (n i : ℕ) → getD (f ++ replicate n 0) i 0 ≡ getD f i 0
+getD-zeros-after [] zero i = refl
+getD-zeros-after [] (suc n) zero = refl
+getD-zeros-after [] (suc n) (suc i) = getD-zeros-after [] n i
+getD-zeros-after (a ∷ f) n zero = refl
+getD-zeros-after (a ∷ f) n (suc i) = getD-zeros-after f n i
 
 -- A list with zeros after it
 abbrev pub pad : ℕ → List ℕ → List ℕ

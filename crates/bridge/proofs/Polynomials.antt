@@ -3,6 +3,7 @@
 --   Poly I         == the polynomials of `algebra` over the field that F is
 --   poly I f       == the polynomial whose coefficients the numbers of the list f stand for
 --   list I h       == the list of numbers of a polynomial h: its coefficients up to the last that is not 0
+--   append-elements, drop-elements, set-elements, zeros-elements == parts of lists have elements for numbers
 --   poly-plus, poly-scale, poly-times, poly-one == operations on lists are those of polynomials; no condition
 --   times-elements == products of any two lists have elements of F alone for numbers
 --   length-times, degree-times == the product of lists that are not empty
@@ -23,7 +24,8 @@ use mathlib.Core.Bool.{Bool, true, false}
 use mathlib.Core.List.{List, [], _∷_, _++_, map}
 use native.Mathlib.Nat.{not-suc-le-zero, le-of-suc-le-suc}
 use native.Mathlib.Omega.{arith}
-use lib.ListN.{length, getD, length-append, length-map, List·getD-map, List·getD-eq-default}
+use lib.ListN.{length, getD, drop, set, replicate, length-append, length-map, List·getD-map}
+use lib.ListN.{List·getD-eq-default}
 use lib.Seq.{ext-getD, getD-append-seam}
 use lib.Dec.{T, eqb, ltb→lt, lt→ltb, eqb→eq, eqb-refl}
 use Rattle.meaning.specs.Field.{Field, isElement, areElements}
@@ -79,6 +81,28 @@ module _ (F : Field) where
   getD-elements [] h = elements-nil
   getD-elements (a ∷ f) h =
       elements-cons f (h 0 (omega arith)) (getD-elements f (λ i l. h (suc i) (suc-le-suc l)))
+
+  pub append-elements :
+      (f g : List ℕ) → T (areElements F f) → T (areElements F g) → T (areElements F (f ++ g))
+  append-elements [] g h k = k
+  append-elements (a ∷ f) g h k =
+      let (l, m) = elements-uncons a f h in elements-cons (f ++ g) l (append-elements f g m k)
+
+  pub drop-elements : (n : ℕ) (f : List ℕ) → T (areElements F f) → T (areElements F (drop n f))
+  drop-elements zero f h = h
+  drop-elements (suc n) [] h = h
+  drop-elements (suc n) (a ∷ f) h = drop-elements n f (elements-uncons a f h .1)
+
+  pub set-elements :
+      (f : List ℕ) (i c : ℕ) → c < F .size → T (areElements F f) → T (areElements F (set f i c))
+  set-elements [] i c l h = h
+  set-elements (a ∷ f) zero c l h = elements-cons f l (elements-uncons a f h .1)
+  set-elements (a ∷ f) (suc i) c l h =
+      let (k, m) = elements-uncons a f h in elements-cons (set f i c) k (set-elements f i c l m)
+
+pub zeros-elements : {F : Field} (I : IsField F) (n : ℕ) → T (areElements F (replicate n 0))
+zeros-elements {F} I zero = elements-nil F
+zeros-elements {F} I (suc n) = elements-cons F (replicate n 0) (size-positive I) (zeros-elements I n)
 
 -- Lists as polynomials
 module _ {F : Field} (I : IsField F) where

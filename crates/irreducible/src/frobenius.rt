@@ -1,10 +1,10 @@
 // The power q of a residue, q being the size of the field: it is the sum of h0·x^0, h1·x^q, h2·x^(2·q), …
 // modulo f. A table has x^(j·q) modulo f from place 32·j on, for j below the degree of f. Assumes a
 // well-formed field, f monic over it of a degree from 1 to 32, and its elements everywhere.
-use crate::residues::multiply_modulo;
-use crate::residues::power_of_x;
 use arith::GaloisField;
 use poly::common_divisor::trimmed_length;
+use poly::residues::multiply_modulo;
+use poly::residues::power_of_x;
 ghost use mathlib.Core.Path.{_≡_};
 ghost use Prim.Native.Nat.{_≤_};
 ghost use lib.ListN.{length, replicate};
@@ -12,7 +12,7 @@ ghost use lib.Dec.{T};
 ghost use Rattle.meaning.specs.Field.{areElements};
 ghost use Rattle.meaning.specs.Polynomial.{degree, times};
 ghost use Rattle.arith.specs.Represented.{fieldOf, WellFormed};
-ghost use Rattle.irreducible.specs.residues.Residues.{Modulus, Residue};
+ghost use Rattle.poly.specs.residues.Residues.{Modulus, Residue};
 ghost use Rattle.irreducible.specs.frobenius.Table.{Rows, Table, Summed};
 
 // Leaves row·y modulo f in the place of row.

@@ -4,16 +4,19 @@
 --   lent-length       == a part that is lent
 --   zeros-length, zeros-lent == zeros that are lent from the front
 --   zeros-front, zeros-enough == what came back for them, lent again
+--   copied, front-copied == a list that is copied over one that is no longer; the front of one
+--   front-fits, front-room == a part from the front is not longer than was asked for, and is there
 --   cleared-part      == the work bytes after their first 8,192 were lent on and came back as zeros
 --
 -- Assumes nothing.
 use Prim.Native.Nat.{ℕ, zero, suc, _+_, _-_, _≤_}
-use mathlib.Core.Path.{_≡_, refl, sym, ap, _∙_}
-use mathlib.Core.List.{List, _∷_, _++_, append-assoc}
+use mathlib.Core.Path.{_≡_, refl, sym, ap, ap₂, _∙_}
+use mathlib.Core.List.{List, _∷_, _++_, append-assoc, append-nil}
 use native.Mathlib.Nat.{sub-zero, add-sub-cancel-left, not-suc-le-zero, le-of-suc-le-suc}
 use native.Mathlib.Omega.{arith}
 use lib.ListN.{length, take, drop, replicate, length-append, length-take, length-replicate}
-use lib.Seq.{paste, take-all, take-at, drop-drop, length-take-le}
+use lib.ListN.{drop-of-length-le}
+use lib.Seq.{paste, take-all, take-length, take-at, drop-drop, length-take-le}
 use borrow.Rule.Slice.PartMut.{putMid}
 use Rattle.meaning.specs.Result.{cleared}
 use Rattle.arith.proofs.Slices.{length-part}
@@ -51,6 +54,27 @@ module _ (m n : ℕ) (h : m ≤ n) where
 
     pub zeros-enough : m ≤ length (y ++ drop (m - 0) (replicate n 0))
     zeros-enough = omega (arith, zeros-length, length-append y (drop (m - 0) (replicate n 0)))
+
+-- A list that is copied over another
+pub copied : (l t : List ℕ) → length l ≤ length t → take (length t) t ++ drop (length t) l ≡ t
+copied l t h = ap₂ _++_ (take-length t) (drop-of-length-le l h) ∙ append-nil t
+
+-- A part from the front, as it is lent and copied
+pub front-fits : (l : List ℕ) (n : ℕ) → length (take (n - 0) l) ≤ n
+front-fits l n = omega (arith, length-take (n - 0) l)
+
+pub front-room : (ys t : List ℕ) {n : ℕ} → length ys ≡ n → n ≤ length (ys ++ t)
+front-room ys t e = omega (arith, length-append ys t)
+
+pub front-copied :
+    (ys t dst : List ℕ)
+    → length ys ≡ length dst
+    → take (length (take (length dst - 0) (ys ++ t))) (take (length dst - 0) (ys ++ t))
+    ++ drop (length (take (length dst - 0) (ys ++ t))) dst
+    ≡ ys
+front-copied ys t dst e =
+    let b : take (length dst - 0) (ys ++ t) ≡ ys = take-at ys t (length dst - 0) (e ∙ omega arith) in
+    ap (λ u. take (length u) u ++ drop (length u) dst) b ∙ copied dst ys (omega arith)
 
 pub cleared-part : {ys : List ℕ} (w : List ℕ)
     → 8192 ≤ length w

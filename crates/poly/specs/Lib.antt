@@ -3,3 +3,4 @@ pub mod convolution
 pub mod products
 pub mod raising
 pub mod division
+pub mod residues

@@ -1,5 +1,6 @@
 // Polynomials over GF(p) in lent bytes: products with f(x^q) and with powers of f, the remainder by a monic
-// polynomial, common divisors, equality, and the total degree of factors with their upper powers.
+// polynomial, products modulo it, common divisors, equality, and the total degree of factors with their upper
+// powers.
 pub mod common_divisor;
 pub mod convolution;
 pub mod division;
@@ -7,3 +8,4 @@ pub mod equality;
 pub mod factors;
 pub mod products;
 pub mod raising;
+pub mod residues;

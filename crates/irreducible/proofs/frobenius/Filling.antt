@@ -32,10 +32,11 @@ use Rattle.arith.proofs.Represented.{field-isField}
 use Rattle.arith.proofs.Slices.{part-paste-inside, part-paste-before}
 use Rattle.lent.proofs.Parts.{put-paste}
 use Rattle.poly.specs.common_divisor.Common.{Trimmed}
-use Rattle.irreducible.specs.residues.Residues.{Modulus, Factors, Residue}
+use Rattle.poly.specs.residues.Residues.{Modulus, Factors, Residue}
 use Rattle.irreducible.specs.frobenius.Table.{row, Rows, Table}
-use Rattle.irreducible.proofs.Lists.{set-elements, zeros-elements, copied}
-use Rattle.irreducible.proofs.residues.Powers.{lent-back}
+use Rattle.bridge.proofs.Polynomials.{set-elements, zeros-elements}
+use Rattle.lent.proofs.Parts.{copied}
+use Rattle.poly.proofs.residues.Powers.{lent-back}
 
 module _ (field : GaloisField) (f y : Polynomial) where
   abbrev F₁ : Field
@@ -140,7 +141,7 @@ module _ {field : GaloisField} (v : WellFormed field) {f : Polynomial} (y : Poly
           )
 
       ys-is : ys ≡ src
-      ys-is = c ∙ copied src _ (src-length ∙ sym room)
+      ys-is = c ∙ copied _ src (omega (arith, src-length, room))
 
       ys-length : length ys ≡ d
       ys-length = ap length ys-is ∙ src-length

@@ -26,7 +26,7 @@ use Rattle.arith.specs.declared.field.GaloisField.{GaloisField}
 use Rattle.arith.proofs.Represented.{field-isField, size-power}
 use Rattle.arith.proofs.Slices.{length-combined}
 use Rattle.irreducible.specs.frobenius.Table.{row, Rows, Summed}
-use Rattle.irreducible.proofs.Lists.{zeros-elements}
+use Rattle.bridge.proofs.Polynomials.{zeros-elements}
 
 pub record Summing (field : GaloisField) (table h sum : List ℕ) (j : ℕ) : Type 0 where
   pub within : j ≤ length h

@@ -1,25 +1,21 @@
 -- Lists written into others, and what stands where afterwards.
 --
---   copied            == a list copied over another of its length
 --   writing-block     == a turn of a loop that writes m numbers of a list at once
 --   kept-half, placed == numbers pasted at the front of a half: what stands in the two halves and beyond
 --
 -- Assumes nothing.
 use Prim.Native.Nat.{ℕ, _+_, _*_, _-_, _≤_}
 use mathlib.Core.Path.{_≡_, sym, ap, ap₂, subst, _∙_}
-use mathlib.Core.List.{List, _++_, append-assoc, append-nil}
+use mathlib.Core.List.{List, _++_, append-assoc}
 use native.Mathlib.Decide.{decLt}
 use native.Mathlib.Omega.{arith}
-use lib.ListN.{length, take, drop, drop-of-length-le}
+use lib.ListN.{length, take, drop}
 use lib.Seq.{take-length, take-take, take-add, drop-drop}
 use lib.Seq.{paste, take-paste, drop-paste, length-paste}
 use Rattle.arith.specs.Slices.{part}
 use Rattle.arith.proofs.Slices.{part-paste-inside, part-paste-before, part-paste-after}
 use Rattle.arith.proofs.Writing.{Writing}
 use Rattle.lent.specs.halves.Halves.{half, Placed}
-
-pub copied : (l t : List ℕ) → length l ≤ length t → take (length t) t ++ drop (length t) l ≡ t
-copied l t h = ap₂ _++_ (take-length t) (drop-of-length-le l h) ∙ append-nil t
 
 -- A list written piece by piece
 module _ (l : List ℕ) (x : ℕ) (t : List ℕ) (i m : ℕ) (h : x + i + m ≤ length l) (k : i + m ≤ length t) where

@@ -17,8 +17,7 @@ use Rattle.meaning.specs.Field.{Field, areElements}
 use Rattle.meaning.specs.Polynomial.{plus, scale, times}
 use Rattle.meaning.specs.Sequence.{Sequence, known}
 use Rattle.bridge.proofs.Interpretation.{IsField, number-add-comm, number-zero-add, number-mul-zero}
-use Rattle.bridge.proofs.Interpretation.{size-positive}
-use Rattle.bridge.proofs.Polynomials.{scale-elements, times-elements, elements-nil, elements-cons}
+use Rattle.bridge.proofs.Polynomials.{scale-elements, times-elements, append-elements, zeros-elements}
 use Rattle.bridge.proofs.Spread.{spread}
 use Rattle.bridge.proofs.Actions.{known-getD}
 use Rattle.bridge.proofs.Coefficients.{getD-zeros, getD-sum, getD-multiple}
@@ -57,10 +56,6 @@ module _ {F : Field} (I : IsField F) where
       convolved-skip (length f) f q s k h
       ∙ ap (λ g. convolved F g q s (k - q * length f)) (drop-of-length-le f (le-refl (length f)))
 
-  zeros-elements : (n : ℕ) → T (areElements F (replicate n 0))
-  zeros-elements zero = elements-nil F
-  zeros-elements (suc n) = elements-cons F (replicate n 0) (size-positive I) (zeros-elements n)
-
   -- The product with c + x^q·g(x^q)
   module _ (a : List ℕ) (some : 0 < length a) where
     abbrev u : Sequence
@@ -79,8 +74,7 @@ module _ {F : Field} (I : IsField F) where
         ∙ number-add-comm I (getD v k 0) ((F .mul) c (u k))
 
     shifted : (q : ℕ) (v : List ℕ) → T (areElements F v) → T (areElements F (replicate q 0 ++ v))
-    shifted zero v h = h
-    shifted (suc q) v h = elements-cons F (replicate q 0 ++ v) (size-positive I) (shifted q v h)
+    shifted q v h = append-elements F (replicate q 0) v (zeros-elements I q) h
 
     -- the coefficient at place k, by the coefficients of f up to b, which are those that reach it
     pub times-convolved : (f : List ℕ) (q b k : ℕ)
@@ -93,7 +87,7 @@ module _ {F : Field} (I : IsField F) where
     times-convolved [] q b k pos l m h = absurd (omega arith)
     times-convolved (c ∷ []) q zero k pos l m h =
         ap (λ v. getD v k 0) (times-spread-one I a some q c)
-        ∙ summed (replicate (length a) 0) c k (zeros-elements (length a))
+        ∙ summed (replicate (length a) 0) c k (zeros-elements I (length a))
         ∙ ap ((F .add) ((F .mul) c (u k))) (getD-zeros (length a) k)
     times-convolved (c ∷ []) q (suc b) k pos l m h = absurd (omega arith)
     times-convolved (c ∷ d ∷ g) q zero k pos l m h =

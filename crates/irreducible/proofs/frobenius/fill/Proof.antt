@@ -2,7 +2,7 @@
 -- Assumes nothing.
 use lib.ListN.{length, drop, replicate}
 use Rattle.irreducible.proofs.frobenius.Filling.{trimmed-room, short-elements, short-length, power-trimmed}
-use Rattle.irreducible.proofs.Lists.{front-room}
+use Rattle.lent.proofs.Parts.{front-room}
 use Rattle.lent.proofs.Parts.{zeros-length}
 use Rattle.arith.proofs.Represented.{field-size}
 use Rattle.arith.specs.Represented.{fieldOf}
@@ -18,7 +18,7 @@ use Rattle.irreducible.proofs.frobenius.fill.Tie as tie
 use Rattle.irreducible.proofs.frobenius.fill.Reads as reads
 use Rattle.irreducible.proofs.frobenius.fill.Lts as lts
 use Rattle.irreducible.proofs.frobenius.fill_rows.Reads as fill-rows-reads
-use Rattle.irreducible.proofs.residues.power_of_x.Reads as power-of-x-reads
+use Rattle.poly.proofs.residues.power_of_x.Reads as power-of-x-reads
 use Rattle.poly.proofs.common_divisor.trimmed_length.Reads as trimmed-length-reads
 
 -- src/frobenius.rt:60:13

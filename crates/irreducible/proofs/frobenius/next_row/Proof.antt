@@ -1,7 +1,7 @@
 -- `next_row` meets its contract. The row is copied, and multiplied into its own place.
 -- Assumes nothing.
 use Rattle.irreducible.proofs.frobenius.Filling.{old-back, row-factors, row-short}
-use Rattle.irreducible.specs.residues.Residues.{Factors, Residue}
+use Rattle.poly.specs.residues.Residues.{Factors, Residue}
 use Rattle.arith.specs.Represented.{fieldOf}
 use Rattle.meaning.specs.Polynomial.{times}
 use denote.Ref.{now}
@@ -15,7 +15,7 @@ use Rattle.irreducible.proofs.frobenius.next_row.Tie as tie
 use Rattle.irreducible.proofs.frobenius.next_row.Reads as reads
 use Rattle.irreducible.proofs.frobenius.next_row.Lts as lts
 use Rattle.bytes.proofs.copy.Reads as copy-reads
-use Rattle.irreducible.proofs.residues.multiply_modulo.Reads as multiply-modulo-reads
+use Rattle.poly.proofs.residues.multiply_modulo.Reads as multiply-modulo-reads
 
 -- src/frobenius.rt:29:22
 slice-aggregate-copy : tie.Need-slice-aggregate-copy

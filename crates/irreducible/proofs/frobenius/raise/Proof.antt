@@ -3,7 +3,7 @@
 use lib.ListN.{length, drop, replicate}
 use mathlib.Core.Path.{sym, subst, _∙_}
 use Prim.Native.Nat.{_-_}
-use Rattle.irreducible.proofs.Lists.{front-fits, front-room, front-copied}
+use Rattle.lent.proofs.Parts.{front-fits, front-room, front-copied}
 use Rattle.irreducible.specs.frobenius.Table.{Summed}
 use Rattle.lent.proofs.Parts.{zeros-length, zeros-lent}
 use denote.Ref.{now}

@@ -7,8 +7,8 @@ use lib.ListN.{length, drop, length-take}
 use lib.Seq.{paste}
 use denote.Ref.{now}
 use Rattle.arith.specs.Slices.{part}
-use Rattle.lent.proofs.Parts.{put-paste}
-use Rattle.lent.proofs.halves.Places.{copied, placed}
+use Rattle.lent.proofs.Parts.{put-paste, copied}
+use Rattle.lent.proofs.halves.Places.{placed}
 use borrow.Author.Needs.{needs}
 use Rattle.lent.proofs.halves.load.Statement.{statement}
 use Rattle.lent.proofs.halves.load.Tie as tie
