@@ -199,8 +199,8 @@ static void large_set(uint32_t p, size_t degree) {
         } while (again);
         add_factor(j, f, degree, 4096 / (8 * degree));
     }
-    j->count = 4096;
-    random_terms(j, 0, 4096);
+    j->count = 8 * degree * (4096 / (8 * degree));
+    random_terms(j, 0, j->count);
     snprintf(j->name, sizeof j->name, "set of eight factors of degree %zu, powers %zu, GF(%u)", degree,
              4096 / (8 * degree), p);
 }

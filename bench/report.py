@@ -254,21 +254,19 @@ def crates():
 
 # ---- what is slower, and why
 
-FROBENIUS = ('trial division takes some p^(d/2) divisions by other polynomials, and the peers compare powers of x modulo '
-             'the polynomial, which takes some d^3 steps')
 WORDS = '%s keeps 64 coefficients of GF(2) in a word, and the rater one in a byte, as its callers do'
 SUMS = ('the sum of products, of which the compiler of the proved source makes a loop of 8 products a step, and the C '
         'compiler one of 16')
 PRODUCT = ('the product in the answer, where the rater takes a remainder for each coefficient of a factor, zeros included, '
            'and C one for all of them')
+BEN_OR = ('the question whether a factor of a large degree is irreducible: the C version adds up in 16-bit numbers and takes '
+          'the remainders once a row, the rater after each product')
 REASONS = {
     ('free 2', 'NTL'): WORDS % 'NTL' + '; and the half-gcd of NTL takes less than the square of the terms',
     ('free 2', 'PARI'): WORDS % 'PARI',
-    ('irreducible', 'NTL'): FROBENIUS, ('irreducible', 'FLINT'): FROBENIUS, ('irreducible', 'PARI'): FROBENIUS,
     ('free 2', 'tuned'): SUMS, ('free', 'tuned'): SUMS,
     ('set', 'tuned'): PRODUCT,
-    ('irreducible', 'tuned'): 'Ben-Or\'s test in C, in 16-bit numbers and with the sums reduced once a row, where the rater '
-                              'works in bytes',
+    ('irreducible', 'tuned'): BEN_OR, ('portion', 'tuned'): BEN_OR,
 }
 
 

@@ -64,12 +64,14 @@ module _ {A : Type 0} {result : Result (Rated A)} {answer work : List ℕ} where
         workBytes = w ∙ ap (λ (r : Result (Rated A)). workAfter r work) (sym e);
       }
 
-  pub lent-refused : {n : ℕ} → result ≡ refused n → eqb n 17 ≡ false → LentAfter result answer work answer work
+  pub lent-refused : {n : ℕ} → result ≡ refused n → eqb n 17 ≡ false
+      → LentAfter result answer work answer work
   unfolding answerAfter workAfter
   lent-refused {n} e h = lent e refl (sym (rw (h, workAfter)))
 
   pub lent-seventeen :
-      {work′ : List ℕ} → result ≡ refused 17 → work′ ≡ cleared work → LentAfter result answer work answer work′
+      {work′ : List ℕ} → result ≡ refused 17 → work′ ≡ cleared work
+      → LentAfter result answer work answer work′
   unfolding answerAfter workAfter
   lent-seventeen e w = lent e refl w
 

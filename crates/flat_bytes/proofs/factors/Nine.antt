@@ -72,7 +72,8 @@ module _ (p : ℕ) (us ts : List ℕ) (answer work : ℕ) where
       (too-many (length (named fs us)) (omega (arith, length-named fs us)))
       (too-many (length (named gs us)) (omega (arith, length-named gs us)))
 
-  pub set-nine : (fs : List Polynomial) → rateSet p (take 9 fs) us ts answer work ≡ rateSet p fs us ts answer work
+  pub set-nine : (fs : List Polynomial)
+      → rateSet p (take 9 fs) us ts answer work ≡ rateSet p fs us ts answer work
   set-nine fs = elim (decLt 9 (length fs)) [
     | yes h ↦
         set-refuses-many (take 9 fs) fs (omega (arith, length-take 9 fs)) (omega arith)

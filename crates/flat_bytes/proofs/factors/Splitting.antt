@@ -1,9 +1,11 @@
 -- Flat bytes part by part.
 --
---   PartFrom b ns i from j == part i of the bytes b, cut by the lengths ns, is part i − j of the bytes from the
+--   PartFrom b ns i from j == part i of the bytes b, cut by the lengths ns, is part i − j of the bytes from
+--                      the
 --                     place `from` on, cut by the lengths from j on
 --   split-length     == there are as many parts as lengths
---   reads d l i k    == k elements of a list from the place i on, as they are read one by one: d beyond its end
+--   reads d l i k    == k elements of a list from the place i on, as they are read one by one: d beyond its
+--                      end
 --   reads-take       == as many of them as there are, are the first k elements
 --   Each l i rs      == the slices rs hold the elements of l from the place i on
 --   rated-parts      == nine slices that hold the parts, cut to the number of parts, are the first nine parts
@@ -59,7 +61,8 @@ module _ (b ns : List ℕ) (j : ℕ) where
   ]
 
   split-later :
-      (k : ℕ) → getD (split b (drop j ns)) (suc k) [] ≡ getD (split (drop (getD ns j 0) b) (drop (suc j) ns)) k []
+      (k : ℕ) → getD (split b (drop j ns)) (suc k) [] ≡ getD (split (drop (getD ns j 0) b) (drop (suc j) ns))
+      k []
   unfolding split
   split-later k = elim (decLt j (length ns)) [
     | yes h ↦ ap (λ l. getD (split b l) (suc k) []) (drop-cons ns j 0 h)

@@ -1,6 +1,7 @@
 -- The table of the powers x^(j·q) modulo f, row by row.
 --
---   Filling field f y table row j == what the loop keeps: row has x^(j·q), and the table has the rows before it
+--   Filling field f y table row j == what the loop keeps: row has x^(j·q), and the table has the rows before
+--                      it
 --   filling-start, filling-next, filling-end == at the start, one row more, at the end
 --   old-back, row-factors == the row that the next one is made of
 --   power-trimmed     == x^q without the zeros at its end
@@ -100,7 +101,8 @@ module _ {field : GaloisField} (v : WellFormed field) {f : Polynomial} (y : Poly
             ∙ sym (List·getD-eq-default (take d one) 0 (omega (arith, length-take d one)))
       ]
 
-  module _ {e : ℕ} (s : e ≡ d) {table now : List ℕ} {j : ℕ} (h : Filling field f y table now j) (l : j < d) where
+  module _ {e : ℕ} (s : e ≡ d) {table now : List ℕ} {j : ℕ} (h : Filling field f y table now j)
+      (l : j < d) where
     abbrev src : List ℕ
     src = take (e - 0) now
 
@@ -128,7 +130,8 @@ module _ {field : GaloisField} (v : WellFormed field) {f : Polynomial} (y : Poly
     src-degree = src-length
 
     module _ {ys zs : List ℕ}
-        (c : ys ≡ take (length src) src ++ drop (length src) (take (32 * j + e - 32 * j) (drop (32 * j) table)))
+        (c : ys ≡ take (length src) src
+        ++ drop (length src) (take (32 * j + e - 32 * j) (drop (32 * j) table)))
         (r : Residue field f (times F y src) zs) where
       room : length (take (32 * j + e - 32 * j) (drop (32 * j) table)) ≡ d
       room =
@@ -187,7 +190,8 @@ module _ {field : GaloisField} (v : WellFormed field) {f : Polynomial} (y : Poly
             current = λ p w.
                 let I : IsField F = field-isField w in
                 let more : F .size + j * F .size ≡ (j + 1) * F .size =
-                add-comm (F .size) (j * F .size) ∙ sym (suc-mul j (F .size)) ∙ ap (λ n. n * F .size) (sym (add-one j)) in
+                add-comm (F .size) (j * F .size) ∙ sym (suc-mul j (F .size))
+                ∙ ap (λ n. n * F .size) (sym (add-one j)) in
                 subst (λ u. Congruent I f (power F (0 ∷ 1 ∷ []) ((j + 1) * F .size)) u) (sym next-row)
                 (subst (λ n. Congruent I f (power F (0 ∷ 1 ∷ []) n) zs) more
                 (heights-times I (F .size) (j * F .size) (p w)
@@ -210,7 +214,8 @@ module _ {field : GaloisField} (v : WellFormed field) {f : Polynomial} (y : Poly
             ];
           }
 
-  pub filling-end : {table now : List ℕ} {j : ℕ} → Filling field f y table now j → d ≤ j → Table field f y table
+  pub filling-end : {table now : List ℕ} {j : ℕ} → Filling field f y table now j → d ≤ j
+      → Table field f y table
   filling-end h l =
       record {
         rows = λ p. record { size = h .tableSize; at = λ k m. h .rows p k (omega arith) };
@@ -221,7 +226,8 @@ abbrev old : List ℕ → List ℕ
 old row₀ = take (length row₀) row₀ ++ drop (length row₀) (replicate 32 0)
 
 module _ (field : GaloisField) {f : List ℕ} (y row₀ : List ℕ) (M : Modulus (fieldOf field) f)
-    (s : length row₀ ≡ degree f) (k : T (areElements (fieldOf field) row₀)) (m : T (areElements (fieldOf field) y)) where
+    (s : length row₀ ≡ degree f) (k : T (areElements (fieldOf field) row₀))
+    (m : T (areElements (fieldOf field) y)) where
   pub old-back : take (length row₀ - 0) (old row₀) ≡ row₀
   old-back =
       ap (λ u. take (length row₀ - 0) (u ++ drop (length row₀) (replicate 32 0))) (take-length row₀)
@@ -265,12 +271,14 @@ module _ {field : GaloisField} {f : List ℕ} (M : Modulus (fieldOf field) f) {e
 
   pub short-elements : T (areElements (fieldOf field) short)
   short-elements =
-      subst (λ g. T (areElements (fieldOf field) g)) (sym short-is) (take-elements (fieldOf field) n ys (r .elements))
+      subst (λ g. T (areElements (fieldOf field) g)) (sym short-is)
+      (take-elements (fieldOf field) n ys (r .elements))
 
   pub power-trimmed : IsPower field f short
   power-trimmed w =
       subst (λ k. Congruent (field-isField w) f (power (fieldOf field) (0 ∷ 1 ∷ []) k) short) z
-      (congruent-trans (field-isField w) (r .congruent w) (congruent-places (field-isField w) ys short places))
+      (congruent-trans (field-isField w) (r .congruent w)
+      (congruent-places (field-isField w) ys short places))
     where
       places : (i : ℕ) → getD ys i 0 ≡ getD short i 0
       places i = elim (decLt i n) [

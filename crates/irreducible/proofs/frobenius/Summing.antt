@@ -88,7 +88,8 @@ module _ {field : GaloisField} (v : WellFormed field) (table h : List ℕ) (s : 
               (r .at j (omega arith) .congruent w))));
         }
 
-  pub summing-end : {sum : List ℕ} {j : ℕ} → Summing field table h sum j → length h ≤ j → Summed field table h sum
+  pub summing-end : {sum : List ℕ} {j : ℕ} → Summing field table h sum j → length h ≤ j
+      → Summed field table h sum
   summing-end {sum} {j} m l =
       record {
         size = m .size;

@@ -2,7 +2,8 @@
 -- found.
 --
 --   ratingFound F f o == the answer with f to the power found, or 17 where none was found
---   Answerable F f o  == f is monic over F, of a degree that 10 lets pass, and f to the power found has a degree
+--   Answerable F f o  == f is monic over F, of a degree that 10 lets pass, and f to the power found has a
+--                      degree
 --                        of at most 4,096
 --   FoundRated F f o answer r answer′ == r tells the answer, and the answer bytes have become answer′
 use Prim.Native.Nat.{ℕ, _*_, _≤_}

@@ -80,7 +80,8 @@ returns-2 c =
     let f = y .before .before in
     let a = f .before in
     set-rated _ _ _ _ _ _ (a .before .before .set-verdict .ensures) (a .enum-told .given .1)
-    (f .of-prime .ensures .isField) (field-isField (f .of-prime .ensures .wellFormed)) (y .set-powers .ensures)
+    (f .of-prime .ensures .isField) (field-isField (f .of-prime .ensures .wellFormed))
+    (y .set-powers .ensures)
     (t .if1 .taken)
     (sym (lists-length _))
     (w .write-product .ensures)
@@ -96,7 +97,8 @@ returns-3 c =
     let f = y .before .before in
     let a = f .before in
     set-seventeen _ _ _ _ _ _ (a .before .before .set-verdict .ensures) (a .enum-told .given .1)
-    (f .of-prime .ensures .isField) (field-isField (f .of-prime .ensures .wellFormed)) (y .set-powers .ensures)
+    (f .of-prime .ensures .isField) (field-isField (f .of-prime .ensures .wellFormed))
+    (y .set-powers .ensures)
     (t .if1 .left)
     (c .refused2 .ensures)
 

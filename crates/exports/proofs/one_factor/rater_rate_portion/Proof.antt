@@ -19,7 +19,8 @@ same-length-2 c = search needs
 
 returns : tie.Need-returns
 returns c =
-    portion-exported (c .before .before .before .before .before .before .before .before .rate-portion .ensures)
+    portion-exported
+    (c .before .before .before .before .before .before .before .before .rate-portion .ensures)
     (c .tell .ensures)
 
 pub rater-rate-portion-spec : {M : Type 1} → statement M

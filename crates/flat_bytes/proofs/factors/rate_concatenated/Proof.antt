@@ -73,7 +73,8 @@ returns c =
     call-nine _
     (subst
     (λ fs.
-    SetCall (s .args .p) fs (s .args .uppers .now) (s .args .terms .now) (s .args .answer .now) (s .args .work .now)
+    SetCall (s .args .p) fs (s .args .uppers .now) (s .args .terms .now) (s .args .answer .now)
+    (s .args .work .now)
     (r .rate-set .result)
     (r .rate-set .last .1 .1 .1 .1 .0)
     (r .rate-set .last .1 .1 .1 .1 .1 .0))

@@ -5,7 +5,8 @@ use mathlib.Core.Path.{sym, _∙_}
 use Prim.Native.Nat.{_-_}
 use mathlib.Core.Path.{_≡_, refl}
 use lib.ListN.{length}
-use Rattle.irreducible.proofs.frobenius.Summing.{Summing, summing-start, summing-next, summing-end, row-lent}
+use Rattle.irreducible.proofs.frobenius.Summing.{Summing, summing-start, summing-next, summing-end}
+use Rattle.irreducible.proofs.frobenius.Summing.{row-lent}
 use borrow.Author.Needs.{needs}
 use native.Mathlib.Omega.{arith}
 use Rattle.irreducible.proofs.frobenius.add_rows.Statement.{statement}
@@ -20,72 +21,83 @@ Inv-loop field table h sum₀ d j₀ sum j = (d ≡ length h) × Summing field t
 abbrev μ-loop : tie.MeasureT-loop
 μ-loop field table h sum₀ d j₀ sum j = d - j
 
--- src/frobenius.rt:76:5
 loop-holds : tie.Need-loop-holds Inv-loop μ-loop
 loop-holds c =
-    let s = c .before .before .before in
-    (refl, summing-start (s .pre .0) (now (s .args .table)) (now (s .args .h)) (s .pre .1 .0 .0) (s .pre .1 .0 .1) (s .pre .1 .0 .2) (s .pre .1 .1))
+    let s = c .before .before .before in (
+      refl,
+      summing-start (s .pre .0) (now (s .args .table)) (now (s .args .h)) (s .pre .1 .0 .0)
+          (s .pre .1 .0 .1) (s .pre .1 .0 .2) (s .pre .1 .1),
+    )
 
--- src/frobenius.rt:77:33
 shared-slice-read-add-multiple : tie.Need-shared-slice-read-add-multiple Inv-loop μ-loop
 shared-slice-read-add-multiple c = search needs
 
--- src/frobenius.rt:77:46
 mul-add-multiple : tie.Need-mul-add-multiple Inv-loop μ-loop
-mul-add-multiple c = omega (arith, c .before .before .before .before .before .before .before .pre .1 .0 .1, c .before .before .before .loop .inv .0)
+mul-add-multiple c = omega (
+  arith,
+  c .before .before .before .before .before .before .before .pre .1 .0 .1,
+  c .before .before .before .loop .inv .0,
+)
 
--- src/frobenius.rt:77:54
 mul-add-multiple-2 : tie.Need-mul-add-multiple-2 Inv-loop μ-loop
-mul-add-multiple-2 c = omega (arith, c .before .before .before .before .before .before .before .pre .1 .0 .1, c .before .before .before .loop .inv .0)
+mul-add-multiple-2 c = omega (
+  arith,
+  c .before .before .before .before .before .before .before .pre .1 .0 .1,
+  c .before .before .before .loop .inv .0,
+)
 
--- src/frobenius.rt:77:54
 add-add-multiple : tie.Need-add-add-multiple Inv-loop μ-loop
-add-add-multiple c = omega (arith, c .before .before .before .before .before .before .before .pre .1 .0 .1, c .before .before .before .loop .inv .0)
+add-add-multiple c = omega (
+  arith,
+  c .before .before .before .before .before .before .before .pre .1 .0 .1,
+  c .before .before .before .loop .inv .0,
+)
 
--- src/frobenius.rt:77:39
 sub-add-multiple : tie.Need-sub-add-multiple Inv-loop μ-loop
 sub-add-multiple c = search needs
 
--- src/frobenius.rt:77:39
 part-add-multiple-start : tie.Need-part-add-multiple-start Inv-loop μ-loop
 part-add-multiple-start c = search needs
 
--- src/frobenius.rt:77:39
 part-add-multiple-end : tie.Need-part-add-multiple-end Inv-loop μ-loop
-part-add-multiple-end c = omega (arith, c .before .before .before .before .before .before .before .pre .1 .0 .0, c .before .before .before .before .before .before .before .pre .1 .0 .1, c .before .before .before .loop .inv .0)
+part-add-multiple-end c = omega (
+  arith,
+  c .before .before .before .before .before .before .before .pre .1 .0 .0,
+  c .before .before .before .before .before .before .before .pre .1 .0 .1,
+  c .before .before .before .loop .inv .0,
+)
 
--- src/frobenius.rt:77:9
 add-multiple-requires : tie.Need-add-multiple-requires Inv-loop μ-loop
 add-multiple-requires c κs =
-    let s = c .before .before .before .before .before .before .before .before in
-    (s .pre .0, row-lent (s .pre .0) (now (s .args .table)) (now (s .args .h)) (s .pre .1 .0 .0) (s .pre .1 .0 .1) (c .before .before .before .before .loop .inv .1) (omega arith))
+    let s = c .before .before .before .before .before .before .before .before in (
+      s .pre .0,
+      row-lent (s .pre .0) (now (s .args .table)) (now (s .args .h)) (s .pre .1 .0 .0)
+          (s .pre .1 .0 .1) (c .before .before .before .before .loop .inv .1) (omega arith),
+    )
 
--- src/frobenius.rt:76:9
 add-j : tie.Need-add-j Inv-loop μ-loop
 add-j c = search needs
 
--- src/frobenius.rt:76:5
 loop-less : tie.Need-loop-less Inv-loop μ-loop
 loop-less c = search needs
 
--- src/frobenius.rt:76:5
 loop-again : tie.Need-loop-again Inv-loop μ-loop
 loop-again c =
     let s = c .before .before .before .before .before .before .before .before .before .before .before in (
       refl,
-      summing-next (s .pre .0) (now (s .args .table)) (now (s .args .h)) (s .pre .1 .0 .0) (s .pre .1 .0 .1) (c .before .before .before .before .before .before .before .loop .inv .1) (omega arith)
+      summing-next (s .pre .0) (now (s .args .table)) (now (s .args .h)) (s .pre .1 .0 .0) (s .pre .1 .0 .1)
+          (c .before .before .before .before .before .before .before .loop .inv .1) (omega arith)
           (c .before .before .add-multiple .ensures),
     )
 
--- src/frobenius.rt:68:1
 same-length : tie.Need-same-length Inv-loop μ-loop
 same-length c = c .before .loop .inv .1 .size ∙ sym (c .before .before .before .before .before .pre .1 .0 .2)
 
--- src/frobenius.rt:68:1
 returns : tie.Need-returns Inv-loop μ-loop
 returns c =
     let s = c .before .before .before .before .before in
-    summing-end (s .pre .0) (now (s .args .table)) (now (s .args .h)) (s .pre .1 .0 .0) (s .pre .1 .0 .1) (c .before .loop .inv .1) (omega arith)
+    summing-end (s .pre .0) (now (s .args .table)) (now (s .args .h)) (s .pre .1 .0 .0) (s .pre .1 .0 .1)
+    (c .before .loop .inv .1) (omega arith)
 
 pub add-rows-spec : {M : Type 1} → statement M
 add-rows-spec =

@@ -1,7 +1,8 @@
 -- `fill` meets its contract. x^q without the zeros at its end, and the rows of it.
 -- Assumes nothing.
 use lib.ListN.{length, drop, replicate}
-use Rattle.irreducible.proofs.frobenius.Filling.{trimmed-room, short-elements, short-length, power-trimmed}
+use Rattle.irreducible.proofs.frobenius.Filling.{trimmed-room, short-elements, short-length}
+use Rattle.irreducible.proofs.frobenius.Filling.{power-trimmed}
 use Rattle.lent.proofs.Parts.{front-room}
 use Rattle.lent.proofs.Parts.{zeros-length}
 use Rattle.arith.proofs.Represented.{field-size}
@@ -21,86 +22,93 @@ use Rattle.irreducible.proofs.frobenius.fill_rows.Reads as fill-rows-re
 use Rattle.poly.proofs.residues.power_of_x.Reads as power-of-x-reads
 use Rattle.poly.proofs.common_divisor.trimmed_length.Reads as trimmed-length-reads
 
--- src/frobenius.rt:60:13
 sub-d : tie.Need-sub-d
 sub-d c =
     let s = c .before .before in
     omega (arith, monic-length (fieldOf (s .args .field)) (now (s .args .f)) (s .pre .1 .0 .monic))
 
--- src/frobenius.rt:62:26
 cast-power-of-x : tie.Need-cast-power-of-x
 cast-power-of-x c = search needs
 
--- src/frobenius.rt:62:47
 sub-power-of-x : tie.Need-sub-power-of-x
 sub-power-of-x c = search needs
 
--- src/frobenius.rt:62:47
 part-y-start : tie.Need-part-y-start
 part-y-start c = search needs
 
--- src/frobenius.rt:62:47
 part-y-end : tie.Need-part-y-end
 part-y-end c =
     let s = c .before .before .before in
-    omega (arith, monic-length (fieldOf (s .args .field)) (now (s .args .f)) (s .pre .1 .0 .monic), s .pre .1 .0 .small)
+    omega (
+      arith,
+      monic-length (fieldOf (s .args .field)) (now (s .args .f)) (s .pre .1 .0 .monic),
+      s .pre .1 .0 .small,
+    )
 
--- src/frobenius.rt:62:5
 power-of-x-requires : tie.Need-power-of-x-requires
 power-of-x-requires c κs =
     let s = c .before .before .before .before in
-    let d : length (now (s .args .f)) - 1 ≡ degree (now (s .args .f)) = omega (arith, monic-length (fieldOf (s .args .field)) (now (s .args .f)) (s .pre .1 .0 .monic)) in
-    (s .pre .0, (s .pre .1 .0, zeros-length (length (now (s .args .f)) - 1) 32 (omega (arith, s .pre .1 .0 .small)) ∙ d))
+    let d : length (now (s .args .f)) - 1 ≡ degree (now (s .args .f)) =
+    omega (arith, monic-length (fieldOf (s .args .field)) (now (s .args .f)) (s .pre .1 .0 .monic)) in (
+      s .pre .0,
+      (
+        s .pre .1 .0,
+        zeros-length (length (now (s .args .f)) - 1) 32
+            (omega (arith, s .pre .1 .0 .small)) ∙ d,
+      ),
+    )
 
--- src/frobenius.rt:63:28
 sub-trimmed-length : tie.Need-sub-trimmed-length
 sub-trimmed-length c = search needs
 
--- src/frobenius.rt:63:28
 part-trimmed-length-start : tie.Need-part-trimmed-length-start
 part-trimmed-length-start c = search needs
 
--- src/frobenius.rt:63:28
 part-trimmed-length-end : tie.Need-part-trimmed-length-end
 part-trimmed-length-end c =
     let s = c .before .before .before .before .before .before .before in
-    let d : length (now (s .args .f)) - 1 ≡ degree (now (s .args .f)) = omega (arith, monic-length (fieldOf (s .args .field)) (now (s .args .f)) (s .pre .1 .0 .monic)) in
-    front-room (c .before .before .power-of-x .last .1 .1 .1 .0) (drop (length (now (s .args .f)) - 1 - 0) (replicate 32 0))
+    let d : length (now (s .args .f)) - 1 ≡ degree (now (s .args .f)) =
+    omega (arith, monic-length (fieldOf (s .args .field)) (now (s .args .f)) (s .pre .1 .0 .monic)) in
+    front-room (c .before .before .power-of-x .last .1 .1 .1 .0)
+    (drop (length (now (s .args .f)) - 1 - 0) (replicate 32 0))
     (c .before .before .power-of-x .ensures .size ∙ sym d)
 
--- src/frobenius.rt:63:9
 trimmed-length-requires : tie.Need-trimmed-length-requires
 trimmed-length-requires c κs = search needs
 
--- src/frobenius.rt:64:25
 sub-fill-rows : tie.Need-sub-fill-rows
 sub-fill-rows c = search needs
 
--- src/frobenius.rt:64:25
 part-fill-rows-start : tie.Need-part-fill-rows-start
 part-fill-rows-start c = search needs
 
--- src/frobenius.rt:64:25
 part-fill-rows-end : tie.Need-part-fill-rows-end
 part-fill-rows-end c =
     let s = c .before .before .before .before .before .before .before .before .before .before in
-    let d : length (now (s .args .f)) - 1 ≡ degree (now (s .args .f)) = omega (arith, monic-length (fieldOf (s .args .field)) (now (s .args .f)) (s .pre .1 .0 .monic)) in
-    trimmed-room (s .pre .1 .0) (drop (length (now (s .args .f)) - 1 - 0) (replicate 32 0)) d (c .before .before .before .before .before .power-of-x .ensures) (sym (field-size (s .args .field)))
+    let d : length (now (s .args .f)) - 1 ≡ degree (now (s .args .f)) =
+    omega (arith, monic-length (fieldOf (s .args .field)) (now (s .args .f)) (s .pre .1 .0 .monic)) in
+    trimmed-room (s .pre .1 .0) (drop (length (now (s .args .f)) - 1 - 0) (replicate 32 0)) d
+    (c .before .before .before .before .before .power-of-x .ensures) (sym (field-size (s .args .field)))
     (c .before .trimmed-length .ensures)
 
--- src/frobenius.rt:64:5
 fill-rows-requires : tie.Need-fill-rows-requires
 fill-rows-requires c κs =
-    let s = c .before .before .before .before .before .before .before .before .before .before .before .before in
-    let d : length (now (s .args .f)) - 1 ≡ degree (now (s .args .f)) = omega (arith, monic-length (fieldOf (s .args .field)) (now (s .args .f)) (s .pre .1 .0 .monic)) in (
+    let s =
+    c .before .before .before .before .before .before .before .before .before .before .before .before in
+    let d : length (now (s .args .f)) - 1 ≡ degree (now (s .args .f)) =
+    omega (arith, monic-length (fieldOf (s .args .field)) (now (s .args .f)) (s .pre .1 .0 .monic)) in (
       s .pre .0,
       (
         s .pre .1 .0,
         (
           (
-            short-elements (s .pre .1 .0) (drop (length (now (s .args .f)) - 1 - 0) (replicate 32 0)) d (c .before .before .before .before .before .before .before .power-of-x .ensures) (sym (field-size (s .args .field)))
+            short-elements (s .pre .1 .0) (drop (length (now (s .args .f)) - 1 - 0) (replicate 32 0)) d
+                (c .before .before .before .before .before .before .before .power-of-x .ensures)
+                (sym (field-size (s .args .field)))
                 (c .before .before .before .trimmed-length .ensures),
-            short-length (s .pre .1 .0) (drop (length (now (s .args .f)) - 1 - 0) (replicate 32 0)) d (c .before .before .before .before .before .before .before .power-of-x .ensures) (sym (field-size (s .args .field)))
+            short-length (s .pre .1 .0) (drop (length (now (s .args .f)) - 1 - 0) (replicate 32 0)) d
+                (c .before .before .before .before .before .before .before .power-of-x .ensures)
+                (sym (field-size (s .args .field)))
                 (c .before .before .before .trimmed-length .ensures),
           ),
           s .pre .1 .1,
@@ -108,16 +116,20 @@ fill-rows-requires c κs =
       ),
     )
 
--- src/frobenius.rt:54:1
 same-length : tie.Need-same-length
 same-length c = search needs
 
--- src/frobenius.rt:54:1
 returns : tie.Need-returns
 returns c =
-    let s = c .before .before .before .before .before .before .before .before .before .before .before .before .before .before .before in
-    let d : length (now (s .args .f)) - 1 ≡ degree (now (s .args .f)) = omega (arith, monic-length (fieldOf (s .args .field)) (now (s .args .f)) (s .pre .1 .0 .monic)) in
-    c .before .before .fill-rows .ensures .rows (power-trimmed (s .pre .1 .0) (drop (length (now (s .args .f)) - 1 - 0) (replicate 32 0)) d (c .before .before .before .before .before .before .before .before .before .before .power-of-x .ensures) (sym (field-size (s .args .field)))
+    let s =
+    c .before .before .before .before .before .before .before .before .before .before .before .before .before
+    .before .before in
+    let d : length (now (s .args .f)) - 1 ≡ degree (now (s .args .f)) =
+    omega (arith, monic-length (fieldOf (s .args .field)) (now (s .args .f)) (s .pre .1 .0 .monic)) in
+    c .before .before .fill-rows .ensures .rows
+    (power-trimmed (s .pre .1 .0) (drop (length (now (s .args .f)) - 1 - 0) (replicate 32 0)) d
+    (c .before .before .before .before .before .before .before .before .before .before .power-of-x .ensures)
+    (sym (field-size (s .args .field)))
     (c .before .before .before .before .before .before .trimmed-length .ensures))
 
 pub fill-spec : {M : Type 1} → statement M

@@ -24,17 +24,14 @@ Inv-loop field f y table₀ d row₀ j₀ table row j = (d ≡ degree f) × Fill
 abbrev μ-loop : tie.MeasureT-loop
 μ-loop field f y table₀ d row₀ j₀ table row j = d - j
 
--- src/frobenius.rt:41:13
 sub-d : tie.Need-sub-d Inv-loop μ-loop
 sub-d c =
     let s = c .before .before .before in
     omega (arith, monic-length (fieldOf (s .args .field)) (now (s .args .f)) (s .pre .1 .0 .monic))
 
--- src/frobenius.rt:43:5
 array-write-row : tie.Need-array-write-row Inv-loop μ-loop
 array-write-row c = search needs
 
--- src/frobenius.rt:46:5
 loop-holds : tie.Need-loop-holds Inv-loop μ-loop
 loop-holds c =
     let s = c .before .before .before in (
@@ -42,117 +39,110 @@ loop-holds c =
       filling-start (s .pre .0) (now (s .args .y)) (s .pre .1 .0) (s .pre .1 .1 .1),
     )
 
--- src/frobenius.rt:47:21
 sub-copy : tie.Need-sub-copy Inv-loop μ-loop
 sub-copy c = search needs
 
--- src/frobenius.rt:47:21
 part-copy-start : tie.Need-part-copy-start Inv-loop μ-loop
 part-copy-start c = search needs
 
--- src/frobenius.rt:47:21
 part-copy-end : tie.Need-part-copy-end Inv-loop μ-loop
 part-copy-end c =
     let s = c .before .before .before .before .before .before in
     let i = c .before .before .loop .inv in
     omega (arith, i .0, i .1 .rowSize, i .1 .tableSize, s .pre .1 .0 .small)
 
--- src/frobenius.rt:47:44
 mul-copy : tie.Need-mul-copy Inv-loop μ-loop
 mul-copy c =
     let s = c .before .before .before .before .before .before .before in
     let i = c .before .before .before .loop .inv in
     omega (arith, i .0, i .1 .rowSize, i .1 .tableSize, s .pre .1 .0 .small)
 
--- src/frobenius.rt:47:52
 mul-copy-2 : tie.Need-mul-copy-2 Inv-loop μ-loop
 mul-copy-2 c =
     let s = c .before .before .before .before .before .before .before in
     let i = c .before .before .before .loop .inv in
     omega (arith, i .0, i .1 .rowSize, i .1 .tableSize, s .pre .1 .0 .small)
 
--- src/frobenius.rt:47:52
 add-copy : tie.Need-add-copy Inv-loop μ-loop
 add-copy c =
     let s = c .before .before .before .before .before .before .before in
     let i = c .before .before .before .loop .inv in
     omega (arith, i .0, i .1 .rowSize, i .1 .tableSize, s .pre .1 .0 .small)
 
--- src/frobenius.rt:47:33
 sub-copy-2 : tie.Need-sub-copy-2 Inv-loop μ-loop
 sub-copy-2 c = search needs
 
--- src/frobenius.rt:47:33
 part-copy-start-2 : tie.Need-part-copy-start-2 Inv-loop μ-loop
 part-copy-start-2 c = search needs
 
--- src/frobenius.rt:47:33
 part-copy-end-2 : tie.Need-part-copy-end-2 Inv-loop μ-loop
 part-copy-end-2 c =
     let s = c .before .before .before .before .before .before .before in
     let i = c .before .before .before .loop .inv in
     omega (arith, i .0, i .1 .rowSize, i .1 .tableSize, s .pre .1 .0 .small)
 
--- src/frobenius.rt:47:9
 copy-requires : tie.Need-copy-requires Inv-loop μ-loop
 copy-requires c κs =
     let s = c .before .before .before .before .before .before .before .before in
     let i = c .before .before .before .before .loop .inv in
     src-fits (s .pre .0) (now (s .args .y)) (s .pre .1 .0) (i .0) (i .1) (omega arith)
 
--- src/frobenius.rt:48:31
 sub-next-row : tie.Need-sub-next-row Inv-loop μ-loop
 sub-next-row c = search needs
 
--- src/frobenius.rt:48:31
 part-row-start : tie.Need-part-row-start Inv-loop μ-loop
 part-row-start c = search needs
 
--- src/frobenius.rt:48:31
 part-row-end : tie.Need-part-row-end Inv-loop μ-loop
 part-row-end c =
     let s = c .before .before .before .before .before .before .before .before .before .before .before in
     let i = c .before .before .before .before .before .before .before .loop .inv in
     omega (arith, i .0, i .1 .rowSize, i .1 .tableSize, s .pre .1 .0 .small)
 
--- src/frobenius.rt:48:9
 next-row-requires : tie.Need-next-row-requires Inv-loop μ-loop
 next-row-requires c κs =
-    let s = c .before .before .before .before .before .before .before .before .before .before .before .before in
+    let s =
+    c .before .before .before .before .before .before .before .before .before .before .before .before in
     let i = c .before .before .before .before .before .before .before .before .loop .inv in (
       s .pre .0,
       (
         s .pre .1 .0,
         (
-          (s .pre .1 .1 .0 .0, src-elements (s .pre .0) (now (s .args .y)) (s .pre .1 .0) (i .0) (i .1) (omega arith)),
-          (s .pre .1 .1 .0 .1, src-degree (s .pre .0) (now (s .args .y)) (s .pre .1 .0) (i .0) (i .1) (omega arith)),
+          (
+            s .pre .1 .1 .0 .0,
+            src-elements (s .pre .0) (now (s .args .y)) (s .pre .1 .0) (i .0) (i .1)
+                (omega arith),
+          ),
+          (
+            s .pre .1 .1 .0 .1,
+            src-degree (s .pre .0) (now (s .args .y)) (s .pre .1 .0) (i .0) (i .1)
+                (omega arith),
+          ),
         ),
       ),
     )
 
--- src/frobenius.rt:49:9
 add-j : tie.Need-add-j Inv-loop μ-loop
 add-j c = search needs
 
--- src/frobenius.rt:46:5
 loop-less : tie.Need-loop-less Inv-loop μ-loop
 loop-less c = search needs
 
--- src/frobenius.rt:46:5
 loop-again : tie.Need-loop-again Inv-loop μ-loop
 loop-again c =
-    let s = c .before .before .before .before .before .before .before .before .before .before .before .before .before .before in
+    let s =
+    c .before .before .before .before .before .before .before .before .before .before .before .before .before
+    .before in
     let i = c .before .before .before .before .before .before .before .before .before .before .loop .inv in (
       i .0,
       filling-next (s .pre .0) (now (s .args .y)) (s .pre .1 .0) (i .0) (i .1) (omega arith)
           (c .before .before .before .before .before .copy .ensures .1) (c .before .next-row .ensures),
     )
 
--- src/frobenius.rt:34:1
 same-length : tie.Need-same-length Inv-loop μ-loop
-same-length c = c .before .loop .inv .1 .tableSize ∙ sym (c .before .before .before .before .before .pre .1 .1 .1)
+same-length c = c .before .loop .inv .1 .tableSize
+    ∙ sym (c .before .before .before .before .before .pre .1 .1 .1)
 
--- src/frobenius.rt:34:1
 returns : tie.Need-returns Inv-loop μ-loop
 returns c =
     let s = c .before .before .before .before .before in

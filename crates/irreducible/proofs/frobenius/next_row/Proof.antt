@@ -17,27 +17,25 @@ use Rattle.irreducible.proofs.frobenius.next_row.Lts as lts
 use Rattle.bytes.proofs.copy.Reads as copy-reads
 use Rattle.poly.proofs.residues.multiply_modulo.Reads as multiply-modulo-reads
 
--- src/frobenius.rt:29:22
 slice-aggregate-copy : tie.Need-slice-aggregate-copy
 slice-aggregate-copy c = search needs
 
--- src/frobenius.rt:29:5
 copy-requires : tie.Need-copy-requires
-copy-requires c κs = omega (arith, c .before .before .before .before .before .pre .1 .0 .small, c .before .before .before .before .before .pre .1 .1 .1 .1)
+copy-requires c κs = omega (
+  arith,
+  c .before .before .before .before .before .pre .1 .0 .small,
+  c .before .before .before .before .before .pre .1 .1 .1 .1,
+)
 
--- src/frobenius.rt:30:31
 sub-multiply-modulo : tie.Need-sub-multiply-modulo
 sub-multiply-modulo c = search needs
 
--- src/frobenius.rt:30:31
 part-multiply-modulo-start : tie.Need-part-multiply-modulo-start
 part-multiply-modulo-start c = search needs
 
--- src/frobenius.rt:30:31
 part-multiply-modulo-end : tie.Need-part-multiply-modulo-end
 part-multiply-modulo-end c = search needs
 
--- src/frobenius.rt:30:5
 multiply-modulo-requires : tie.Need-multiply-modulo-requires
 multiply-modulo-requires c κs =
     let s = c .before .before .before .before .before .before .before .before .before .before in
@@ -49,10 +47,12 @@ multiply-modulo-requires c κs =
         s .pre .1 .0,
         (
           subst (λ u. Factors F (take (length r - 0) u) (now (s .args .y))) e
-              (row-factors (s .args .field) (now (s .args .y)) r (s .pre .1 .0) (s .pre .1 .1 .1 .1) (s .pre .1 .1 .0 .1) (s .pre .1 .1 .0 .0)),
+              (row-factors (s .args .field) (now (s .args .y)) r (s .pre .1 .0) (s .pre .1 .1 .1 .1)
+              (s .pre .1 .1 .0 .1) (s .pre .1 .1 .0 .0)),
           (
             subst (λ u. length (take (length r - 0) u) ≤ 32) e
-                (row-short (s .args .field) (now (s .args .y)) r (s .pre .1 .0) (s .pre .1 .1 .1 .1) (s .pre .1 .1 .0 .1) (s .pre .1 .1 .0 .0)),
+                (row-short (s .args .field) (now (s .args .y)) r (s .pre .1 .0) (s .pre .1 .1 .1 .1)
+                (s .pre .1 .1 .0 .1) (s .pre .1 .1 .0 .0)),
             s .pre .1 .1 .1 .0,
             s .pre .1 .1 .1 .1,
           ),
@@ -60,21 +60,22 @@ multiply-modulo-requires c κs =
       ),
     )
 
--- src/frobenius.rt:19:1
 same-length : tie.Need-same-length
 same-length c = search needs
 
--- src/frobenius.rt:19:1
 returns : tie.Need-returns
 returns c =
-    let s = c .before .before .before .before .before .before .before .before .before .before .before .before .before in
+    let s =
+    c .before .before .before .before .before .before .before .before .before .before .before .before
+    .before in
     let F = fieldOf (s .args .field) in
     let r = now (s .args .row) in
     subst
     (λ u. Residue (s .args .field) (now (s .args .f)) (times F (now (s .args .y)) u)
     (c .before .before .multiply-modulo .last .1 .1 .1 .1 .0))
     (ap (take (length r - 0)) (c .before .before .before .before .before .before .before .copy .ensures .1)
-    ∙ old-back (s .args .field) (now (s .args .y)) r (s .pre .1 .0) (s .pre .1 .1 .1 .1) (s .pre .1 .1 .0 .1) (s .pre .1 .1 .0 .0))
+    ∙ old-back (s .args .field) (now (s .args .y)) r (s .pre .1 .0) (s .pre .1 .1 .1 .1) (s .pre .1 .1 .0 .1)
+    (s .pre .1 .1 .0 .0))
     (c .before .before .multiply-modulo .ensures)
 
 pub next-row-spec : {M : Type 1} → statement M

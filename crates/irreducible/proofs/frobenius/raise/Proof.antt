@@ -16,55 +16,55 @@ use Rattle.irreducible.proofs.frobenius.raise.Lts as lts
 use Rattle.bytes.proofs.copy.Reads as copy-reads
 use Rattle.irreducible.proofs.frobenius.add_rows.Reads as add-rows-reads
 
--- src/frobenius.rt:89:31
 sub-add-rows : tie.Need-sub-add-rows
 sub-add-rows c = search needs
 
--- src/frobenius.rt:89:31
 part-sum-start : tie.Need-part-sum-start
 part-sum-start c = search needs
 
--- src/frobenius.rt:89:31
 part-sum-end : tie.Need-part-sum-end
 part-sum-end c = search needs
 
--- src/frobenius.rt:89:5
 add-rows-requires : tie.Need-add-rows-requires
 add-rows-requires c κs =
     let s = c .before .before .before .before in
-    let d = length (now (s .args .h)) in
-    (s .pre .0, ((s .pre .1 .0, s .pre .1 .1, zeros-length d 32 (s .pre .1 .1)), zeros-lent d 32 (s .pre .1 .1)))
+    let d = length (now (s .args .h)) in (
+      s .pre .0,
+      (
+        (s .pre .1 .0, s .pre .1 .1, zeros-length d 32 (s .pre .1 .1)),
+        zeros-lent d 32
+            (s .pre .1 .1),
+      ),
+    )
 
--- src/frobenius.rt:90:17
 sub-copy : tie.Need-sub-copy
 sub-copy c = search needs
 
--- src/frobenius.rt:90:17
 part-copy-start : tie.Need-part-copy-start
 part-copy-start c = search needs
 
--- src/frobenius.rt:90:17
 part-copy-end : tie.Need-part-copy-end
 part-copy-end c =
     let s = c .before .before .before .before .before .before .before in
-    front-room (c .before .before .add-rows .last .1 .1 .1 .0) (drop (length (now (s .args .h)) - 0) (replicate 32 0))
+    front-room (c .before .before .add-rows .last .1 .1 .1 .0)
+    (drop (length (now (s .args .h)) - 0) (replicate 32 0))
     (c .before .before .add-rows .ensures .size)
 
--- src/frobenius.rt:90:5
 copy-requires : tie.Need-copy-requires
-copy-requires c κs = front-fits _ (length (now (c .before .before .before .before .before .before .before .before .before .args .h)))
+copy-requires c κs = front-fits _
+    (length (now (c .before .before .before .before .before .before .before .before .before .args .h)))
 
--- src/frobenius.rt:82:1
 same-length : tie.Need-same-length
 same-length c = search needs
 
--- src/frobenius.rt:82:1
 returns : tie.Need-returns
 returns c =
-    let s = c .before .before .before .before .before .before .before .before .before .before .before .before in
+    let s =
+    c .before .before .before .before .before .before .before .before .before .before .before .before in
     let r = c .before .before .before .before .before .before .before .add-rows .ensures in
     subst (Summed (s .args .field) (now (s .args .table)) (now (s .args .h)))
-    (sym (c .before .before .copy .ensures .1 ∙ front-copied (c .before .before .before .before .before .before .before .add-rows .last .1 .1 .1 .0)
+    (sym (c .before .before .copy .ensures .1
+    ∙ front-copied (c .before .before .before .before .before .before .before .add-rows .last .1 .1 .1 .0)
     (drop (length (now (s .args .h)) - 0) (replicate 32 0)) (now (s .args .h)) (r .size))) r
 
 pub raise-spec : {M : Type 1} → statement M

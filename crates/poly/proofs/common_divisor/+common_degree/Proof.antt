@@ -30,7 +30,6 @@ common-degree-below t =
     (falls 2 common-degree-kinds.ps _<_ μ-common-degree t)
     common-degree.Pre
 
--- src/common_divisor.rt:44:9
 common-degree-turn-requires : (t : ℕ) → common-degree-lts.Need-turn-requires (
   turn-reads.Asked,
   turn-reads.Learnt,
@@ -39,7 +38,6 @@ common-degree-turn-requires : (t : ℕ) → common-degree-lts.Need-turn-requires
 ) (common-degree-at t) common-degree.Post
 common-degree-turn-requires t c κs = c .before .before .before .before .pre .1
 
--- src/common_divisor.rt:46:16
 common-degree-sub-result : (t : ℕ) → common-degree-lts.Need-sub-result (
   turn-reads.Asked,
   turn-reads.Learnt,
@@ -48,7 +46,6 @@ common-degree-sub-result : (t : ℕ) → common-degree-lts.Need-sub-result (
 ) (common-degree-at t) common-degree.Post
 common-degree-sub-result t c = search needs
 
--- src/common_divisor.rt:46:9
 common-degree-same-length : (t : ℕ) → common-degree-lts.Need-same-length (
   turn-reads.Asked,
   turn-reads.Learnt,
@@ -57,7 +54,6 @@ common-degree-same-length : (t : ℕ) → common-degree-lts.Need-same-length (
 ) (common-degree-at t) common-degree.Post
 common-degree-same-length t c = search needs
 
--- src/common_divisor.rt:46:9
 common-degree-same-length-2 : (t : ℕ) → common-degree-lts.Need-same-length-2 (
   turn-reads.Asked,
   turn-reads.Learnt,
@@ -66,7 +62,6 @@ common-degree-same-length-2 : (t : ℕ) → common-degree-lts.Need-same-length-2
 ) (common-degree-at t) common-degree.Post
 common-degree-same-length-2 t c = search needs
 
--- src/common_divisor.rt:46:9
 common-degree-returns : (t : ℕ) → common-degree-lts.Need-returns (
   turn-reads.Asked,
   turn-reads.Learnt,
@@ -76,7 +71,6 @@ common-degree-returns : (t : ℕ) → common-degree-lts.Need-returns (
 common-degree-returns t c =
     turned-ends (c .before .before .before .before .before .turn .ensures) (c .if1 .taken)
 
--- src/common_divisor.rt:48:29
 common-degree-sub-common-degree : (t : ℕ) → common-degree-lts.Need-sub-common-degree (
   turn-reads.Asked,
   turn-reads.Learnt,
@@ -85,7 +79,6 @@ common-degree-sub-common-degree : (t : ℕ) → common-degree-lts.Need-sub-commo
 ) (common-degree-at t) common-degree.Post
 common-degree-sub-common-degree t c = search needs
 
--- src/common_divisor.rt:48:29
 common-degree-part-common-degree-start : (t : ℕ) → common-degree-lts.Need-part-common-degree-start (
   turn-reads.Asked,
   turn-reads.Learnt,
@@ -94,7 +87,6 @@ common-degree-part-common-degree-start : (t : ℕ) → common-degree-lts.Need-pa
 ) (common-degree-at t) common-degree.Post
 common-degree-part-common-degree-start t c = search needs
 
--- src/common_divisor.rt:48:29
 common-degree-part-common-degree-end : (t : ℕ) → common-degree-lts.Need-part-common-degree-end (
   turn-reads.Asked,
   turn-reads.Learnt,
@@ -103,7 +95,6 @@ common-degree-part-common-degree-end : (t : ℕ) → common-degree-lts.Need-part
 ) (common-degree-at t) common-degree.Post
 common-degree-part-common-degree-end t c = search needs
 
--- src/common_divisor.rt:48:5
 common-degree-common-degree-requires : (t : ℕ) → common-degree-lts.Need-common-degree-requires (
   turn-reads.Asked,
   turn-reads.Learnt,
@@ -118,7 +109,6 @@ common-degree-common-degree-requires t c κs =
       (s .pre .1 .0, turned-again (r .turn .ensures) (i .if1 .left)),
     )
 
--- src/common_divisor.rt:39:1
 common-degree-same-length-3 : (t : ℕ) → common-degree-lts.Need-same-length-3 (
   turn-reads.Asked,
   turn-reads.Learnt,
@@ -127,7 +117,6 @@ common-degree-same-length-3 : (t : ℕ) → common-degree-lts.Need-same-length-3
 ) (common-degree-at t) common-degree.Post
 common-degree-same-length-3 t c = search needs
 
--- src/common_divisor.rt:39:1
 common-degree-same-length-4 : (t : ℕ) → common-degree-lts.Need-same-length-4 (
   turn-reads.Asked,
   turn-reads.Learnt,
@@ -136,7 +125,6 @@ common-degree-same-length-4 : (t : ℕ) → common-degree-lts.Need-same-length-4
 ) (common-degree-at t) common-degree.Post
 common-degree-same-length-4 t c = search needs
 
--- src/common_divisor.rt:39:1
 common-degree-returns-2 : (t : ℕ) → common-degree-lts.Need-returns-2 (
   turn-reads.Asked,
   turn-reads.Learnt,

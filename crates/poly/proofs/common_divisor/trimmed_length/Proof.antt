@@ -13,35 +13,27 @@ Inv-loop f n₀ n = Trimming f n
 abbrev μ-loop : tie.MeasureT-loop
 μ-loop f n₀ n = n
 
--- src/common_divisor.rt:14:5
 loop-holds : tie.Need-loop-holds Inv-loop μ-loop
 loop-holds c = trimming-start _
 
--- src/common_divisor.rt:15:14
 sub-if1 : tie.Need-sub-if1 Inv-loop μ-loop
 sub-if1 c = search needs
 
--- src/common_divisor.rt:15:12
 shared-slice-read-if1 : tie.Need-shared-slice-read-if1 Inv-loop μ-loop
 shared-slice-read-if1 c = search needs
 
--- src/common_divisor.rt:16:13
 returns : tie.Need-returns Inv-loop μ-loop
 returns c = trimming-found (c .before .before .before .loop .inv) (c .if1 .taken)
 
--- src/common_divisor.rt:18:9
 sub-n : tie.Need-sub-n Inv-loop μ-loop
 sub-n c = search needs
 
--- src/common_divisor.rt:14:5
 loop-less : tie.Need-loop-less Inv-loop μ-loop
 loop-less c = search needs
 
--- src/common_divisor.rt:14:5
 loop-again : tie.Need-loop-again Inv-loop μ-loop
 loop-again c = trimming-next (c .before .before .before .loop .inv) (c .if1 .left)
 
--- src/common_divisor.rt:9:1
 returns-2 : tie.Need-returns-2 Inv-loop μ-loop
 returns-2 c = trimming-end (c .before .loop .inv) (omega arith)
 

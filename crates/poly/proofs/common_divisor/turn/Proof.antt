@@ -11,27 +11,22 @@ use Rattle.arith.proofs.field.GaloisField.multiply.Reads as multiply-reads
 use Rattle.poly.proofs.common_divisor.trimmed_length.Reads as trimmed-length-reads
 use Rattle.poly.proofs.division.remainder.Reads as remainder-reads
 
--- src/common_divisor.rt:30:13
 sub-e : tie.Need-sub-e
 sub-e c =
     let s = c .before .before in
     omega (arith, some (field-isField (s .pre .0)) (s .pre .1))
 
--- src/common_divisor.rt:31:27
 slice-read-inverse : tie.Need-slice-read-inverse
 slice-read-inverse c =
     let s = c .before .before .before in
     omega (arith, some (field-isField (s .pre .0)) (s .pre .1))
 
--- src/common_divisor.rt:31:9
 inverse-requires : tie.Need-inverse-requires
 inverse-requires c κs = search needs
 
--- src/common_divisor.rt:32:5
 multiply-requires : tie.Need-multiply-requires
 multiply-requires c κs = search needs
 
--- src/common_divisor.rt:33:5
 remainder-requires : tie.Need-remainder-requires
 remainder-requires c κs =
     let m = c .before .before .before .before in
@@ -39,31 +34,24 @@ remainder-requires c κs =
     let s = i .before .before .before .before in
     (s .pre .0, turn-divisible (s .pre .0) (s .pre .1) (i .inverse .ensures) (m .multiply .ensures))
 
--- src/common_divisor.rt:34:20
 sub-trimmed-length : tie.Need-sub-trimmed-length
 sub-trimmed-length c = search needs
 
--- src/common_divisor.rt:34:20
 part-trimmed-length-start : tie.Need-part-trimmed-length-start
 part-trimmed-length-start c = search needs
 
--- src/common_divisor.rt:34:20
 part-trimmed-length-end : tie.Need-part-trimmed-length-end
 part-trimmed-length-end c = search needs
 
--- src/common_divisor.rt:34:5
 trimmed-length-requires : tie.Need-trimmed-length-requires
 trimmed-length-requires c κs = search needs
 
--- src/common_divisor.rt:25:1
 same-length : tie.Need-same-length
 same-length c = search needs
 
--- src/common_divisor.rt:25:1
 same-length-2 : tie.Need-same-length-2
 same-length-2 c = search needs
 
--- src/common_divisor.rt:25:1
 returns : tie.Need-returns
 returns c =
     let r = c .before .before .before .before .before in
