@@ -2,17 +2,15 @@
 -- divisors with x^(q^i) - x.
 --
 --   fixed R D q i       == x^(q^i) - x; it is 0 for i = 0
---   residue-fixed       == f irreducible of degree d divides h^(q^d) - h for every h, so x^(q^d) - x
+--   constant-fixed      == the power q of a constant is that constant
 --   coprime-irreducible == f monic of degree d > 0 is irreducible where it is coprime to x^(q^i) - x for
 --                          every i with 1 ≤ i and 2·i ≤ d
 --   sum-raised, term-raised == the power q of a sum, and of c·x^n: it is c·x^(n·q)
---   all-fixed           == an ideal that holds x^(q^i) - x holds h^(q^i) - h for every h
 --   fixed-degree        == f irreducible of degree d does not divide x^(q^i) - x for 0 < i < d: else all q^d
 --                          residues modulo f were roots of y^(q^i) - y
 --   irreducible-coprime == so it is coprime to x^(q^i) - x
 --   irreducible-test    == both ways: irreducible exactly where coprime to x^(q^i) - x for 1 ≤ i, 2·i ≤ d
 --   irreducible-common  == exactly where no monic polynomial of positive degree divides f and one of them
---   prime-test          == the same over the field of p elements
 --
 -- From `sum-raised` on the field has the characteristic p and q = p^w, so that the power q respects sums.
 -- Assumes nothing.
@@ -22,7 +20,7 @@ use Prim.Native.Nat.{ℕ, zero, suc, _*_, _-_, _^_, _≤_, _<_}
 use lib.ListN.{length}
 use native.Mathlib.Nat as ℕ
 use native.Mathlib.Omega.{arith}
-use Rattle.algebra.proofs.Number.{Prime, power-less}
+use Rattle.algebra.proofs.Number.{power-less}
 use Rattle.algebra.proofs.Ring.{Ring, Field}
 use Rattle.algebra.proofs.Solver.{solve, _:=_, _:+_, _:*_, :-_, :1}
 use Rattle.algebra.proofs.Power.{
@@ -60,10 +58,8 @@ use Rattle.algebra.proofs.Divisor.{Factor, coprime-common}
 use Rattle.algebra.proofs.Irreducible.{Irreducible, irreducible-half, irreducible-atom}
 use Rattle.algebra.proofs.Roots.{fixed-count}
 use Rattle.algebra.proofs.Frobenius.{frobenius, polynomial-characteristic}
-use Rattle.algebra.proofs.PrimeField.{Residue, primeRing, primeField, prime-characteristic}
 use Rattle.algebra.proofs.FiniteField.{
   Elements,
-  prime-elements,
   elements-two,
   residues-two,
   element-fixed,
@@ -104,7 +100,8 @@ module _ {K : Type 0} {R : Ring K} {q : ℕ} (F : Field R) (E : Elements K q) wh
     constant-fixed c =
         sym (hom-power (constant-polynomial-hom R D) c q) ∙ ap (constant R D) (element-fixed F E c)
 
-    pub residue-fixed :
+    -- f irreducible of degree d divides h^(q^d) - h for every h, so x^(q^d) - x
+    residue-fixed :
         {f : Polynomial R D} {d : ℕ}
         → Irreducible f d
         → (h : Polynomial R D)
@@ -182,7 +179,8 @@ module _ {K : Type 0} {R : Ring K} {p q : ℕ}
       power-mul Q (constant R D c) (power Q (X R D) n) q
       ∙ ap₂ _⊠_ (constant-fixed F E c) (power-power Q (X R D) n q)
 
-  pub all-fixed :
+  -- an ideal that holds x^(q^i) - x holds h^(q^i) - h for every h
+  all-fixed :
       {I : Polynomial R D → Type 0} (ideal : Ideal Q I) (i : ℕ)
       → I (fixed R D q i)
       → (h : Polynomial R D)
@@ -267,19 +265,3 @@ module _ {K : Type 0} {R : Ring K} {p q : ℕ}
     λ j i k s. coprime-common F m .0 (irreducible-test m l .0 j i k s),
     λ h. irreducible-test m l .1 (λ i k s. coprime-common F m .1 (h i k s)),
   )
-
--- The field of p elements
-pub prime-test :
-    {p : ℕ} (prime : Prime p) {D : Discrete (Residue p)} {f : Polynomial (primeRing prime) D} {d : ℕ}
-    → Monic f d
-    → 0 < d
-    → Irreducible f d
-    ↔ ((i : ℕ)
-    → 1 ≤ i
-    → 2 * i ≤ d
-    → Coprime (polynomials (primeRing prime) D) f (fixed (primeRing prime) D p i))
-prime-test {p} prime =
-    irreducible-test (primeField prime) (prime-elements p) (prime-characteristic prime) 1 one-fold
-  where
-    one-fold : p ≡ p ^ 1
-    one-fold = sym (ℕ.pow-suc p 0 ∙ ap (λ (x : ℕ). x * p) (ℕ.pow-zero p) ∙ ℕ.one-mul p)

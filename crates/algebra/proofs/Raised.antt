@@ -4,7 +4,6 @@
 --   Raised R D q f h i  == h = x^(q^i) modulo f
 --   raised-start        == x is x^(q^0)
 --   raised-step         == where h is x^(q^i), what is h^q modulo f is x^(q^(i + 1)), modulo f
---   raised-coprime      == then f is coprime to h - x exactly where it is coprime to x^(q^i) - x
 --   Passed R D q f i    == f is coprime to x^(q^j) - x for 1 ≤ j ≤ i
 --   passed-start        == it is for i = 0
 --   passed-step         == and from i to i + 1 where a greatest common divisor of f and h - x has degree 0
@@ -19,9 +18,9 @@
 -- is the divisor) give `Gcd f (h′ - x) g` and the degree k of g: where k = 0, `passed-step`; otherwise
 -- `failed-reducible` answers no. After the loop d < 2·(i + 1), and `passed-irreducible` answers yes.
 -- Assumes nothing.
-use mathlib.Core.Path.{_≡_, refl, sym, ap, subst, _∙_}
+use mathlib.Core.Path.{_≡_, refl, sym, subst}
 use mathlib.Core.Logic.{_⊎_, inl, inr, _↔_}
-use Prim.Native.Nat.{ℕ, zero, suc, _*_, _^_, _≤_, _<_}
+use Prim.Native.Nat.{ℕ, suc, _*_, _^_, _≤_, _<_}
 use native.Mathlib.Nat as ℕ
 use native.Mathlib.Omega.{arith}
 use Rattle.algebra.proofs.Ring.{Ring, Field}
@@ -82,7 +81,8 @@ module _ {K : Type 0} (R : Ring K) (D : Discrete K) (q : ℕ) where
       ideal : Ideal P (Divides P f)
       ideal = multiples-ideal P f
 
-  pub raised-coprime :
+  -- then f is coprime to h - x exactly where it is coprime to x^(q^i) - x
+  raised-coprime :
       {f h : Polynomial R D} {i : ℕ}
       → Raised f h i
       → Coprime P f (h ⊞ ⊟ X R D)

@@ -17,8 +17,7 @@ use mathlib.Core.Path.{_≡_, sym, ap, _∙_}
 use native.Mathlib.Nat.{mod-lt, mod-mod, zero-mod}
 use native.Mathlib.Omega.{arith}
 use Rattle.bridge.proofs.Interpretation.{IsField, Prime, prime-size, inRange-isField, inRange-prime}
-use Rattle.bridge.proofs.Interpretation.{prime-add, prime-add-product, prime-add-remainder}
-use Rattle.bridge.proofs.IrreducibleTests.{prime-size-power}
+use Rattle.bridge.proofs.Interpretation.{prime-size-power, prime-add, prime-add-product, prime-add-remainder}
 use Rattle.arith.specs.Represented.{fieldOf, elementOf, WellFormed}
 use Rattle.arith.specs.declared.field.GaloisField.{GaloisField}
 

@@ -19,8 +19,7 @@ use mathlib.Core.List.{List, [], _∷_}
 use lib.ListN.{length, getD, List·getD-eq-default}
 use lib.Bits.{bitXor, differ, xor-step, xor-zero-r, xor-block, xor-lt}
 use lib.Pow.{pow-mono, pow-pos}
-use native.Mathlib.Nat.{mod-eq-of-lt, div-eq-of-lt, div-lt-iff-lt-mul, pow-zero, pow-suc, mul-one, mul-assoc}
-use native.Mathlib.Nat.{zero-mod, zero-div, mul-comm}
+use native.Mathlib.Nat.{div-eq-of-lt, div-lt-iff-lt-mul, pow-zero, pow-suc, mul-one, mul-assoc}
 use native.Mathlib.Decide.{decLt}
 use native.Mathlib.Omega.{arith}
 use lib.Dec.{T}
@@ -28,22 +27,22 @@ use Rattle.meaning.specs.Search.{holdsForAll, range}
 use Rattle.meaning.specs.Field.{prime, isPrime, primeInRange, largestPrime, areElements, multiple}
 use Rattle.meaning.specs.Field.{negative}
 use Rattle.meaning.specs.Polynomial.{Polynomial, isMonicOver, plus, scale, power}
-use Rattle.algebra.proofs.Ring.{Ring, zero-add}
+use Rattle.algebra.proofs.Ring.{Ring}
 use Rattle.algebra.proofs.Solver.{solve, _:=_, _:+_, _:*_, :-_, :0, :1}
 use Rattle.algebra.proofs.Power.{power-zero, power-one, power-mul, power-suc-left, power-of-zero}
 use Rattle.algebra.proofs.Power.{power as algebra-power}
-use Rattle.algebra.proofs.Polynomial.{X, constant, constant-polynomial-hom, coefficient}
+use Rattle.algebra.proofs.Polynomial.{X, constant, constant-polynomial-hom}
 use Rattle.algebra.proofs.Monic.{Monic, monic-degree}
 use Rattle.algebra.proofs.Divisor.{Gcd, gcd-zero}
 use Rattle.algebra.proofs.BenOr.{sum-raised, constant-fixed}
 use Rattle.bridge.proofs.Interpretation.{IsField, inRange-isField, elements, prime-add, prime-size}
-use Rattle.bridge.proofs.Interpretation.{size-positive}
-use Rattle.bridge.proofs.Polynomials.{Poly, polyRing, poly, poly-nil, poly-cons, poly-constant}
+use Rattle.bridge.proofs.Interpretation.{size-positive, prime-size-power}
+use Rattle.bridge.proofs.Polynomials.{Poly, polyRing, poly, poly-nil, poly-cons}
 use Rattle.bridge.proofs.Polynomials.{poly-plus, coefficient-poly, length-plus, plus-elements}
 use Rattle.bridge.proofs.Polynomials.{monic-over}
 use Rattle.bridge.proofs.Products.{poly-power}
 use Rattle.bridge.proofs.Remainders.{Congruent, congruent-poly}
-use Rattle.bridge.proofs.IrreducibleTests.{CommonDegree, lessX, prime-size-power}
+use Rattle.bridge.proofs.IrreducibleTests.{CommonDegree, lessX}
 use Rattle.bridge.proofs.Monics.{digit, digits, length-digits, getD-digits}
 use Rattle.bridge.proofs.Words.{value, Below, below-nil, below-cons, value-nil, value-cons}
 use Rattle.bridge.proofs.Words.{value-below}

@@ -5,7 +5,8 @@
 --                     of K. Every number stands for an element, also one beyond the size
 --   prime-isField  == GF(p) meets it, for every prime p together
 --   prime-size, prime-characteristic-number, prime-add, prime-mul == the parts of GF(p) in plain numbers;
---                     prime-add-remainder, prime-add-product, prime-multiple, prime-negative: what follows
+--                     prime-size-power, prime-add-remainder, prime-add-product, prime-multiple,
+--                     prime-negative: what follows
 --   isPrime-prime, prime-isPrime, isPrime-meaning, meaning-isPrime
 --                  == the prime test of `meaning` is primality, in the words of `algebra` and of `meaning`
 --   inRange-isField == GF(p) is a field for every p that refusal 6 admits
@@ -19,13 +20,13 @@
 -- GF(p) by name: `prime-…` here and further up, `polynomial-one`, and the answers of the calls.
 -- Assumes nothing.
 use Prim.Native.Nat.{ℕ, zero, suc, _+_, _*_, _-_, _^_, _/_, _%_, _≤_, _<_, zero-le, _∣_}
-use mathlib.Core.Path.{_≡_, refl, sym, ap, ap₂, subst, _∙_}
+use mathlib.Core.Path.{_≡_, refl, sym, ap, subst, _∙_}
 use mathlib.Core.Logic.{_≢_, inl, inr, ∥∥₁-elim}
 use mathlib.Core.Bool.{Bool, true, false, not}
 use mathlib.Core.List.{map, List·Mem, List·Memᴰ, mem-map-of-mem}
 use mathlib.Mathlib.Data.List.Nodup.{map-on}
 use native.Mathlib.Nat.{mod-eq-of-lt, dvd-of-mod-eq-zero, mul-div-cancel', dvd-refl, ℕ-set, pow-zero, pow-suc}
-use native.Mathlib.Nat.{mod-add-mod, add-mod-mod, zero-mul, zero-mod, suc-mul}
+use native.Mathlib.Nat.{mod-add-mod, add-mod-mod, zero-mul, zero-mod, suc-mul, one-mul as ℕ-one-mul}
 use native.Mathlib.Decide.{decLt}
 use native.Mathlib.Omega.{arith}
 use lib.ListN.{length-map}
@@ -105,6 +106,14 @@ prime-size p = refl
 pub prime-characteristic-number : (p : ℕ) → prime p .characteristic ≡ p
 unfolding prime
 prime-characteristic-number p = refl
+
+pub prime-size-power : (p : ℕ) → prime p .size ≡ prime p .characteristic ^ 1
+prime-size-power p =
+    prime-size p
+    ∙ sym (ℕ-one-mul p)
+    ∙ ap (λ n. n * p) (sym (pow-zero p))
+    ∙ sym (pow-suc p 0)
+    ∙ ap (λ n. n ^ 1) (sym (prime-characteristic-number p))
 
 pub prime-add : (p a b : ℕ) → (prime p .add) a b ≡ (a + b) % p
 unfolding prime

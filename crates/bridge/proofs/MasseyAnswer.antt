@@ -35,8 +35,8 @@ use Rattle.meaning.specs.Free.{leastDegree, Fits, isUnique, Choice, ChosenFits,
 use Rattle.meaning.specs.Free.{rateFree}
 use Rattle.meaning.proofs.Passes.{Passes}
 use Rattle.algebra.proofs.Ring.{Ring, inverse-unique, add-right-comm, neg-mul}
-use Rattle.algebra.proofs.Power.{power, power-zero, power-suc-left, power-add}
-use Rattle.algebra.proofs.Solver.{solve, _:=_, _:+_, _:*_, :-_, :0, :1}
+use Rattle.algebra.proofs.Power.{power, power-add}
+use Rattle.algebra.proofs.Solver.{solve, _:=_, _:+_, _:*_, :-_}
 use Rattle.algebra.proofs.Polynomial.{X, constant, constant-polynomial-hom, polynomial-ext}
 use Rattle.algebra.proofs.Action.{act, act-add, act-one, act-x-power-mul}
 use Rattle.algebra.proofs.MasseyStep.{shift, State, start, step-same}
@@ -48,9 +48,9 @@ use Rattle.bridge.proofs.Interpretation.{element-negative, element-nonz
 use Rattle.bridge.proofs.Interpretation.{reciprocal-below}
 use Rattle.bridge.proofs.Interpretation.{number-mul-reciprocal}
 use Rattle.bridge.proofs.Interpretation.{add-below, mul-below, size-two}
-use Rattle.bridge.proofs.Polynomials.{Poly, polyRing, poly, poly-nil, poly-one, poly-cons, poly-plus}
+use Rattle.bridge.proofs.Polynomials.{Poly, polyRing, poly, poly-nil, poly-one, poly-plus}
 use Rattle.bridge.proofs.Polynomials.{poly-scale, coefficient-poly, length-scale, elements-nil}
-use Rattle.bridge.proofs.Polynomials.{elements-getD, getD-elements}
+use Rattle.bridge.proofs.Polynomials.{elements-getD, getD-elements, poly-append}
 use Rattle.bridge.proofs.Polynomials.{length-degree, leading-length, leading-monic}
 use Rattle.bridge.proofs.Actions.{sequence, element-act}
 use Rattle.bridge.proofs.Actions.{known-getD}
@@ -79,23 +79,6 @@ module _ {F : Field} (I : IsField F) where
   abbrev x^ : ℕ → Poly I
   x^ n = power (polyRing I) (X ring (field .discrete)) n
 
-  pub poly-append : (f g : List ℕ) → poly I (f ++ g) ≡ poly I f ⊞ shift (length f) (poly I g)
-  poly-append [] g =
-      sym
-      (ap₂ (λ a b. a ⊞ b ⊠ poly I g) (poly-nil I) (power-zero (polyRing I) (X ring (field .discrete)))
-      ∙ solve (polyRing I) 1 (λ g. :0 :+ :1 :* g := g) refl (poly I g))
-  poly-append (a ∷ f) g =
-      poly-cons I a (f ++ g)
-      ∙ ap (λ u. constant ring (field .discrete) (element a) ⊞ X ring (field .discrete) ⊠ u) (poly-append f g)
-      ∙ solve (polyRing I) 5 (λ a x f y g. a :+ x :* (f :+ y :* g) := a :+ x :* f :+ x :* y :* g) refl
-      (constant ring (field .discrete) (element a))
-      (X ring (field .discrete))
-      (poly I f)
-      (x^ (length f))
-      (poly I g)
-      ∙ sym (ap₂ (λ u v. u ⊞ v ⊠ poly I g) (poly-cons I a f)
-      (power-suc-left (polyRing I) (X ring (field .discrete)) (length f)))
-
   -- zeros after a list change nothing
   pub poly-pad : (k : ℕ) (l : List ℕ) → length l ≤ k → poly I (pad k l) ≡ poly I l
   poly-pad k l h =
@@ -122,7 +105,7 @@ module _ {F : Field} (I : IsField F) where
         → poly I (kept F c s f g) ≡ poly I f ⊞ x^ s ⊠ (C ⊠ poly I g)
     unfolding kept
     poly-kept l h =
-        poly-append (take s f) (plus F (drop s f) (scale F c (pad (length f - s) g)))
+        poly-append I (take s f) (plus F (drop s f) (scale F c (pad (length f - s) g)))
         ∙ ap₂ (λ n u. poly I (take s f) ⊞ x^ n ⊠ u) (length-take-le s f l)
         (poly-sum (drop s f) (pad (length f - s) g)
         ∙ ap (λ u. poly I (drop s f) ⊞ C ⊠ u) (poly-pad (length f - s) g h))
@@ -133,14 +116,14 @@ module _ {F : Field} (I : IsField F) where
         whole : poly I f ≡ poly I (take s f) ⊞ x^ s ⊠ poly I (drop s f)
         whole =
             ap (poly I) (sym (take-append-drop s f))
-            ∙ poly-append (take s f) (drop s f)
+            ∙ poly-append I (take s f) (drop s f)
             ∙ ap (λ n. poly I (take s f) ⊞ x^ n ⊠ poly I (drop s f)) (length-take-le s f l)
 
     poly-changed :
         length g ≤ s + length f → poly I (changed F c s f g) ≡ x^ s ⊠ poly I f ⊞ C ⊠ poly I g
     unfolding changed
     poly-changed h =
-        poly-append (scale F c (pad s g)) (plus F f (scale F c (pad (length f) (drop s g))))
+        poly-append I (scale F c (pad s g)) (plus F f (scale F c (pad (length f) (drop s g))))
         ∙ ap₂ _⊞_ (poly-scale I c (pad s g))
         (ap₂ (λ n u. x^ n ⊠ u) (length-scale F c (pad s g) ∙ length-pad s g)
         (poly-sum f (pad (length f) (drop s g))))
@@ -153,7 +136,7 @@ module _ {F : Field} (I : IsField F) where
         whole =
             sym (poly-pad (s + length f) g h)
             ∙ ap (poly I) (pad-split s (length f) g)
-            ∙ poly-append (pad s g) (pad (length f) (drop s g))
+            ∙ poly-append I (pad s g) (pad (length f) (drop s g))
             ∙ ap (λ n. poly I (pad s g) ⊞ x^ n ⊠ poly I (pad (length f) (drop s g))) (length-pad s g)
 
     -- with the leading 1
@@ -162,21 +145,21 @@ module _ {F : Field} (I : IsField F) where
         → length g ≤ length f - s
         → poly I (kept F c s f g ++ (1 ∷ [])) ≡ poly I (f ++ (1 ∷ [])) ⊞ x^ s ⊠ (C ⊠ poly I g)
     lead-kept l h =
-        poly-append (kept F c s f g) (1 ∷ [])
+        poly-append I (kept F c s f g) (1 ∷ [])
         ∙ ap₂ (λ u n. u ⊞ x^ n ⊠ poly I (1 ∷ [])) (poly-kept l h) (length-kept F c s f g l)
         ∙ add-right-comm (polyRing I) (poly I f) (x^ s ⊠ (C ⊠ poly I g)) (x^ (length f) ⊠ poly I (1 ∷ []))
-        ∙ ap (λ u. u ⊞ x^ s ⊠ (C ⊠ poly I g)) (sym (poly-append f (1 ∷ [])))
+        ∙ ap (λ u. u ⊞ x^ s ⊠ (C ⊠ poly I g)) (sym (poly-append I f (1 ∷ [])))
 
     lead-changed :
         length g ≤ s + length f
         → poly I (changed F c s f g ++ (1 ∷ [])) ≡ x^ s ⊠ poly I (f ++ (1 ∷ [])) ⊞ C ⊠ poly I g
     lead-changed h =
-        poly-append (changed F c s f g) (1 ∷ [])
+        poly-append I (changed F c s f g) (1 ∷ [])
         ∙ ap₂ (λ u n. u ⊞ n ⊠ poly I (1 ∷ [])) (poly-changed h)
         (ap x^ (length-changed F c s f g) ∙ power-add (polyRing I) (X ring (field .discrete)) s (length f))
         ∙ solve (polyRing I) 5 (λ x f g y u. x :* f :+ g :+ x :* y :* u := x :* (f :+ y :* u) :+ g) refl
         (x^ s) (poly I f) (C ⊠ poly I g) (x^ (length f)) (poly I (1 ∷ []))
-        ∙ ap (λ u. x^ s ⊠ u ⊞ C ⊠ poly I g) (sym (poly-append f (1 ∷ [])))
+        ∙ ap (λ u. x^ s ⊠ u ⊞ C ⊠ poly I g) (sym (poly-append I f (1 ∷ [])))
 
   -- The discrepancy and the factor −d/b
   open Ring ring using (0#, 1#, _⊕_, _⊗_, ⊖_)
@@ -194,7 +177,7 @@ module _ {F : Field} (I : IsField F) where
       element-add I (actAt F f (known ts) (n - length f)) (getD ts n 0)
       ∙ ap₂ _⊕_ (element-act I f (known ts) (n - length f)) (sym leading)
       ∙ sym (act-add (poly I f) (x^ (length f) ⊠ poly I (1 ∷ [])) (sequence I (known ts)) (n - length f))
-      ∙ ap (λ h. act h (sequence I (known ts)) (n - length f)) (sym (poly-append f (1 ∷ [])))
+      ∙ ap (λ h. act h (sequence I (known ts)) (n - length f)) (sym (poly-append I f (1 ∷ [])))
     where
       leading :
           act (x^ (length f) ⊠ poly I (1 ∷ [])) (sequence I (known ts)) (n - length f) ≡ element (getD ts n 0)

@@ -5,6 +5,7 @@
 --   list I h       == the list of numbers of a polynomial h: its coefficients up to the last that is not 0
 --   append-elements, drop-elements, set-elements, zeros-elements == parts of lists have elements for numbers
 --   poly-plus, poly-scale, poly-times, poly-one == operations on lists are those of polynomials; no condition
+--   poly-append    == a joined list: the second stands higher by the length of the first
 --   times-elements == products of any two lists have elements of F alone for numbers
 --   length-times, degree-times == the product of lists that are not empty
 --   monic-length, monic-last, monic-elements, monic-over == `isMonicOver` in words, and back
@@ -32,6 +33,8 @@ use Rattle.meaning.specs.Field.{Field, isElement, areElements}
 use Rattle.meaning.specs.Polynomial.{Polynomial, degree, leading, isMonic, isMonicOver, plus, scale, times}
 use Rattle.meaning.specs.Polynomial.{same}
 use Rattle.algebra.proofs.Ring.{Ring}
+use Rattle.algebra.proofs.Solver.{solve, _:=_, _:+_, _:*_, :0, :1}
+use Rattle.algebra.proofs.Power.{power, power-zero, power-suc-left}
 use Rattle.algebra.proofs.Series.{coefficient-list, list-plus, list-scale, list-times, list-times-length}
 use Rattle.algebra.proofs.Series.{list-plus-length}
 use Rattle.algebra.proofs.Polynomial.{Polynomial as AlgebraPolynomial, polynomials, fromList, coefficient}
@@ -193,6 +196,21 @@ module _ {F : Field} (I : IsField F) where
       → poly (a ∷ f) ≡ constant ring (field .discrete) (element a) ⊞ X ring (field .discrete) ⊠ poly f
   unfolding poly
   poly-cons a f = fromList-cons ring (field .discrete) (element a) (map element f)
+
+  pub poly-append :
+      (f g : List ℕ)
+      → poly (f ++ g) ≡ poly f ⊞ power polyRing (X ring (field .discrete)) (length f) ⊠ poly g
+  poly-append [] g =
+      solve polyRing 1 (λ g. g := :0 :+ :1 :* g) refl (poly g)
+      ∙ ap₂ (λ u v. u ⊞ v ⊠ poly g) (sym poly-nil) (sym (power-zero polyRing (X ring (field .discrete))))
+  poly-append (a ∷ f) g =
+      poly-cons a (f ++ g)
+      ∙ ap (λ u. constant ring (field .discrete) (element a) ⊞ X ring (field .discrete) ⊠ u) (poly-append f g)
+      ∙ solve polyRing 5 (λ a x f n g. a :+ x :* (f :+ n :* g) := a :+ x :* f :+ x :* n :* g) refl
+      (constant ring (field .discrete) (element a)) (X ring (field .discrete)) (poly f)
+      (power polyRing (X ring (field .discrete)) (length f)) (poly g)
+      ∙ ap₂ (λ u v. u ⊞ v ⊠ poly g) (sym (poly-cons a f))
+      (sym (power-suc-left polyRing (X ring (field .discrete)) (length f)))
 
   pub poly-x : poly (0 ∷ 1 ∷ []) ≡ X ring (field .discrete)
   unfolding poly X

@@ -12,7 +12,6 @@
 --   dividesSome F f a m == the same for some c other than 0
 --   hasDivisor F f a   == some x^a − h with a constant term other than 0 divides f
 --   remainder-congruent == a list is congruent to its remainder modulo x^a − h
---   divides-divisor, divisor-divides == the remainder is 0 exactly where x^a − h divides f
 --   hasDivisor-reducible == what has a divisor of degree a, 1 ≤ a ≤ d/2, is reducible
 --   trial-search        == f with a constant term other than 0 is irreducible exactly where no degree up to
 --                          d/2 has a divisor
@@ -189,14 +188,15 @@ module _ {F : Field} (I : IsField F) where
           subst (λ u. Congruent I g u rest) (take-append-drop n f)
           (remainder-congruent (drop n f) (take n f) length-high)
 
-      pub divides-divisor : T (divides F h f) → Divisor F g f
+      -- the remainder is 0 exactly where x^a − h divides f
+      tried-divisor : T (divides F h f) → Divisor F g f
       unfolding divides
-      divides-divisor t =
+      tried-divisor t =
           remainder-divisor I g f (modulus-monic I h) m rest rest-congruent (zeros-getD rest t)
 
-      pub divisor-divides : Divisor F g f → T (divides F h f)
+      divisor-tried : Divisor F g f → T (divides F h f)
       unfolding divides
-      divisor-divides d =
+      divisor-tried d =
           getD-zeros rest
           (divisor-remainder I g f (modulus-monic I h) m rest
           (remainder-elements h (drop n f) (drop-below n below) (take-below n below))
@@ -227,7 +227,7 @@ module _ {F : Field} (I : IsField F) where
           divisor-reducible I (modulus F tried) f (modulus-monic I tried)
           (omega (arith, degree-modulus F tried, tried-length))
           (omega (arith, degree-modulus F tried, tried-length, half))
-          (divides-divisor tried tried-elements (omega arith) f m
+          (tried-divisor tried tried-elements (omega arith) f m
           (omega (arith, tried-length, monic-length F f m, half)) v)
 
     pub hasDivisor-reducible : T (hasDivisor F f a) → ¬ T (irreducible F f)
@@ -281,7 +281,7 @@ module _ {F : Field} (I : IsField F) where
     divisor-found g o l k z d =
         divides-found-list (degree g) (lowered F g) (length-lowered F g) l (lowered-constant g o l z)
         (elements-below F (lowered F g) (lowered-elements I g))
-        (divisor-divides (lowered F g) (lowered-elements I g) (omega (arith, length-lowered F g)) f m
+        (divisor-tried (lowered F g) (lowered-elements I g) (omega (arith, length-lowered F g)) f m
         (omega (arith, length-lowered F g, monic-length F f m))
         (subst (λ u. Divisor F u f) (sym (modulus-lowered I g o)) d))
 

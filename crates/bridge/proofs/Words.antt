@@ -3,14 +3,20 @@
 --
 --   value b f      == the number with the digits f in base b, the lowest first; a digit may be b or more
 --   Below b f      == every digit of f is less than b
+--   elements-below, below-elements == those of a list of elements are less than the size, and back
+--   take-below, drop-below, digits-below == and those of a part, and the digits of a number
+--   last-split     == a list is the list without its last digit, and that digit
+--   value-nil, value-cons == the value of the empty list, and by the lowest digit
 --   value-append   == the digits of a joined list: those of the second list stand higher by the length of the
---                     first
+--                     first; `value-snoc`: one digit more, at the end
 --   value-below    == a number of n digits in base b is less than b^n
+--   low-digit, high-digits == the lowest digit is the remainder by b, and the others are the quotient
 --   digits-value   == the digits of the value of a list are the list
---   value-digits   == a number is the value of its digits, if they are enough
+--   value-digits   == a number is the value of its digits, if they are enough; `value-digits-mod`: the value
+--                     of its k lowest digits is its remainder by b^k
 --
 -- Assumes nothing.
-use Prim.Native.Nat.{ℕ, zero, suc, _+_, _*_, _^_, _/_, _%_, _≤_, _<_}
+use Prim.Native.Nat.{ℕ, zero, suc, _+_, _*_, _^_, _/_, _%_, _<_}
 use mathlib.Core.Path.{_≡_, refl, sym, ap, ap₂, _∙_}
 use mathlib.Core.List.{List, [], _∷_, _++_}
 use lib.ListN.{length, getD, take, drop}
@@ -53,10 +59,6 @@ unfolding value
 value-cons b c f = refl
 
 -- Parts of lists
-pub append-below : {b : ℕ} {f g : List ℕ} → Below b f → Below b g → Below b (f ++ g)
-append-below below-nil k = k
-append-below (below-cons h hs) k = below-cons h (append-below hs k)
-
 pub take-below : {b : ℕ} {f : List ℕ} (i : ℕ) → Below b f → Below b (take i f)
 take-below zero h = below-nil
 take-below (suc i) below-nil = below-nil
@@ -66,11 +68,6 @@ pub drop-below : {b : ℕ} {f : List ℕ} (i : ℕ) → Below b f → Below b (d
 drop-below zero h = h
 drop-below (suc i) below-nil = below-nil
 drop-below (suc i) (below-cons h hs) = drop-below i hs
-
-pub getD-below : {b : ℕ} {f : List ℕ} (i : ℕ) → 0 < b → Below b f → getD f i 0 < b
-getD-below i s below-nil = s
-getD-below zero s (below-cons h hs) = h
-getD-below (suc i) s (below-cons h hs) = getD-below i s hs
 
 pub last-split : (f : List ℕ) (n : ℕ) → length f ≡ suc n → f ≡ take n f ++ (getD f n 0 ∷ [])
 last-split f n e = sym (take-all (suc n) f (omega arith)) ∙ take-suc f n 0 (omega arith)
