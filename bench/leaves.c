@@ -1,5 +1,5 @@
-// The leaves beside C in one run: sums of products, updates, and irreducibility. Each line has the
-// time of the proved function, the time of the same work in C, and their ratio.
+// The leaves beside C in one run: sums of products, updates, and irreducibility.
+// Each line has the time of the proved function, the time of the same work in C, and their ratio.
 #include "reference.h"
 #include <stdio.h>
 #include <stdlib.h>

@@ -1,7 +1,7 @@
 -- Powers in a ring with natural exponents.
 --
 --   power R a n   == a ⊗ … ⊗ a with n factors; 1# for n = 0, also where a is 0#
---   power-tower   == the power q^(i + 1) is the power q of the power q^i; `tower-one`: the power q^0 of a is a
+--   power-tower, tower-one == the power q^(i + 1) is the power q of the power q^i; the power q^0 of a is a
 --   tower-fixed   == where a^q = a, so is a^(q^i)
 --   tower-sum     == where the power q respects sums, so does the power q^i
 --

@@ -2,6 +2,8 @@
 --
 --   put-paste         == a lent part that comes back is pasted in its place
 --   lent-length       == a part that is lent
+--   lent-back, copied-back == a part from the front that was lent and came back; a list that was copied into
+--                        zeros, as it is lent
 --   zeros-length, zeros-lent == zeros that are lent from the front
 --   zeros-front, zeros-enough == what came back for them, lent again
 --   copied, front-copied == a list that is copied over one that is no longer; the front of one
@@ -32,6 +34,18 @@ put-paste l x n y e =
 pub lent-length : (l : List ℕ) (x n : ℕ) → x + n ≤ length l → length (take (x + n - x) (drop x l)) ≡ n
 lent-length l x n h = ap (λ k. length (take k (drop x l))) (add-sub-cancel-left x n) ∙ length-part l x n h
 
+-- a part from the front that came back
+pub lent-back : (ys t : List ℕ) {d : ℕ} → length ys ≡ d → take (d - 0) (ys ++ t) ≡ ys
+lent-back ys t {d} e = take-at ys t (d - 0) (e ∙ omega arith)
+
+pub copied-back :
+    (f : List ℕ) (n : ℕ) {d : ℕ}
+    → length f ≡ d
+    → take (d - 0) (take (length f) f ++ drop (length f) (replicate n 0)) ≡ f
+copied-back f n {d} e =
+    ap (λ u. take (d - 0) (u ++ drop (length f) (replicate n 0))) (take-length f)
+    ∙ lent-back f (drop (length f) (replicate n 0)) e
+
 -- Zeros
 zeros-part : (m n : ℕ) → m ≤ n → _≡_ {A = List ℕ} (take m (replicate n 0)) (replicate m 0)
 zeros-part zero n h = refl
@@ -50,7 +64,7 @@ module _ (m n : ℕ) (h : m ≤ n) where
 
   module _ (y : List ℕ) (e : length y ≡ length {A = ℕ} (take (m - 0) (replicate n 0))) where
     pub zeros-front : take (m - 0) (y ++ drop (m - 0) (replicate n 0)) ≡ y
-    zeros-front = take-at y (drop (m - 0) (replicate n 0)) (m - 0) (omega (arith, zeros-length))
+    zeros-front = lent-back y (drop (m - 0) (replicate n 0)) (e ∙ zeros-length)
 
     pub zeros-enough : m ≤ length (y ++ drop (m - 0) (replicate n 0))
     zeros-enough = omega (arith, zeros-length, length-append y (drop (m - 0) (replicate n 0)))
@@ -73,8 +87,7 @@ pub front-copied :
     ++ drop (length (take (length dst - 0) (ys ++ t))) dst
     ≡ ys
 front-copied ys t dst e =
-    let b : take (length dst - 0) (ys ++ t) ≡ ys = take-at ys t (length dst - 0) (e ∙ omega arith) in
-    ap (λ u. take (length u) u ++ drop (length u) dst) b ∙ copied dst ys (omega arith)
+    ap (λ u. take (length u) u ++ drop (length u) dst) (lent-back ys t e) ∙ copied dst ys (omega arith)
 
 pub cleared-part : {ys : List ℕ} (w : List ℕ)
     → 8192 ≤ length w

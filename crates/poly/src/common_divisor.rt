@@ -1,5 +1,5 @@
-// Common divisors by Euclid's algorithm, in lent bytes. Assumes a well-formed field, and its elements in both
-// polynomials.
+// Common divisors by Euclid's algorithm, in lent bytes.
+// Assumes a well-formed field, and its elements in both polynomials.
 use crate::division::remainder;
 use arith::GaloisField;
 ghost use Rattle.arith.specs.Represented.{fieldOf, WellFormed};

@@ -1,4 +1,4 @@
--- The question whether a polynomial is irreducible, by its verdict and the answer of the trial division.
+-- The question whether a polynomial is irreducible, by its verdict and the answer of Ben-Or's test.
 -- Assumes nothing.
 use Prim.Native.Nat.{ℕ}
 use mathlib.Core.Path.{_≡_, sym, ap, _∙_}

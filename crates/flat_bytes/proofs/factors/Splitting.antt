@@ -1,11 +1,10 @@
 -- Flat bytes part by part.
 --
---   PartFrom b ns i from j == part i of the bytes b, cut by the lengths ns, is part i − j of the bytes from
---                      the
---                     place `from` on, cut by the lengths from j on
+--   PartFrom b ns i from j == part i of the bytes b, cut by the lengths ns, is part i − j of the bytes
+--                       from the place `from` on, cut by the lengths from j on
 --   split-length     == there are as many parts as lengths
---   reads d l i k    == k elements of a list from the place i on, as they are read one by one: d beyond its
---                      end
+--   reads d l i k    == k elements of a list from the place i on, as they are read one by one: d beyond
+--                       its end
 --   reads-take       == as many of them as there are, are the first k elements
 --   Each l i rs      == the slices rs hold the elements of l from the place i on
 --   rated-parts      == nine slices that hold the parts, cut to the number of parts, are the first nine parts

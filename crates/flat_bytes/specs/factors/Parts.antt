@@ -1,8 +1,7 @@
 -- What the contracts of the parts of one slice of bytes cite (`split` of crate meaning).
 --
---   PartEnd size from n end == a part of n bytes that begins at the place `from`, in `size` bytes, ends at
---                      the
---                        place `end`
+--   PartEnd size from n end == a part of n bytes that begins at the place `from`, in `size` bytes,
+--                        ends at the place `end`
 use Prim.Native.Nat.{ℕ, _+_, _≤_, min}
 use mathlib.Core.Path.{_≡_}
 

@@ -1,7 +1,6 @@
 -- The table of the powers x^(j·q) modulo f, row by row.
 --
---   Filling field f y table row j == what the loop keeps: row has x^(j·q), and the table has the rows before
---                      it
+--   Filling field f y table row j == what the loop keeps: row has x^(j·q), and the table the rows before
 --   filling-start, filling-next, filling-end == at the start, one row more, at the end
 --   old-back, row-factors == the row that the next one is made of
 --   power-trimmed     == x^q without the zeros at its end
@@ -10,13 +9,13 @@
 use Prim.Native.Nat.{ℕ, zero, suc, _+_, _*_, _-_, _≤_, _<_}
 use mathlib.Core.Path.{_≡_, refl, sym, ap, subst, _∙_}
 use mathlib.Core.List.{List, [], _∷_, _++_}
-use native.Mathlib.Nat.{sub-zero, suc-mul, add-comm, zero-mul}
+use native.Mathlib.Nat.{suc-mul, add-comm, zero-mul}
 use native.Mathlib.Numerals.{add-one}
 use native.Mathlib.Decide.{decLt}
 use native.Mathlib.Omega.{arith}
 use lib.ListN.{length, getD, take, drop, set, replicate, length-take, length-set, length-replicate}
 use lib.ListN.{List·getD-eq-default, length-drop, length-append}
-use lib.Seq.{getD-take, length-take-le, take-at, paste, length-paste, take-all, take-length, take-append-le}
+use lib.Seq.{getD-take, length-take-le, take-at, paste, length-paste, take-all}
 use lib.Dec.{T}
 use borrow.Rule.Slice.PartMut.{putMid}
 use Rattle.meaning.specs.Field.{Field, areElements}
@@ -27,23 +26,23 @@ use Rattle.bridge.proofs.Continuations.{take-elements}
 use Rattle.bridge.proofs.Remainders.{Congruent, congruent-trans, congruent-places}
 use Rattle.bridge.proofs.Residues.{monomial-congruent, heights-times}
 use Rattle.arith.specs.Represented.{fieldOf, WellFormed}
-use Rattle.arith.specs.Slices.{part}
 use Rattle.arith.specs.declared.field.GaloisField.{GaloisField}
 use Rattle.arith.proofs.Represented.{field-isField}
 use Rattle.arith.proofs.Slices.{part-paste-inside, part-paste-before}
 use Rattle.lent.proofs.Parts.{put-paste}
 use Rattle.poly.specs.common_divisor.Common.{Trimmed}
 use Rattle.poly.specs.residues.Residues.{Modulus, Factors, Residue}
-use Rattle.irreducible.specs.frobenius.Table.{row, Rows, Table}
+use Rattle.irreducible.specs.frobenius.Table.{row, Table}
 use Rattle.bridge.proofs.Polynomials.{set-elements, zeros-elements}
 use Rattle.lent.proofs.Parts.{copied}
-use Rattle.poly.proofs.residues.Powers.{lent-back}
+use Rattle.lent.proofs.Parts.{copied-back}
+use Rattle.poly.proofs.common_divisor.Trimming.{trimmed-within, trimmed-part, trimmed-size, trimmed-places}
 
 module _ (field : GaloisField) (f y : Polynomial) where
   abbrev F₁ : Field
   F₁ = fieldOf field
 
-  abbrev pub IsPower : Type 0
+  abbrev IsPower : Type 0
   IsPower = (w : WellFormed field) → Congruent (field-isField w) f (power F₁ (0 ∷ 1 ∷ []) (F₁ .size)) y
 
   pub record Filling (table now : List ℕ) (j : ℕ) : Type 0 where
@@ -229,9 +228,7 @@ module _ (field : GaloisField) {f : List ℕ} (y row₀ : List ℕ) (M : Modulus
     (s : length row₀ ≡ degree f) (k : T (areElements (fieldOf field) row₀))
     (m : T (areElements (fieldOf field) y)) where
   pub old-back : take (length row₀ - 0) (old row₀) ≡ row₀
-  old-back =
-      ap (λ u. take (length row₀ - 0) (u ++ drop (length row₀) (replicate 32 0))) (take-length row₀)
-      ∙ lent-back row₀ (drop (length row₀) (replicate 32 0)) refl
+  old-back = copied-back row₀ 32 refl
 
   pub row-factors : Factors (fieldOf field) (take (length row₀ - 0) (old row₀)) y
   row-factors =
@@ -250,41 +247,22 @@ module _ {field : GaloisField} {f : List ℕ} (M : Modulus (fieldOf field) f) {e
     (r : Residue field f (power (fieldOf field) (0 ∷ 1 ∷ []) q) ys)
     (z : q ≡ fieldOf field .size)
     (u : Trimmed (take (e - 0) (ys ++ t)) n) where
-  front : take (e - 0) (ys ++ t) ≡ ys
-  front = lent-back ys t (r .size ∙ sym s)
+  size : length ys ≡ e
+  size = r .size ∙ sym s
 
   abbrev short : List ℕ
   short = take (n - 0) (ys ++ t)
 
-  pub trimmed-within : n ≤ e
-  trimmed-within = omega (arith, u .within, ap length front, r .size)
-
-  pub trimmed-room : n ≤ length (ys ++ t)
-  trimmed-room = omega (arith, trimmed-within, length-append ys t, r .size)
-
-  short-is : short ≡ take n ys
-  short-is =
-      ap (λ k. take k (ys ++ t)) (sub-zero n) ∙ take-append-le n ys t (omega (arith, trimmed-within, r .size))
-
   pub short-length : length short ≤ 32
-  short-length = omega (arith, length-take (n - 0) (ys ++ t), trimmed-within, M .small)
+  short-length = omega (arith, trimmed-size ys t size u, trimmed-within ys t size u, M .small)
 
   pub short-elements : T (areElements (fieldOf field) short)
   short-elements =
-      subst (λ g. T (areElements (fieldOf field) g)) (sym short-is)
+      subst (λ g. T (areElements (fieldOf field) g)) (sym (trimmed-part ys t size u))
       (take-elements (fieldOf field) n ys (r .elements))
 
   pub power-trimmed : IsPower field f short
   power-trimmed w =
       subst (λ k. Congruent (field-isField w) f (power (fieldOf field) (0 ∷ 1 ∷ []) k) short) z
       (congruent-trans (field-isField w) (r .congruent w)
-      (congruent-places (field-isField w) ys short places))
-    where
-      places : (i : ℕ) → getD ys i 0 ≡ getD short i 0
-      places i = elim (decLt i n) [
-        | yes l ↦ sym (ap (λ g. getD g i 0) short-is ∙ getD-take n ys i 0 l)
-        | no l ↦
-            ap (λ g. getD g i 0) (sym front)
-            ∙ u .zeros i (omega arith)
-            ∙ sym (List·getD-eq-default short 0 (omega (arith, length-take (n - 0) (ys ++ t))))
-      ]
+      (congruent-places (field-isField w) ys short (λ i. sym (trimmed-places ys t size u i))))

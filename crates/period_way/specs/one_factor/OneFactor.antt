@@ -1,10 +1,9 @@
--- What the contract of an answer with one factor cites, beside crate meaning. o is the power that a way
--- found.
+-- What the contract of an answer with one factor cites, beside crate meaning.
+-- o is the power that a way found.
 --
 --   ratingFound F f o == the answer with f to the power found, or 17 where none was found
---   Answerable F f o  == f is monic over F, of a degree that 10 lets pass, and f to the power found has a
---                      degree
---                        of at most 4,096
+--   Answerable F f o  == f is monic over F, of a degree that 10 lets pass, and f to the power found
+--                        has a degree of at most 4,096
 --   FoundRated F f o answer r answer′ == r tells the answer, and the answer bytes have become answer′
 use Prim.Native.Nat.{ℕ, _*_, _≤_}
 use mathlib.Core.Path.{_≡_}

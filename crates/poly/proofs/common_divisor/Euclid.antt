@@ -1,11 +1,10 @@
 -- One turn of Euclid's algorithm: b is made monic, and a leaves its remainder by it.
 --
---   scaled-monic      == b times the inverse of its last coefficient is monic
---   divided-congruent == the remainder is congruent to a
---   euclid-ends       == where the remainder is 0, b is a greatest common divisor
---   euclid-turns      == b and the remainder, without the zeros at its end, are what the next turn asks for
---   euclid-goes-on    == and what it finds is a greatest common divisor of a and b
---   turned            == all of this, as the code makes it; `turned-…`: what the recursion takes of it
+--   some              == b is not empty
+--   turn-divisible    == a can be divided by the monic multiple of b
+--   turned            == the turn, as the code makes it: where it ends, what the next turn asks for, and that
+--                        what this finds is a greatest common divisor of a and b
+--   turned-ends, turned-again, turned-falls, turned-goes-on == what the recursion takes of it
 --
 -- Assumes nothing.
 use Prim.Native.Nat.{ℕ, suc, _-_, _≤_, _<_}
@@ -34,7 +33,8 @@ use Rattle.arith.proofs.Inverse.{inverse-product}
 use Rattle.poly.specs.division.Division.{Divisible, Divided}
 use Rattle.poly.specs.common_divisor.Common.{Trimmed, Euclidean, Turned, Common}
 
-pub divided-congruent :
+-- the remainder is congruent to a
+divided-congruent :
     {F : Field} (I : IsField F) {g f f′ : List ℕ} → Divided F g f f′ → Congruent I g f (take (degree g) f′)
 divided-congruent I {g} {f′ = f′} d = congruent-sum I (drop (degree g) f′) (d .equation)
 
@@ -62,7 +62,8 @@ module _ {F : Field} (I : IsField F) {a b : Polynomial} (E : Euclidean F a b) wh
   size : length (scale F c b) ≡ suc e
   size = length-scale F c b ∙ omega (arith, some)
 
-  pub scaled-monic : T (isMonicOver F (scale F c b))
+  -- b times the inverse of its last coefficient is monic
+  scaled-monic : T (isMonicOver F (scale F c b))
   scaled-monic =
       monic-over F (scale F c b) e size
       (getD-multiple I c b e ∙ number-mul-comm I c top ∙ product)
@@ -71,11 +72,11 @@ module _ {F : Field} (I : IsField F) {a b : Polynomial} (E : Euclidean F a b) wh
   degree-scaled : degree (scale F c b) ≡ e
   degree-scaled = length-degree (scale F c b) size
 
-  pub euclid-divisible : Divisible F a (scale F c b)
+  euclid-divisible : Divisible F a (scale F c b)
   euclid-divisible = record { monic = scaled-monic; elements = E .dividend }
 
   module _ {a′ : List ℕ} (d : Divided F (scale F c b) a a′) where
-    pub divided-size : e ≤ length a′
+    divided-size : e ≤ length a′
     divided-size = omega (arith, d .size, E .shorter)
 
     abbrev rest : List ℕ
@@ -87,7 +88,8 @@ module _ {F : Field} (I : IsField F) {a b : Polynomial} (E : Euclidean F a b) wh
         subst (λ n. Congruent I (scale F c b) a (take n a′)) same (divided-congruent I d)
 
     module _ {n : ℕ} (t : Trimmed rest n) where
-      pub euclid-ends : n ≡ 0 → CommonDegree I a b e
+      -- where the remainder is 0, b is a greatest common divisor
+      euclid-ends : n ≡ 0 → CommonDegree I a b e
       euclid-ends z =
           common-scale I a b c top product
           (common-step I rest-congruent
@@ -97,7 +99,7 @@ module _ {F : Field} (I : IsField F) {a b : Polynomial} (E : Euclidean F a b) wh
       abbrev next : List ℕ
       next = take n a′
 
-      pub short : n ≤ e
+      short : n ≤ e
       short = omega (arith, t .within, length-take (e - 0) a′)
 
       length-next : length next ≡ n
@@ -115,7 +117,8 @@ module _ {F : Field} (I : IsField F) {a b : Polynomial} (E : Euclidean F a b) wh
                 ∙ sym (List·getD-eq-default next 0 (omega (arith, length-next)))
           ]
 
-      pub euclid-turns : n ≢ 0 → Euclidean F (scale F c b) next
+      -- else b and the remainder, without the zeros at its end, are what the next turn asks for
+      euclid-turns : n ≢ 0 → Euclidean F (scale F c b) next
       euclid-turns h =
           record {
             dividend = scale-elements I c b;
@@ -134,7 +137,8 @@ module _ {F : Field} (I : IsField F) {a b : Polynomial} (E : Euclidean F a b) wh
               ∙ ap (λ i. getD next i 0) (sym top-place)
               ∙ sym (leading-getD next)
 
-      pub euclid-goes-on : {k : ℕ} → CommonDegree I (scale F c b) next k → CommonDegree I a b k
+      -- and what it finds is a greatest common divisor of a and b
+      euclid-goes-on : {k : ℕ} → CommonDegree I (scale F c b) next k → CommonDegree I a b k
       euclid-goes-on g = common-scale I a b c top product (common-step I trimmed-congruent g)
 
 -- The turn as the code makes it

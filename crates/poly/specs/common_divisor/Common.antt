@@ -1,8 +1,8 @@
 -- What the contracts of the common divisor cite.
 --
 --   Trimmed f n       == f has n coefficients up to the last that is not 0
---   Euclidean F a b   == both are polynomials over F, b is no longer than a, and its last coefficient is not
---                        0
+--   Euclidean F a b   == both are polynomials over F, b is no longer than a, and the last coefficient of b
+--                        is not 0
 --   Turned field a b a′ b′ n == the turn from a and b to b′ and the first n coefficients of a′: where n is 0,
 --                        b is a greatest common divisor; else these can be turned again, and their greatest
 --                        common divisors are those of a and b

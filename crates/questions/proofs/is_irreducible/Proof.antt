@@ -1,4 +1,4 @@
--- `is_irreducible` meets its contract: the verdict refuses, or the trial division answers.
+-- `is_irreducible` meets its contract: the verdict refuses, or Ben-Or's test answers.
 -- Assumes nothing.
 use borrow.Author.Needs.{needs}
 use Rattle.questions.proofs.Question.{question-refused, question-accepted, question-yes, question-no}

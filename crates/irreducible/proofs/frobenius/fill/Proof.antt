@@ -1,8 +1,8 @@
 -- `fill` meets its contract. x^q without the zeros at its end, and the rows of it.
 -- Assumes nothing.
 use lib.ListN.{length, drop, replicate}
-use Rattle.irreducible.proofs.frobenius.Filling.{trimmed-room, short-elements, short-length}
-use Rattle.irreducible.proofs.frobenius.Filling.{power-trimmed}
+use Rattle.irreducible.proofs.frobenius.Filling.{short-elements, short-length, power-trimmed}
+use Rattle.poly.proofs.common_divisor.Trimming.{trimmed-room}
 use Rattle.lent.proofs.Parts.{front-room}
 use Rattle.lent.proofs.Parts.{zeros-length}
 use Rattle.arith.proofs.Represented.{field-size}
@@ -87,8 +87,9 @@ part-fill-rows-end c =
     let s = c .before .before .before .before .before .before .before .before .before .before in
     let d : length (now (s .args .f)) - 1 ≡ degree (now (s .args .f)) =
     omega (arith, monic-length (fieldOf (s .args .field)) (now (s .args .f)) (s .pre .1 .0 .monic)) in
-    trimmed-room (s .pre .1 .0) (drop (length (now (s .args .f)) - 1 - 0) (replicate 32 0)) d
-    (c .before .before .before .before .before .power-of-x .ensures) (sym (field-size (s .args .field)))
+    trimmed-room (c .before .before .before .before .before .power-of-x .last .1 .1 .1 .0)
+    (drop (length (now (s .args .f)) - 1 - 0) (replicate 32 0))
+    (c .before .before .before .before .before .power-of-x .ensures .size ∙ sym d)
     (c .before .trimmed-length .ensures)
 
 fill-rows-requires : tie.Need-fill-rows-requires

@@ -1,3 +1,5 @@
+-- `trimmed_length` meets its contract. The invariant is `Trimming`, and the measure n.
+-- Assumes nothing.
 use borrow.Author.Needs.{needs}
 use Rattle.poly.proofs.common_divisor.Trimming.{Trimming, trimming-start, trimming-next}
 use Rattle.poly.proofs.common_divisor.Trimming.{trimming-found, trimming-end}

@@ -1,3 +1,5 @@
+-- `turn` meets its contract. b by the inverse of its last coefficient, and the remainder of a.
+-- Assumes nothing.
 use native.Mathlib.Omega.{arith}
 use borrow.Author.Needs.{needs}
 use Rattle.arith.proofs.Represented.{field-isField}
