@@ -188,7 +188,7 @@ static void large_portion(uint32_t p, size_t degree) {
 }
 
 static void large_set(uint32_t p, size_t degree) {
-    job *j = add("set", SET, p);
+    job *j = add("set, large factors", SET, p);
     for (int i = 0; i < 8; i++) {
         uint8_t f[33];
         bool again;

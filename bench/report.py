@@ -155,6 +155,10 @@ def limits(jobs):
     for j in jobs:
         if j.way == 'irreducible':
             row(j.name + ', over C tuned', j.ratio('tuned'), 2)
+    for j in jobs:
+        if j.way == 'irreducible':
+            known = [r for r in (best_ratio(j, who) for who in PEERS) if r is not None]
+            row(j.name + ', over the best of NTL, FLINT, PARI', max(known, default=None), 1)
     return table(['Time of the rater', 'ratio', 'at most', ''], rows)
 
 
@@ -180,7 +184,7 @@ def growth(jobs):
 
     for family, members in families.items():
         members = sorted(members, key=lambda j: j.terms)
-        if len(members) < 2 or family == 'set':
+        if len(members) < 2 or members[0].way == 'set' or members[0].terms == members[-1].terms:
             continue
         square = members[0].way == 'free'
         row(family, members[-2], members[-1], square)
@@ -259,23 +263,32 @@ SUMS = ('the sum of products, of which the compiler of the proved source makes a
         'compiler one of 16')
 PRODUCT = ('the product in the answer, where the rater takes a remainder for each coefficient of a factor, zeros included, '
            'and C one for all of them')
-BEN_OR = ('the question whether a factor of a large degree is irreducible: the C version adds up in 16-bit numbers and takes '
-          'the remainders once a row, the rater after each product')
+ROWS = ('in products modulo the polynomial and in the sums of rows the C version adds up in 32-bit numbers and takes one '
+        'remainder for each coefficient, and the rater one after each product; C takes one after each product only in '
+        'Euclid\'s algorithm and in products with x')
+SQUARES = ('the C version adds up squares of the powers of x, which it finds once, one for each bit, and the rater squares '
+           'bit by bit, with two steps of division for each')
+PARTLY = 'in part the question whether the factors are irreducible; the rest is not known'
 REASONS = {
     ('free 2', 'NTL'): WORDS % 'NTL' + '; and the half-gcd of NTL takes less than the square of the terms',
     ('free 2', 'PARI'): WORDS % 'PARI',
     ('free 2', 'tuned'): SUMS, ('free', 'tuned'): SUMS,
     ('set', 'tuned'): PRODUCT,
-    ('irreducible', 'tuned'): BEN_OR, ('portion', 'tuned'): BEN_OR,
+    ('irreducible 2', 'tuned'): SQUARES, ('irreducible', 'tuned'): ROWS,
+    ('portion large', 'tuned'): PARTLY, ('set large', 'tuned'): PARTLY,
 }
 
 
 def group_of(j):
-    return 'free 2' if j.way == 'free' and j.p == 2 else j.way
+    if j.way in ('free', 'irreducible') and j.p == 2:
+        return j.way + ' 2'
+    return j.way + ' large' if 'large factor' in j.family else j.way
 
 
 GROUPS = {'free 2': 'free way over GF(2)', 'free': 'free way over GF(3) and GF(251)', 'period': 'period way',
-          'portion': 'portion way', 'set': 'set way', 'irreducible': 'irreducible or not', 'route': 'whole route files'}
+          'portion': 'portion way', 'portion large': 'portion way, with a factor of a large degree', 'set': 'set way',
+          'set large': 'set way, with factors of a large degree', 'irreducible 2': 'irreducible or not, over GF(2)',
+          'irreducible': 'irreducible or not, over other fields', 'route': 'whole route files'}
 
 
 def slower(jobs, routes):
@@ -292,9 +305,9 @@ def slower(jobs, routes):
         parts = []
         for who, ratios in whos.items():
             low, high = significant(min(ratios)), significant(max(ratios))
-            count = 'all %d' % total if len(ratios) == total else '%d of %d' % (len(ratios), total)
-            parts.append('%s times as long as %s in %s jobs' %
-                         (low if low == high else low + ' to ' + high, TITLES.get(who, who), count))
+            count = 'all %d jobs' % total if len(ratios) == total else '%d of %d jobs' % (len(ratios), total)
+            parts.append('%s times as long as %s in %s' % (low if low == high else low + ' to ' + high, TITLES.get(who, who),
+                                                           'its one job' if total == 1 else count))
         reason = 'The reason: %s.' % why if why else 'The reason is not known.'
         text = '%s: the rater takes %s. %s' % (GROUPS[group], ', '.join(parts), reason)
         lines.append(textwrap.fill(text[0].upper() + text[1:], 124, initial_indent='- ', subsequent_indent='  '))
