@@ -518,6 +518,8 @@ with other work on the machine.'''
 
 def main():
     jobs, stacks = read_passes()
+    if not jobs:
+        sys.exit('bench: nothing is measured yet; bench/run measures')
     routes = read_processes()
     first = next(iter(jobs[0].rounds['rater']))[0]
     passes = len({k[0] for k in jobs[0].rounds['rater']})
@@ -550,4 +552,9 @@ def main():
             out.write(picture(jobs))
 
 
-main()
+try:
+    main()
+except OSError as what:
+    sys.exit('bench: %s: %s' % (what.filename or 'standard output', what.strerror))
+except KeyboardInterrupt:
+    sys.exit('bench: interrupted')

@@ -16,6 +16,7 @@ use std::os::unix::fs::FileExt;
 use std::process::{Child, Command, Stdio};
 
 const PROGRAM: &str = "target/bin/rate";
+const READ_FAILED: &str = "rate: standard input cannot be read, the lines are of what was read\n";
 const RANDOM_FILES: u64 = 1500;
 const LONG_FILES: u64 = 60;
 const CHANGED_FILES: u64 = 1500;
@@ -31,10 +32,10 @@ fn started(input: Stdio) -> Result<Child, String> {
         .map_err(|e| format!("{PROGRAM}: {e}"))
 }
 
-// What the program prints; it has to end as usual, and to write nothing else.
-fn ended(child: Child) -> Result<String, String> {
+// What the program prints; it has to end as usual, and to write this beside its lines and nothing else.
+fn ended_saying(child: Child, said: &str) -> Result<String, String> {
     let output = child.wait_with_output().map_err(|e| e.to_string())?;
-    if !output.status.success() || !output.stderr.is_empty() {
+    if !output.status.success() || output.stderr != said.as_bytes() {
         return Err(format!(
             "the program ended with {} and wrote {:?} beside its lines",
             output.status,
@@ -42,6 +43,10 @@ fn ended(child: Child) -> Result<String, String> {
         ));
     }
     String::from_utf8(output.stdout).map_err(|e| e.to_string())
+}
+
+fn ended(child: Child) -> Result<String, String> {
+    ended_saying(child, "")
 }
 
 // What it prints for a file that comes in these pieces, some time apart.
@@ -505,10 +510,10 @@ fn pieces() -> Outcome {
     Ok(file.len() as u64 + 3)
 }
 
-// Input that cannot be read is a file without bytes: a folder, and a closed input.
+// Input that cannot be read is a file without bytes, and is said: a folder, and a closed input. One that is empty is not.
 fn unreadable_input() -> Outcome {
     let folder = std::fs::File::open(".").map_err(|e| e.to_string())?;
-    compare(&[], &ended(started(folder.into())?)?)?;
+    compare(&[], &ended_saying(started(folder.into())?, READ_FAILED)?)?;
     compare(&[], &ended(started(Stdio::null())?)?)?;
     let closed = Command::new("sh")
         .args(["-c", &format!("exec {PROGRAM} <&-")])
@@ -516,7 +521,7 @@ fn unreadable_input() -> Outcome {
         .stderr(Stdio::piped())
         .spawn()
         .map_err(|e| e.to_string())?;
-    compare(&[], &ended(closed)?)?;
+    compare(&[], &ended_saying(closed, READ_FAILED)?)?;
     Ok(3)
 }
 
@@ -545,7 +550,7 @@ fn failing_input() -> Outcome {
         memory
             .seek(SeekFrom::Start(end - n as u64))
             .map_err(|e| e.to_string())?;
-        compare(&bytes, &ended(started(memory.into())?)?)?;
+        compare(&bytes, &ended_saying(started(memory.into())?, READ_FAILED)?)?;
     }
     Ok(2)
 }
