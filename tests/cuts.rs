@@ -59,13 +59,15 @@ impl Sequence {
         let uppers = self.uppers(random);
         let terms = self.cut(random, total_degree(&self.factors, &uppers));
         let rating = set_rating(self.p, &self.factors, &self.powers);
-        let input = inputs::set(self.p, &self.factors, &uppers, terms);
+        let given = inputs::multiples(random, self.p, &self.factors);
+        let input = inputs::set(self.p, &given, &uppers, terms);
         answers(&input, &Ok(rating))?;
         let [f] = &self.factors[..] else {
             return Ok(1);
         };
         let rating = power_rating(self.p, f, self.powers[0]);
-        answers(&inputs::portion(self.p, f, uppers[0], terms), &Ok(rating))?;
+        let input = inputs::portion(self.p, &given[0], uppers[0], terms);
+        answers(&input, &Ok(rating))?;
         Ok(2)
     }
 

@@ -2,7 +2,7 @@
 // condition. A buffer that is lent stands between marks, and all of it is compared.
 mod common;
 
-use common::poly::{divided, monics, of_bytes, product, to_bytes};
+use common::poly::{divided, monics, multiple, of_bytes, product, to_bytes};
 use common::random::Random;
 use common::{expect, list, primes, run, Outcome, NO_PRIMES};
 
@@ -187,8 +187,11 @@ fn all_small() -> Outcome {
             for f in monics(p, n) {
                 for e in 0..=last {
                     for g in monics(p, e) {
-                        remainder_agrees(p, &to_bytes(&f[..n]), &to_bytes(&g))?;
-                        cases += 1;
+                        for c in 1..p {
+                            let g = multiple(p, c, &g);
+                            remainder_agrees(p, &to_bytes(&f[..n]), &to_bytes(&g))?;
+                            cases += 1;
+                        }
                     }
                 }
             }
@@ -202,7 +205,8 @@ fn remainders() -> Outcome {
     let mut cases = 0;
     for p in primes() {
         for degree in 0..=48 {
-            let g = random.monic(p, degree);
+            let mut g = random.monic(p, degree);
+            g[degree] = random.between(1, p - 1) as u8;
             for n in [0, 1, degree, degree + 1, degree + 2, 2 * degree + 1, 100] {
                 remainder_agrees(p, &random.elements(p, n), &g)?;
                 remainder_agrees(p, &vec![p as u8 - 1; n], &g)?;
@@ -220,7 +224,8 @@ fn made() -> Outcome {
     for p in primes() {
         for degree in 0..=40 {
             for count in [1, 2, 17, 60] {
-                let (g, q) = (random.monic(p, degree), random.elements(p, count));
+                let (mut g, q) = (random.monic(p, degree), random.elements(p, count));
+                g[degree] = random.between(1, p - 1) as u8;
                 let r = random.elements(p, degree);
                 let whole = padded(
                     to_bytes(&product(p, &of_bytes(&q), &of_bytes(&g))),
@@ -261,7 +266,7 @@ fn no_remainders() -> Outcome {
                 let mut g = g.clone();
                 for c in [0, p as u8 - 1, p as u8, 255] {
                     g[place] = c;
-                    if (c as u64) < p && (place < degree || c == 1) {
+                    if (c as u64) < p && (place < degree || c != 0) {
                         remainder_agrees(p, &f, &g)?;
                     } else {
                         kept(p, &f, &g)?;

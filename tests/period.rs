@@ -254,6 +254,7 @@ fn main() {
             ("no power of x", no_power_of_x),
             ("two factors", two_factors),
             ("one term changed", one_term_changed),
+            ("every leading coefficient", || faults::multiples(Way::Period)),
             ("refused by 6", || faults::not_prime(Way::Period)),
             ("refused by 7", || faults::counts(Way::Period)),
             ("refused by 8", || faults::terms(Way::Period)),

@@ -32,6 +32,7 @@ fn main() {
             ("the largest numbers", || {
                 named::largest_numbers(Way::Portion)
             }),
+            ("every leading coefficient", || faults::multiples(Way::Portion)),
             ("refused by 6", || faults::not_prime(Way::Portion)),
             ("refused by 7", || faults::counts(Way::Portion)),
             ("refused by 8", || faults::terms(Way::Portion)),

@@ -201,7 +201,7 @@ fn factor_counts() -> Outcome {
     Ok(cases)
 }
 
-// 13, at each pair of places, with equal and with other upper powers
+// 13, at each pair of places, with equal and with other upper powers, and of multiples of one polynomial
 fn equal_factors() -> Outcome {
     let mut random = Random::of_seed(51);
     let mut cases = 0;
@@ -214,7 +214,9 @@ fn equal_factors() -> Outcome {
                 let mut equal = all.clone();
                 equal[i] = all[j].clone();
                 refuses(&inputs::set(p, &equal, &uppers, &[0; 600]), 13)?;
-                cases += 1;
+                let given = inputs::multiples(&mut random, p, &equal);
+                refuses(&inputs::set(p, &given, &uppers, &[0; 600]), 13)?;
+                cases += 2;
             }
         }
         faults::rates(&inputs::set(p, &all, &uppers, &[0; 600]))?;
@@ -262,6 +264,7 @@ fn main() {
             ("the factor x", || named::factor_x(Way::Set)),
             ("the largest total degree", || named::largest(Way::Set)),
             ("the largest numbers", || named::largest_numbers(Way::Set)),
+            ("every leading coefficient", || faults::multiples(Way::Set)),
             ("refused by 6", || faults::not_prime(Way::Set)),
             ("refused by 7", || faults::counts(Way::Set)),
             ("refused by 8", || faults::terms(Way::Set)),

@@ -144,7 +144,7 @@ pub fn coefficients(way: Way) -> Outcome {
             refuses(&with_factor(&input, i, vec![]), 11)?;
             for d in 1..=largest_degree(p) {
                 let f = random.monic(p, d);
-                let leading = [0, 2, p as u8, 255].map(|c| (d, c));
+                let leading = [0, p as u8, 255].map(|c| (d, c));
                 let others = (0..d).flat_map(|k| [(k, p as u8), (k, 255)]);
                 for (k, c) in others.chain(leading) {
                     let mut f = f.clone();
@@ -153,6 +153,34 @@ pub fn coefficients(way: Way) -> Outcome {
                     cases += 1;
                 }
             }
+        }
+    }
+    Ok(cases)
+}
+
+// Every leading coefficient of every prime: a multiple of the factor is rated as the factor is, and in the set way
+// the multiples of several factors by different numbers; a reducible factor is refused whatever its multiple is.
+pub fn multiples(way: Way) -> Outcome {
+    let mut random = Random::of_seed(107);
+    let mut cases = 0;
+    for p in primes() {
+        let input = accepted(&mut random, way, p);
+        let rating = rate(&input);
+        let (f, g) = (irreducible(&mut random, p, 1), irreducible(&mut random, p, 1));
+        for c in 1..p {
+            let mut given = input.clone();
+            for (i, factor) in given.factors.iter_mut().enumerate() {
+                let by = (c + i as u64 * random.below(p) - 1) % (p - 1) + 1;
+                *factor = list(&poly::multiple(p, by, &factor.polynomial(p)));
+            }
+            answers(&given, &rating)?;
+            agrees(&given)?;
+            let product = poly::multiple(p, c, &poly::product(p, &f, &g));
+            let place = random.below(input.factors.len() as u64) as usize;
+            refuses(&with_factor(&given, place, poly::to_bytes(&product)), 12)?;
+            let x = with_factor(&given, place, vec![0, c as u8]);
+            agrees(&x)?;
+            cases += 4;
         }
     }
     Ok(cases)
@@ -241,7 +269,7 @@ fn break_by(random: &mut Random, number: u64, input: &mut Input) {
         10 => *coefficients_of(input, place) = random_list(random, &[1, 7, 34, 300]),
         11 => {
             let f = coefficients_of(input, place);
-            let wrong = [(0, 251), (0, 255), (f.len() - 1, 0), (f.len() - 1, 2)];
+            let wrong = [(0, 251), (0, 255), (f.len() - 1, 0), (f.len() - 1, 251)];
             let (k, c) = random.one_of(&wrong);
             f[k] = c;
         }

@@ -53,6 +53,12 @@ fn more_factors(
     factors
 }
 
+// Multiples of the polynomials by elements other than 0, which stand for them.
+pub fn multiples(random: &mut Random, p: u64, factors: &[Poly]) -> Vec<Poly> {
+    let given = |f: &Poly| poly::multiple(p, random.between(1, p - 1), f);
+    factors.iter().map(given).collect()
+}
+
 // D, the sum of upper power × degree.
 pub fn total_degree(factors: &[Poly], uppers: &[u64]) -> usize {
     let named = factors.iter().zip(uppers);

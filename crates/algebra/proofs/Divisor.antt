@@ -7,8 +7,6 @@
 --   gcd               == polynomials over a field have a greatest common divisor
 --   monic-gcd         == a monic one, where not both are 0
 --   gcd-unique        == there is at most one monic greatest common divisor
---   gcd-associate     == a greatest common divisor may be taken with a multiple of b that divides b, as the
---                        monic one does
 --   coprime-gcd       == over a field, coprime exactly where a greatest common divisor has degree 0
 --   coprime-or-common == polynomials over a field, not both 0, are coprime or have a common factor
 --   coprime-common    == a monic one and any other are coprime exactly where they have no common factor
@@ -143,16 +141,6 @@ module _ {K : Type 0} (R : Ring K) where
             ∙ ap (_⊗_ c) (p .bezout);
         divides-left = divides-trans R d (p .divides-left);
         divides-right = divides-trans R d (p .divides-right);
-      }
-
-  pub gcd-associate : {a b g : K} (c : K) → Divides R (c ⊗ b) b → Gcd a (c ⊗ b) g → Gcd a b g
-  gcd-associate {a} {b} c d p =
-      record {
-        left = p .left;
-        right = p .right ⊗ c;
-        bezout = ap (λ u. p .left ⊗ a ⊕ u) (mul-assoc (p .right) c b) ∙ p .bezout;
-        divides-left = p .divides-left;
-        divides-right = divides-trans R (p .divides-right) d;
       }
 
   pub gcd-coprime : {a b : K} → Gcd a b 1# → Coprime R a b

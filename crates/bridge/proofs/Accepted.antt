@@ -11,29 +11,33 @@ use Prim.Native.Nat.{ℕ, _≤_, _<_}
 use native.Mathlib.Omega.{arith}
 use mathlib.Core.Path.{_≡_, refl, sym, ap, subst, _∙_}
 use mathlib.Core.Bool.{Bool, true, false, not, _||_}
-use mathlib.Core.List.{List, [], _∷_}
+use mathlib.Core.List.{List, [], _∷_, map}
 use mathlib.Core.Option.{Option, some}
-use lib.ListN.{length}
+use lib.ListN.{length, length-map}
 use lib.Dec.{T, T-not, eqb, ltb, ltb→lt, lt→ltb, eqb→eq}
 use Rattle.meaning.specs.Search.{bind, isNone, holdsForSome}
 use Rattle.meaning.specs.Field.{prime, primeInRange, areElements}
-use Rattle.meaning.specs.Polynomial.{Polynomial, degree, power, product}
+use Rattle.meaning.specs.Polynomial.{Polynomial, degree, power, product, monicMultiple}
 use Rattle.meaning.specs.Sequence.{annihilatesKnown}
 use Rattle.meaning.specs.Result.{answered, Rated}
 use Rattle.meaning.specs.Conditions.{named, totalDegree, notPrime, countOutOfRange, termOutOfField}
 use Rattle.meaning.specs.Conditions.{isReducible}
-use Rattle.meaning.specs.Conditions.{factorCountOutOfRange, factorDegreeOutOfRange, notMonic, twoEqual}
+use Rattle.meaning.specs.Conditions.{factorCountOutOfRange, factorDegreeOutOfRange, twoEqual}
+use Rattle.meaning.specs.Conditions.{coefficientOutOfRange}
 use Rattle.meaning.specs.Conditions.{upperPowersOutOfRange, fewerTermsThan, lentTooShort, acceptedLent}
 use Rattle.meaning.specs.Power.{PowerFigures, powerRating, repeatBound}
 use Rattle.meaning.specs.Period.{periodPower, periodTable, periodAnswer, ratePeriod}
 use Rattle.meaning.specs.Portion.{setPowers, setRating, setTable, setAnswer, rateSet}
 use Rattle.meaning.specs.Portion.{factorTable, acceptedFactors, leastAt, portionTable, ratePortion}
+use Rattle.meaning.specs.Portion.{portionAnswer}
 use Rattle.meaning.specs.Free.{freeTable}
 use Rattle.meaning.proofs.Tables.{of-one}
 use Rattle.meaning.proofs.Passes.{Passes, _&_, nothing, accepted-passes}
 use Rattle.bridge.proofs.Searches.{T-false, T-not-false, answered-settle, bind-some, mapOption-some}
 use Rattle.bridge.proofs.Searches.{false-T, not-false, or-false, some-bind, some-mapOption}
+use Rattle.bridge.proofs.Interpretation.{inRange-isField}
 use Rattle.bridge.proofs.Products.{factorsOf-named, length-named}
+use Rattle.bridge.proofs.Multiples.{multiples-uppers}
 
 -- terms that 7 and 8 do not turn down
 pub record AcceptedTerms (p : ℕ) (ts : List ℕ) : Type 0 where
@@ -127,20 +131,27 @@ accepts-free p ts answer work h t lent =
     & lent-pass answer work lent
     & nothing
 
+-- the monic multiples of the factors, with their upper powers
+abbrev pub multiplesNamed : ℕ → List Polynomial → List ℕ → List (Polynomial × ℕ)
+multiplesNamed p fs vs = named (map (monicMultiple (prime p)) fs) vs
+
 -- THE SET WAY
 module _
     (p : ℕ) (fs : List Polynomial) (vs ts : List ℕ) (answer work : ℕ)
     (factors : T (acceptedFactors p fs vs)) (t : AcceptedTerms p ts)
     (lent : T (acceptedLent answer work))
-    (enough : totalDegree (named fs vs) ≤ length ts)
-    (annihilated : T (annihilatesKnown (prime p) (product (prime p) (named fs vs)) ts))
+    (enough : totalDegree (multiplesNamed p fs vs) ≤ length ts)
+    (annihilated : T (annihilatesKnown (prime p) (product (prime p) (multiplesNamed p fs vs)) ts))
   where
+    abbrev gs : List Polynomial
+    gs = map (monicMultiple (prime p)) fs
+
     set-passes :
         Passes
         (setTable p
         (holdsForSome (factorDegreeOutOfRange (prime p)) fs)
-        (holdsForSome (notMonic (prime p)) fs)
-        (named fs vs)
+        (holdsForSome (coefficientOutOfRange (prime p)) fs)
+        (named gs vs)
         ts
         answer
         work)
@@ -150,23 +161,26 @@ module _
         x .fieldExists
         & count-passes p ts t
         & terms-pass p ts t
-        & ap factorCountOutOfRange (length-named fs vs) ∙ x .factorCount
+        & ap factorCountOutOfRange (length-named gs vs ∙ length-map fs (monicMultiple (prime p)))
+        ∙ x .factorCount
         & x .degreesInRange
-        & x .monic
-        & ap (holdsForSome (isReducible p)) (factorsOf-named fs vs) ∙ x .irreducible
-        & ap twoEqual (factorsOf-named fs vs) ∙ x .different
-        & x .uppersInRange
-        & enough-pass (totalDegree (named fs vs)) ts enough
+        & x .coefficientsInRange
+        & ap (holdsForSome (isReducible p)) (factorsOf-named gs vs) ∙ x .irreducible
+        & ap twoEqual (factorsOf-named gs vs) ∙ x .different
+        & multiples-uppers (inRange-isField p (prime-accepted p (x .fieldExists))) fs vs
+        (x .coefficientsInRange)
+        ∙ x .uppersInRange
+        & enough-pass (totalDegree (named gs vs)) ts enough
         & lent-pass answer work lent
-        & annihilated-pass p (product (prime p) (named fs vs)) ts annihilated
+        & annihilated-pass p (product (prime p) (named gs vs)) ts annihilated
         & nothing
 
     pub set-answer :
         (rs : List ℕ)
-        → setPowers (prime p) (named fs vs) ts ≡ some rs
-        → rateSet p fs vs ts answer work ≡ answered (setRating (prime p) (named fs vs) rs)
+        → setPowers (prime p) (named gs vs) ts ≡ some rs
+        → rateSet p fs vs ts answer work ≡ answered (setRating (prime p) (named gs vs) rs)
     unfolding rateSet setAnswer
-    set-answer rs e = answered-settle _ _ set-passes (mapOption-some (setRating (prime p) (named fs vs)) e)
+    set-answer rs e = answered-settle _ _ set-passes (mapOption-some (setRating (prime p) (named gs vs)) e)
 
 -- ONE FACTOR
 -- the answer with a power, where the repeat bound is known
@@ -211,27 +225,31 @@ pub portion-answer :
     → T (acceptedFactors p (f ∷ []) (v ∷ []))
     → AcceptedTerms p ts
     → T (acceptedLent answer work)
-    → totalDegree ((f, v) ∷ []) ≤ length ts
-    → T (annihilatesKnown (prime p) (product (prime p) ((f, v) ∷ [])) ts)
-    → leastAt (prime p) ((f, v) ∷ []) ts 0 ≡ some r
-    → repeatBound (prime p) f r ≡ some b
-    → ratePortion p f v ts answer work ≡ answered (rating-of p f r b)
-unfolding ratePortion portionTable factorTable named
+    → let g = monicMultiple (prime p) f in
+    totalDegree ((g, v) ∷ []) ≤ length ts
+    → T (annihilatesKnown (prime p) (product (prime p) ((g, v) ∷ [])) ts)
+    → leastAt (prime p) ((g, v) ∷ []) ts 0 ≡ some r
+    → repeatBound (prime p) g r ≡ some b
+    → ratePortion p f v ts answer work ≡ answered (rating-of p g r b)
+unfolding ratePortion portionAnswer portionTable factorTable named
 portion-answer p f v ts answer work r b h t lent enough annihilated found bound =
     let x = accepted-passes p (f ∷ []) (v ∷ []) h in
+    let g = monicMultiple (prime p) f in
     answered-settle _ _
     (x .fieldExists
     & count-passes p ts t
     & terms-pass p ts t
     & of-one _ f (x .degreesInRange)
-    & of-one _ f (x .monic)
-    & of-one _ f (x .irreducible)
-    & x .uppersInRange
-    & enough-pass (totalDegree ((f, v) ∷ [])) ts enough
+    & of-one _ f (x .coefficientsInRange)
+    & of-one _ g (x .irreducible)
+    & multiples-uppers (inRange-isField p (prime-accepted p (x .fieldExists))) (f ∷ []) (v ∷ [])
+    (x .coefficientsInRange)
+    ∙ x .uppersInRange
+    & enough-pass (totalDegree ((g, v) ∷ [])) ts enough
     & lent-pass answer work lent
-    & annihilated-pass p (product (prime p) ((f, v) ∷ [])) ts annihilated
+    & annihilated-pass p (product (prime p) ((g, v) ∷ [])) ts annihilated
     & nothing)
-    (bind-some (powerRating (prime p) f) found ∙ power-rated p f r b bound)
+    (bind-some (powerRating (prime p) g) found ∙ power-rated p g r b bound)
 
 -- THE PERIOD WAY
 pub period-answer :
@@ -239,20 +257,22 @@ pub period-answer :
     → T (acceptedFactors p (f ∷ []) vs)
     → AcceptedTerms p ts
     → T (acceptedLent answer work)
-    → periodPower (prime p) f ts ≡ some r
-    → repeatBound (prime p) f r ≡ some b
-    → ratePeriod p f ts answer work ≡ answered (rating-of p f r b)
+    → let g = monicMultiple (prime p) f in
+    periodPower (prime p) g ts ≡ some r
+    → repeatBound (prime p) g r ≡ some b
+    → ratePeriod p f ts answer work ≡ answered (rating-of p g r b)
 unfolding ratePeriod periodAnswer periodTable factorTable isNone
 period-answer p f ts answer work r b vs h t lent found bound =
     let x = accepted-passes p (f ∷ []) vs h in
+    let g = monicMultiple (prime p) f in
     answered-settle _ _
     (x .fieldExists
     & count-passes p ts t
     & terms-pass p ts t
     & of-one _ f (x .degreesInRange)
-    & of-one _ f (x .monic)
-    & of-one _ f (x .irreducible)
+    & of-one _ f (x .coefficientsInRange)
+    & of-one _ g (x .irreducible)
     & lent-pass answer work lent
     & ap isNone found
     & nothing)
-    (bind-some (powerRating (prime p) f) found ∙ power-rated p f r b bound)
+    (bind-some (powerRating (prime p) g) found ∙ power-rated p g r b bound)

@@ -15,8 +15,8 @@
 --   Factors F fs      == monic irreducible lists of positive degree, no two of them equal
 --   reducible-asked   == 12 of a factor that 6, 10 and 11 let pass; unasked-by-six, … == of one that they do
 --                        not
---   accepted-factors  == factors that 6 and 10 to 13 let pass are so; `accepted-different` says it of the
---                        factors that `acceptedFactors` accepts
+--   accepted-factors  == monic factors that 6 and 10 to 13 let pass are so; `multiples-factors` says it of
+--                        the multiples of factors, `accepted-different` where `acceptedFactors` accepts these
 --   factors-atoms     == and their polynomials are coprime atoms
 --
 -- f is monic over F and its degree is at least 1 wherever it is asked.
@@ -34,9 +34,10 @@ use lib.Dec.{T, eqb, T-not, eqb-refl, eqb→eq}
 use Rattle.meaning.specs.Search.{range, holdsForSome}
 use Rattle.meaning.specs.Field.{Field, areElements, prime, primeInRange}
 use Rattle.meaning.specs.Polynomial.{Polynomial, degree, isMonicOver, plus, scale, times, monics, same}
-use Rattle.meaning.specs.Polynomial.{hasFactorOf, leading, irreducible, NotAProduct}
+use Rattle.meaning.specs.Polynomial.{hasFactorOf, leading, irreducible, NotAProduct, monicMultiple}
 use Rattle.meaning.specs.Power.{isX}
 use Rattle.meaning.specs.Conditions.{factorDegreeOutOfRange, degreeOutOfRange, notPrime, notMonic}
+use Rattle.meaning.specs.Conditions.{coefficientOutOfRange}
 use Rattle.meaning.specs.Conditions.{isAsked, isReducible, twoEqual}
 use Rattle.meaning.specs.Portion.{factorsOf, factorTable, acceptedFactors}
 use Rattle.meaning.proofs.Passes.{accepted-passes}
@@ -48,7 +49,8 @@ use Rattle.algebra.proofs.PowerProduct.{CoprimeAtoms}
 use Rattle.bridge.proofs.Searches.{T-same, T-decided, false-T, not-false, some-range}
 use Rattle.bridge.proofs.Searches.{range-some, none-member, none-at, getD-member}
 use Rattle.bridge.proofs.Interpretation.{IsField, size-positive, mul-below, number-add-zero}
-use Rattle.bridge.proofs.Interpretation.{number-zero-mul}
+use Rattle.bridge.proofs.Interpretation.{number-zero-mul, inRange-isField}
+use Rattle.bridge.proofs.Multiples.{multiples-ten, multiples-eleven}
 use Rattle.bridge.proofs.Polynomials.{polyRing, poly, poly-times, monic-poly, monic-list, monic-equal}
 use Rattle.bridge.proofs.Polynomials.{times-monic, degree-times, monic-nonempty, same-equal}
 use Rattle.bridge.proofs.Polynomials.{equal-same, degree-poly, monic-elements, monic-leading}
@@ -555,6 +557,20 @@ accepted-factors p fs six ten eleven twelve thirteen =
     monic-at : (i : ℕ) → i < length fs → T (isMonicOver (prime p) (getD fs i []))
     monic-at i l = accepted-monic (prime p) (getD fs i []) (passed (notMonic (prime p)) eleven i l)
 
+-- factors whose multiples 12 and 13 let pass, where 6, 10 and 11 let the factors pass
+pub multiples-factors :
+    (p : ℕ) (fs : List Polynomial)
+    → notPrime p ≡ false
+    → holdsForSome (factorDegreeOutOfRange (prime p)) fs ≡ false
+    → holdsForSome (coefficientOutOfRange (prime p)) fs ≡ false
+    → holdsForSome (isReducible p) (map (monicMultiple (prime p)) fs) ≡ false
+    → twoEqual (map (monicMultiple (prime p)) fs) ≡ false
+    → Factors (prime p) (map (monicMultiple (prime p)) fs)
+multiples-factors p fs six ten eleven twelve thirteen =
+    let I = inRange-isField p (prime-accepted p six) in
+    accepted-factors p (map (monicMultiple (prime p)) fs) six (multiples-ten I fs eleven ten)
+    (multiples-eleven I fs eleven) twelve thirteen
+
 pub single-factor :
     (F : Field) (f : Polynomial)
     → T (isMonicOver F f)
@@ -579,11 +595,12 @@ module _ (p : ℕ) (fs : List Polynomial) (us : List ℕ) (accepted : T (accepte
   unfolding factorTable
   accepted-prime = prime-accepted p (accepted-passes p fs us accepted .fieldExists)
 
-  pub accepted-different : Factors (prime p) fs
+  pub accepted-different : Factors (prime p) (map (monicMultiple (prime p)) fs)
   unfolding factorTable
   accepted-different =
       let x = accepted-passes p fs us accepted in
-      accepted-factors p fs (x .fieldExists) (x .degreesInRange) (x .monic) (x .irreducible) (x .different)
+      multiples-factors p fs (x .fieldExists) (x .degreesInRange) (x .coefficientsInRange) (x .irreducible)
+      (x .different)
 
 module _ {F : Field} (I : IsField F) where
   pub factors-atoms :

@@ -4,6 +4,7 @@ pub mod Polynomials
 pub mod Products
 pub mod Spread
 pub mod Actions
+pub mod Multiples
 pub mod Monics
 pub mod Irreducibles
 pub mod Remainders

@@ -322,21 +322,6 @@ prime-repeatBound-bits p f r b l c k =
     (subst (λ n. 0 < n) (sym (prime-size p)) c)
     (subst (λ n. n ≤ 251) (sym (prime-size p)) k)
 
--- for a factor that is accepted
-pub accepted-repeatBound-bits :
-    (p : ℕ) (f : Polynomial) (u r b : ℕ)
-    → T (acceptedFactors p (f ∷ []) (u ∷ []))
-    → r * degree f ≤ 4096
-    → repeatBound (prime p) f r ≡ some b
-    → b < 2 ^ 64
-unfolding factorTable
-accepted-repeatBound-bits p f u r b h =
-    let (k, P) = inRange-prime p (accepted-prime p (f ∷ []) (u ∷ []) h) in
-    prime-repeatBound-bits p f r b
-    (monic-nonempty (prime p) f (accepted-different p (f ∷ []) (u ∷ []) h .monic 0 (omega arith)))
-    (prime-pos P) k
-    (of-one (factorDegreeOutOfRange (prime p)) f (accepted-passes p (f ∷ []) (u ∷ []) h .degreesInRange))
-
 pub prime-repeatBound-value :
     (p : ℕ) (f : Polynomial) {r t : ℕ}
     → 1 < p

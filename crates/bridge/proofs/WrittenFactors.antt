@@ -18,16 +18,20 @@ use lib.Seq.{length-take-le}
 use borrow.Author.Tests.{ltb-false, eqb-true}
 use Rattle.meaning.specs.Search.{holdsForSome}
 use Rattle.meaning.specs.Field.{Field, prime, areElements}
-use Rattle.meaning.specs.Polynomial.{Polynomial, isMonic, isMonicOver}
+use Rattle.meaning.specs.Polynomial.{Polynomial, isMonic, isMonicOver, monicMultiple}
 use Rattle.meaning.specs.Conditions.{named, degreeOutOfRange, factorDegreeOutOfRange, notMonic}
 use Rattle.meaning.specs.Period.{periodAnswer, ratePeriod}
 use Rattle.meaning.specs.Portion.{setAnswer, rateSet}
 use Rattle.meaning.specs.Route.{RouteRecord, lookUp, bodyLengths, bodies}
-use Rattle.meaning.specs.File.{WrittenFactor, fileFactor, polynomialOf, fileDegreeOutOfRange, fileNotMonic}
+use Rattle.meaning.specs.File.{WrittenFactor, fileFactor, polynomialOf, fileDegreeOutOfRange}
+use Rattle.meaning.specs.File.{fileCoefficientOutOfRange}
 use Rattle.bridge.proofs.Searches.{or-false, T-and, T-not-false, not-false, false-T, none-at}
 use Rattle.bridge.proofs.Searches.{none-cons, none-uncons}
 use Rattle.bridge.proofs.Interpretation.{IsField}
 use Rattle.bridge.proofs.Polynomials.{leading-length, leading-monic}
+use Rattle.bridge.proofs.Products.{accepted-monic}
+use Rattle.bridge.proofs.Multiples.{monic-coefficients, monics-coefficients, multiple-self}
+use Rattle.bridge.proofs.Multiples.{multiples-self}
 use Rattle.bridge.proofs.Irreducibles.{list-degree}
 use Rattle.bridge.proofs.Records.{Whole}
 
@@ -92,9 +96,9 @@ module _ (F : Field) (f : WrittenFactor) (full : length (f .coefficients) ≡ 32
       let d : length (polynomialOf f) - 1 ≡ f .degree = omega arith in
       sym (list-degree F (polynomialOf f) (λ e. omega arith)) ∙ ap (degreeOutOfRange F) d ∙ ten
 
-pub polynomial-eleven : {F : Field} → IsField F → (f : WrittenFactor) → fileNotMonic F f ≡ false
+pub polynomial-eleven : {F : Field} → IsField F → (f : WrittenFactor) → fileCoefficientOutOfRange F f ≡ false
     → notMonic F (polynomialOf f) ≡ false
-unfolding fileNotMonic notMonic polynomialOf isMonicOver
+unfolding fileCoefficientOutOfRange notMonic polynomialOf isMonicOver
 polynomial-eleven {F} I f eleven =
     let l = take (f .degree) (f .coefficients) in
     let e = not-false (areElements F l) (or-false (not (areElements F l)) _ eleven .0) in
@@ -118,12 +122,12 @@ module _ (F : Field) where
       (polynomials-ten fs (w .1) k)
 
   pub polynomials-eleven : IsField F → (fs : List WrittenFactor)
-      → holdsForSome (fileNotMonic F) fs ≡ false
+      → holdsForSome (fileCoefficientOutOfRange F) fs ≡ false
       → holdsForSome (notMonic F) (map polynomialOf fs) ≡ false
   unfolding holdsForSome
   polynomials-eleven I [] i = refl
   polynomials-eleven I (f ∷ fs) i =
-      let (g, m) = none-uncons (fileNotMonic F) f fs i in
+      let (g, m) = none-uncons (fileCoefficientOutOfRange F) f fs i in
       none-cons (notMonic F) (polynomialOf f) (map polynomialOf fs)
       (polynomial-eleven I f g)
       (polynomials-eleven I fs m)
@@ -131,31 +135,57 @@ module _ (F : Field) where
 -- A FILE IS RATED AS ITS LISTS ARE
 module _ (p : ℕ) (fs : List WrittenFactor) (full : AllFull fs) (I : IsField (prime p))
     (ten : holdsForSome (fileDegreeOutOfRange (prime p)) fs ≡ false)
-    (eleven : holdsForSome (fileNotMonic (prime p)) fs ≡ false) (ts : List ℕ) (answer work : ℕ) where
+    (eleven : holdsForSome (fileCoefficientOutOfRange (prime p)) fs ≡ false)
+    (ts : List ℕ) (answer work : ℕ) where
   list-ten : holdsForSome (factorDegreeOutOfRange (prime p)) (map polynomialOf fs) ≡ false
   list-ten = polynomials-ten (prime p) fs full ten
 
   list-eleven : holdsForSome (notMonic (prime p)) (map polynomialOf fs) ≡ false
   list-eleven = polynomials-eleven (prime p) I fs eleven
 
+  -- they are monic, and so their own multiples
+  pub lists-themselves : map (monicMultiple (prime p)) (map polynomialOf fs) ≡ map polynomialOf fs
+  lists-themselves = multiples-self I (map polynomialOf fs) list-eleven
+
+  pub first-itself :
+      1 ≤ length fs
+      → monicMultiple (prime p) (getD (map polynomialOf fs) 0 []) ≡ getD (map polynomialOf fs) 0 []
+  first-itself low =
+      let n : 0 < length (map polynomialOf fs) = rw length-map low in
+      let g = getD (map polynomialOf fs) 0 [] in
+      multiple-self I g
+      (accepted-monic (prime p) g (none-at (notMonic (prime p)) [] (map polynomialOf fs) 0 list-eleven n))
+
   pub period-lists :
       1 ≤ length fs
       → periodAnswer p (holdsForSome (fileDegreeOutOfRange (prime p)) fs)
-      (holdsForSome (fileNotMonic (prime p)) fs) (getD (map polynomialOf fs) 0 []) ts answer work
+      (holdsForSome (fileCoefficientOutOfRange (prime p)) fs) (getD (map polynomialOf fs) 0 []) ts answer work
       ≡ ratePeriod p (getD (map polynomialOf fs) 0 []) ts answer work
   unfolding ratePeriod
   period-lists low =
       let n : 0 < length (map polynomialOf fs) = rw length-map low in
+      let g = getD (map polynomialOf fs) 0 [] in
+      let monic = none-at (notMonic (prime p)) [] (map polynomialOf fs) 0 list-eleven n in
       rw (
         ten,
         eleven,
         none-at (factorDegreeOutOfRange (prime p)) [] (map polynomialOf fs) 0 list-ten n,
-        none-at (notMonic (prime p)) [] (map polynomialOf fs) 0 list-eleven n,
+        monic-coefficients (prime p) g monic,
+        first-itself low,
       )
 
   pub set-lists :
       setAnswer p (holdsForSome (fileDegreeOutOfRange (prime p)) fs)
-      (holdsForSome (fileNotMonic (prime p)) fs) (map (λ f. (polynomialOf f, f .upper)) fs) ts answer work
+      (holdsForSome (fileCoefficientOutOfRange (prime p)) fs) (map (λ f. (polynomialOf f, f .upper)) fs) ts
+      answer work
       ≡ rateSet p (map polynomialOf fs) (map (λ f. f .upper) fs) ts answer work
   unfolding rateSet
-  set-lists = rw (ten, eleven, list-ten, list-eleven, named-map)
+  set-lists =
+      rw (
+        ten,
+        eleven,
+        list-ten,
+        monics-coefficients (prime p) (map polynomialOf fs) list-eleven,
+        lists-themselves,
+        named-map,
+      )

@@ -1,10 +1,10 @@
 // The conditions over all factors of a set: those that are asked of each factor, by their names, and those on
 // all of them together with their upper powers. For any slices of any length; no lent byte is changed. A
 // factor without an upper power has 0, and further upper powers belong to no factor.
+use crate::files::file_coefficient_out_of_range;
 use crate::files::file_degree_out_of_range;
-use crate::files::file_not_monic;
+use crate::lists::coefficient_out_of_range;
 use crate::lists::factor_degree_out_of_range;
-use crate::lists::not_monic;
 use crate::lists::reducible;
 use poly::equality::same;
 use poly::factors::total_degree;
@@ -24,13 +24,13 @@ pub enum FactorCondition {
     // 10, of a list
     DegreeOutOfRange,
     // 11, of a list
-    NotMonic,
+    CoefficientOutOfRange,
     // 12, of a list
     Reducible,
     // 10, of a body
     FileDegreeOutOfRange,
     // 11, of a body
-    FileNotMonic,
+    FileCoefficientOutOfRange,
 }
 
 // The condition holds of this factor.
@@ -39,10 +39,10 @@ pub fn holds(condition: FactorCondition, p: u64, factor: &[u8]) -> bool
 {
     match condition {
         FactorCondition::DegreeOutOfRange => factor_degree_out_of_range(p, factor),
-        FactorCondition::NotMonic => not_monic(p, factor),
+        FactorCondition::CoefficientOutOfRange => coefficient_out_of_range(p, factor),
         FactorCondition::Reducible => reducible(p, factor),
         FactorCondition::FileDegreeOutOfRange => file_degree_out_of_range(p, factor),
-        FactorCondition::FileNotMonic => file_not_monic(p, factor),
+        FactorCondition::FileCoefficientOutOfRange => file_coefficient_out_of_range(p, factor),
     }
 }
 

@@ -5,7 +5,7 @@ use crate::lists::term_out_of_field;
 use crate::numbers::degree_out_of_range;
 ghost use mathlib.Core.Path.{_≡_};
 ghost use Rattle.meaning.specs.Field.{prime};
-ghost use Rattle.meaning.specs.File.{fileFactor, fileDegreeOutOfRange, fileNotMonic};
+ghost use Rattle.meaning.specs.File.{fileFactor, fileDegreeOutOfRange, fileCoefficientOutOfRange};
 
 // 10: the degree byte, which is 0 where there is none.
 pub fn file_degree_out_of_range(p: u64, body: &[u8]) -> bool
@@ -18,8 +18,8 @@ pub fn file_degree_out_of_range(p: u64, body: &[u8]) -> bool
 }
 
 // 11: a coefficient below the degree is p or more, or one from the degree on is not 0.
-pub fn file_not_monic(p: u64, body: &[u8]) -> bool
-    ensures { λ r. ⌜ r ≡ fileNotMonic (prime p) (fileFactor (now (body .entry))) ⌝ }
+pub fn file_coefficient_out_of_range(p: u64, body: &[u8]) -> bool
+    ensures { λ r. ⌜ r ≡ fileCoefficientOutOfRange (prime p) (fileFactor (now (body .entry))) ⌝ }
 {
     let n = body.len();
     if n <= 3 {

@@ -5,8 +5,8 @@ use irreducible::is_irreducible;
 ghost use mathlib.Core.Path.{_≡_};
 ghost use Rattle.meaning.specs.Field.{prime};
 ghost use Rattle.meaning.specs.Conditions.{termOutOfField, factorDegreeOutOfRange};
-ghost use Rattle.meaning.specs.Conditions.{continuationDegreeOutOfRange, notMonic, fewerTermsThan};
-ghost use Rattle.meaning.specs.Conditions.{isReducible, startUnlikeDegree};
+ghost use Rattle.meaning.specs.Conditions.{continuationDegreeOutOfRange, coefficientOutOfRange, notMonic};
+ghost use Rattle.meaning.specs.Conditions.{isReducible, fewerTermsThan, startUnlikeDegree};
 ghost use Rattle.conditions.specs.lists.Lists.{largest};
 
 // The largest of the numbers, or 0 where there are none.
@@ -52,7 +52,20 @@ pub fn continuation_degree_out_of_range(polynomial: &[u8]) -> bool
     4097 < polynomial.len()
 }
 
-// 11, of a list: a coefficient is p or more, the leading one is not 1, or the list is empty.
+// 11, of a list: a coefficient is p or more, the leading one is 0, or the list is empty.
+pub fn coefficient_out_of_range(p: u64, factor: &[u8]) -> bool
+    ensures { λ r. ⌜ r ≡ coefficientOutOfRange (prime p) (now (factor .entry)) ⌝ }
+{
+    if term_out_of_field(p, factor) {
+        return true;
+    }
+    if factor.len() == 0 {
+        return true;
+    }
+    factor[factor.len() - 1] == 0
+}
+
+// What 12 asks first: whether a coefficient is p or more, the leading one is not 1, or the list is empty.
 pub fn not_monic(p: u64, factor: &[u8]) -> bool
     ensures { λ r. ⌜ r ≡ notMonic (prime p) (now (factor .entry)) ⌝ }
 {
@@ -65,7 +78,7 @@ pub fn not_monic(p: u64, factor: &[u8]) -> bool
     factor[factor.len() - 1] != 1
 }
 
-// 12, of a list: reducible. It is asked of a factor that 6, 10 and 11 let pass, and holds of no other.
+// 12, of a list: reducible. It is asked of a monic factor that 6, 10 and 11 let pass, and holds of no other.
 pub fn reducible(p: u64, factor: &[u8]) -> bool
     ensures { λ r. ⌜ r ≡ isReducible p (now (factor .entry)) ⌝ }
 {

@@ -12,7 +12,7 @@ use borrow.Author.Tests.{ltb-false, eqb-true, not-false}
 use Rattle.meaning.specs.declared.Refusal.{Refusal}
 use Rattle.meaning.specs.declared.Filling.{Filling}
 use Rattle.meaning.specs.Field.{Field, prime, primeInRange}
-use Rattle.meaning.specs.Polynomial.{Polynomial, degree}
+use Rattle.meaning.specs.Polynomial.{Polynomial, degree, monicMultiple}
 use Rattle.meaning.specs.Sequence.{continuation, cut}
 use Rattle.meaning.specs.Result.{Result, firstOf, mapResult, valueOf}
 use Rattle.meaning.specs.Conditions.{placeOutOfRange, countOutOfRange}
@@ -23,7 +23,7 @@ use Rattle.meaning.specs.Calls.{bufferAfter, ContinueCall}
 use Rattle.meaning.proofs.Passes.{Passes}
 use Rattle.bridge.proofs.Searches.{or-false}
 use Rattle.bridge.proofs.Accepted.{prime-accepted, terms-accepted}
-use Rattle.bridge.proofs.Products.{accepted-monic}
+use Rattle.bridge.proofs.Multiples.{coefficients-lead}
 use Rattle.refusals.specs.declared.Verdict.{Verdict}
 use Rattle.refusals.specs.Verdicts.{numberIn}
 use Rattle.refusals.proofs.Settled.{verdict-passes, settle-refused, settle-accepted}
@@ -52,7 +52,7 @@ module _ (p : ℕ) (g : Polynomial) (start : List ℕ) (place size : ℕ) {v : V
       let t = not-false (eqb (length start) (degree g)) (passes .enoughTerms) in
       let same : length start ≡ degree g = eqb-true (length start) (degree g) t in
       rw h (record {
-        monic = accepted-monic (prime p) g (passes .monic);
+        leads = coefficients-lead (prime p) g (passes .coefficientsInRange);
         elements = terms-accepted p start (passes .termsInField);
         enough = same;
         few = omega arith;
@@ -87,7 +87,9 @@ module _ (p : ℕ) (g : Polynomial) (start buffer : List ℕ) (place : ℕ) wher
     pub continue-filled : {F : Field} {ys : List ℕ}
         → v ≡ Verdict.Accepted
         → F ≡ prime p
-        → ys ≡ cut (continuation F g start) 0 (length (take (length buffer - place) (drop place buffer)))
+        → ys
+        ≡ cut (continuation F (monicMultiple F g) start) 0
+        (length (take (length buffer - place) (drop place buffer)))
         → ContinueCall p g start buffer place Filling.Filled
         (take place buffer ++ (ys ++ drop (length buffer - place) (drop place buffer)))
     unfolding toldFilling continueSequence filled mapResult bufferAfter valueOf

@@ -10,7 +10,7 @@ ghost use Rattle.meaning.specs.Calls.{ContinueCall};
 
 // Leaves in the buffer, from the place on to its end, the sequence that the polynomial continues the starting
 // terms to, and all before the place as it was; or the refusal by 6, 7, 8, 10, 11 or 15, and the buffer as it
-// was.
+// was. The polynomial stands for its monic multiple.
 pub fn continue_sequence(
     p: u64,
     polynomial: &[u8],

@@ -2,21 +2,22 @@
 -- Assumes nothing.
 use Prim.Native.Nat.{ℕ}
 use mathlib.Core.Path.{_≡_, refl, sym, ap, subst, _∙_}
+use mathlib.Core.Logic.{_≢_}
 use mathlib.Core.Bool.{Bool, true, false, not}
 use mathlib.Core.List.{List}
 use lib.Dec.{T}
+use borrow.Author.Tests.{ne-eqb}
 use Rattle.meaning.specs.Field.{Field, prime, primeInRange, areElements}
-use Rattle.meaning.specs.Polynomial.{Polynomial, isMonic, isMonicOver}
-use Rattle.meaning.specs.Conditions.{termOutOfField, notMonic}
-use Rattle.bridge.proofs.Searches.{T-and, T-true, false-T}
+use Rattle.meaning.specs.Polynomial.{Polynomial, leading}
+use Rattle.meaning.specs.Conditions.{termOutOfField, coefficientOutOfRange}
+use Rattle.bridge.proofs.Searches.{T-true, false-T}
 use Rattle.leaves.specs.Remaindered.{Remaindered}
 
 module _ (F : Field) where
-  monic-passes : (g : Polynomial) → T (isMonicOver F g) → notMonic F g ≡ false
-  unfolding notMonic isMonicOver
-  monic-passes g m =
-      let (k, e) = T-and (isMonic g) (areElements F g) m in
-      rw (T-true {b = areElements F g} e, T-true {b = isMonic g} k)
+  leading-passes :
+      (g : Polynomial) → T (areElements F g) → leading g ≢ 0 → coefficientOutOfRange F g ≡ false
+  unfolding coefficientOutOfRange
+  leading-passes g e n = rw (T-true {b = areElements F g} e, ne-eqb (leading g) 0 n)
 
   elements-pass : (f : List ℕ) → T (areElements F f) → termOutOfField F f ≡ false
   unfolding termOutOfField
@@ -30,10 +31,12 @@ module _ (p : ℕ) (g : Polynomial) (f : List ℕ) {b : Bool} where
         kept = λ n. refl;
       }
 
-  pub kept-not-monic : b ≡ notMonic (prime p) g → b ≡ true → Remaindered (primeInRange p) (prime p) g f f
-  kept-not-monic e h =
+  pub kept-coefficient : b ≡ coefficientOutOfRange (prime p) g → b ≡ true
+      → Remaindered (primeInRange p) (prime p) g f f
+  kept-coefficient e h =
       record {
-        divided = λ t d. absurd (false-T (monic-passes (prime p) g (d .monic)) (subst T (sym h ∙ e) tt));
+        divided = λ t d. absurd (false-T (leading-passes (prime p) g (d .divisor) (d .nonzero))
+            (subst T (sym h ∙ e) tt));
         kept = λ n. refl;
       }
 

@@ -2,9 +2,9 @@
 // requires does not hold, the answer is 0, and all bytes stay as they were.
 use arith::GaloisField;
 use arith::primes::prime_in_range;
-use conditions::lists::not_monic;
+use conditions::lists::coefficient_out_of_range;
 use conditions::lists::term_out_of_field;
-use poly::division::remainder;
+use poly::division::divide;
 ghost use mathlib.Core.Path.{_≡_};
 ghost use lib.ListN.{length};
 ghost use Rattle.meaning.specs.Field.{prime, primeInRange};
@@ -51,8 +51,8 @@ pub extern "C" fn leaf_update(p: u64, a: &mut [u8], c: u8, b: &[u8])
     }
 }
 
-// Divides the polynomial in f by the monic polynomial g modulo p: leaves the remainder in the first bytes, as
-// many as the degree of g, and the quotient in those after them.
+// Divides the polynomial in f by g modulo p, whose leading coefficient is not 0: leaves the remainder in the
+// first bytes, as many as the degree of g, and the quotient in those after them.
 #[no_mangle]
 pub extern "C" fn leaf_remainder(p: u64, f: &mut [u8], g: &[u8])
     ensures { λ _. ⌜ Remaindered (primeInRange p) (prime p) (now (g .entry)) (now (f .entry))
@@ -61,11 +61,11 @@ pub extern "C" fn leaf_remainder(p: u64, f: &mut [u8], g: &[u8])
     if !prime_in_range(p) {
         return;
     }
-    if not_monic(p, g) {
+    if coefficient_out_of_range(p, g) {
         return;
     }
     if term_out_of_field(p, f) {
         return;
     }
-    remainder(GaloisField::of_prime(p), f, g);
+    divide(GaloisField::of_prime(p), f, g);
 }

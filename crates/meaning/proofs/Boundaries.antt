@@ -95,11 +95,14 @@ pub record Boundaries : Type 0 where
   pub degree0zero : ask 2 (0 ∷ []) ≡ some 10
   pub degree1 : ask 2 x+1 ≡ none
   pub degreeHuge : ask 2 (ofDegree 4096) ≡ some 10
-  -- 11: monic lists over the field
+  -- 11: lists over the field whose leading coefficient is not 0
   pub emptyList : ask 2 [] ≡ some 11
   pub coefficientBelow : ask 3 (2 ∷ 1 ∷ []) ≡ none
   pub coefficientEqual : ask 3 (3 ∷ 1 ∷ []) ≡ some 11
-  pub leadingTwo : ask 3 (1 ∷ 2 ∷ []) ≡ some 11
+  pub leadingTwo : ask 3 (1 ∷ 2 ∷ []) ≡ none
+  pub leadingThree : ask 3 (1 ∷ 3 ∷ []) ≡ some 11
+  pub leadingLargest : ask 251 (1 ∷ 250 ∷ []) ≡ none
+  pub leadingEqual : ask 251 (1 ∷ 251 ∷ []) ≡ some 11
   pub leadingOneBeforeZero : ask 3 (0 ∷ 1 ∷ 0 ∷ []) ≡ some 11
   -- 14 and 15: upper powers from 1, total degree at most 4,096 and at most the number of terms
   pub upper0 : numberIn (ratePortion 2 x+1 0 (0 ∷ []) 4097 8192) ≡ some 14
@@ -224,6 +227,9 @@ boundaries =
       coefficientBelow = refl;
       coefficientEqual = refl;
       leadingTwo = refl;
+      leadingThree = refl;
+      leadingLargest = refl;
+      leadingEqual = refl;
       leadingOneBeforeZero = refl;
       upper0 = refl;
       upper1 = refl;

@@ -6,14 +6,16 @@ use Rattle.meaning.specs.Search.{least, together}
 use Rattle.meaning.specs.Field.{prime, isPrime, largestPrime, primeInRange, isElement, areElements}
 use Rattle.meaning.specs.Field.{multiple, negative}
 use Rattle.meaning.specs.Polynomial.{degree, leading, isMonic, isMonicOver, plus, scale, times, power}
-use Rattle.meaning.specs.Polynomial.{product, eachHead, monics, same, hasFactorOf, irreducible}
+use Rattle.meaning.specs.Polynomial.{monicMultiple, product, eachHead, monics, same, hasFactorOf}
+use Rattle.meaning.specs.Polynomial.{irreducible}
 use Rattle.meaning.specs.Sequence.{actAt, known, periodic, annihilatesKnown, annihilatesPeriod}
 use Rattle.meaning.specs.Sequence.{actOnKnown, actOnPeriod, cut, next, continuation}
 use Rattle.meaning.specs.Result.{mapResult, firstOf, valueOf, settle, figuresOf, written, cleared}
 use Rattle.meaning.specs.Result.{answerAfter, workAfter}
 use Rattle.meaning.specs.Conditions.{named, totalDegree, notPrime, countOutOfRange, placeOutOfRange}
 use Rattle.meaning.specs.Conditions.{termOutOfField, factorCountOutOfRange, degreeOutOfRange}
-use Rattle.meaning.specs.Conditions.{factorDegreeOutOfRange, continuationDegreeOutOfRange, notMonic}
+use Rattle.meaning.specs.Conditions.{factorDegreeOutOfRange, continuationDegreeOutOfRange}
+use Rattle.meaning.specs.Conditions.{coefficientOutOfRange, notMonic}
 use Rattle.meaning.specs.Conditions.{isAsked, isReducible, twoEqual, upperPowersOutOfRange}
 use Rattle.meaning.specs.Conditions.{fewerTermsThan}
 use Rattle.meaning.specs.Conditions.{startUnlikeDegree, lentTooShort, acceptedLent}
@@ -21,7 +23,7 @@ use Rattle.meaning.specs.Power.{isX, repeatBound, powerRating}
 use Rattle.meaning.specs.Period.{periodPower, periodTable, periodAnswer, ratePeriod}
 use Rattle.meaning.specs.Portion.{factorsOf, withPower, leastAt, setPowers, onward, setRating, setTable}
 use Rattle.meaning.specs.Portion.{setAnswer, rateSet, factorTable, acceptedFactors, portionTable}
-use Rattle.meaning.specs.Portion.{ratePortion}
+use Rattle.meaning.specs.Portion.{portionAnswer, ratePortion}
 use Rattle.meaning.specs.Free.{fitsDegree, leastDegree, isUnique, freePolynomial, freeRating, freeTable}
 use Rattle.meaning.specs.Free.{rateFree}
 use Rattle.meaning.specs.Continuation.{continueTable, filled, continueSequence}
@@ -29,7 +31,8 @@ use Rattle.meaning.specs.Irreducibility.{irreducibleTable, askIrreducibl
 use Rattle.meaning.specs.Route.{lookUp, bodyLengths, admitted, stopped, before, walk, bodies, appended}
 use Rattle.meaning.specs.Route.{number, byteOf, factorUpper, modeOf, suits, modeUnsuited, suited}
 use Rattle.meaning.specs.Route.{records, endRecord, readRecord, boxOf}
-use Rattle.meaning.specs.File.{fileFactor, polynomialOf, fileDegreeOutOfRange, fileNotMonic, termsOf}
+use Rattle.meaning.specs.File.{fileFactor, polynomialOf, fileDegreeOutOfRange}
+use Rattle.meaning.specs.File.{fileCoefficientOutOfRange, termsOf}
 use Rattle.meaning.specs.File.{fileAnswer, ofPeriod, ofSet, freeLabel, ofFree, rateMode, rateRecords}
 use Rattle.meaning.specs.File.{rateFile}
 use Rattle.meaning.specs.Print.{text, digits, decimal, joined, line, header, labelWord, density}
@@ -52,7 +55,7 @@ unfolding degree leading isMonic isMonicOver plus scale times power product each
 openPolynomial-1 = tt
 
 unfoldable pub openPolynomial-2 : Unit {0}
-unfolding irreducible
+unfolding irreducible monicMultiple
 openPolynomial-2 = tt
 
 unfoldable pub openSequence-1 : Unit {0}
@@ -72,8 +75,8 @@ unfolding named totalDegree notPrime countOutOfRange placeOutOfRange termOutOfFi
 openConditions-1 = tt
 
 unfoldable pub openConditions-2 : Unit {0}
-unfolding degreeOutOfRange factorDegreeOutOfRange continuationDegreeOutOfRange notMonic isAsked isReducible
-    twoEqual
+unfolding degreeOutOfRange factorDegreeOutOfRange continuationDegreeOutOfRange coefficientOutOfRange notMonic
+    isAsked isReducible twoEqual
 openConditions-2 = tt
 
 unfoldable pub openConditions-3 : Unit {0}
@@ -93,7 +96,7 @@ unfolding factorsOf withPower leastAt setPowers onward setRating setTable setAns
 openPortion-1 = tt
 
 unfoldable pub openPortion-2 : Unit {0}
-unfolding acceptedFactors portionTable ratePortion
+unfolding acceptedFactors portionTable portionAnswer ratePortion
 openPortion-2 = tt
 
 unfoldable pub openFree : Unit {0}
@@ -117,7 +120,8 @@ unfolding suits modeUnsuited suited records endRecord readRecord boxOf
 openRoute-2 = tt
 
 unfoldable pub openFile-1 : Unit {0}
-unfolding fileFactor polynomialOf fileDegreeOutOfRange fileNotMonic termsOf fileAnswer ofPeriod ofSet
+unfolding fileFactor polynomialOf fileDegreeOutOfRange fileCoefficientOutOfRange termsOf fileAnswer ofPeriod
+    ofSet
 openFile-1 = tt
 
 unfoldable pub openFile-2 : Unit {0}

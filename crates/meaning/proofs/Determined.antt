@@ -27,7 +27,8 @@ use Rattle.meaning.specs.declared.RecordOutcome.{RecordOutcome}
 use Rattle.meaning.specs.declared.Refusal.the-variants.{FileTooLong, UnknownKind, FileCutShort}
 use Rattle.meaning.specs.declared.Refusal.the-variants.{RecordOutOfPlace, ModeUnsuited, NotPrime}
 use Rattle.meaning.specs.declared.Refusal.the-variants.{CountOutOfRange, TermOutOfField, FactorCount}
-use Rattle.meaning.specs.declared.Refusal.the-variants.{DegreeOutOfRange, NotMonic, Reducible}
+use Rattle.meaning.specs.declared.Refusal.the-variants.{DegreeOutOfRange, CoefficientOutOfRange}
+use Rattle.meaning.specs.declared.Refusal.the-variants.{Reducible}
 use Rattle.meaning.specs.declared.Refusal.the-variants.{EqualFactors, UpperPowers, TooFewTerms}
 use Rattle.meaning.specs.declared.Refusal.the-variants.{LentTooShort, NotAnnihilated}
 use Rattle.meaning.specs.Search.{mapOption, holdsForAll}
@@ -53,7 +54,7 @@ refusals =
     ∷ (8, TermOutOfField)
     ∷ (9, FactorCount)
     ∷ (10, DegreeOutOfRange)
-    ∷ (11, NotMonic)
+    ∷ (11, CoefficientOutOfRange)
     ∷ (12, Reducible)
     ∷ (13, EqualFactors)
     ∷ (14, UpperPowers)
@@ -77,7 +78,7 @@ refusal-number CountOutOfRange = refl
 refusal-number TermOutOfField = refl
 refusal-number FactorCount = refl
 refusal-number DegreeOutOfRange = refl
-refusal-number NotMonic = refl
+refusal-number CoefficientOutOfRange = refl
 refusal-number Reducible = refl
 refusal-number EqualFactors = refl
 refusal-number UpperPowers = refl

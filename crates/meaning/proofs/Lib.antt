@@ -6,6 +6,7 @@ pub mod MarkedRows
 pub mod Rows
 pub mod Refusals
 pub mod Boundaries
+pub mod MultipleRows
 pub mod Orders
 pub mod Lines
 pub mod Lent

@@ -35,7 +35,7 @@ pub record Passes (table : List Check) : Type 0 where
   pub termsInField : holds 8 table ≡ false
   pub factorCount : holds 9 table ≡ false
   pub degreesInRange : holds 10 table ≡ false
-  pub monic : holds 11 table ≡ false
+  pub coefficientsInRange : holds 11 table ≡ false
   pub irreducible : holds 12 table ≡ false
   pub different : holds 13 table ≡ false
   pub uppersInRange : holds 14 table ≡ false
@@ -62,7 +62,7 @@ firstOf-passes table h =
       termsInField = firstOf-holds 8 table h;
       factorCount = firstOf-holds 9 table h;
       degreesInRange = firstOf-holds 10 table h;
-      monic = firstOf-holds 11 table h;
+      coefficientsInRange = firstOf-holds 11 table h;
       irreducible = firstOf-holds 12 table h;
       different = firstOf-holds 13 table h;
       uppersInRange = firstOf-holds 14 table h;

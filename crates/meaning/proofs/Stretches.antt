@@ -4,7 +4,7 @@
 --   alternating, ones, oneThenZeros == 1, 0, 1, 0, …; 1, 1, 1, …; 1 and then zeros
 --   …-inField             == it is a sequence of GF(2)
 --   …-annihilated         == the factor to its upper power annihilates it
---   accepted-…            == the factor with its upper power is accepted; `plain`: it is not x
+--   accepted-…            == the factor with its upper power is accepted; `plain`: its multiple is not x
 --   lent                  == the lent bytes are accepted
 --   …-set, …-portion, …-period, …-free == the call of that way is met on a stretch, by an answer with its
 --                            bytes
@@ -14,7 +14,7 @@
 use Prim.Native.Nat.{ℕ, zero, suc}
 use mathlib.Core.Path.{_≡_, refl, sym, ap, subst, _∙_}
 use mathlib.Core.Bool.{true, false, true≢false}
-use mathlib.Core.List.{List, [], _∷_}
+use mathlib.Core.List.{List, [], _∷_, map}
 use mathlib.Core.Option.{some, Option·some-injective}
 use lib.ListN.{length, replicate}
 use lib.Dec.{lit≤, T}
@@ -25,7 +25,7 @@ use Rattle.meaning.specs.declared.SetOutcome.{SetOutcome}
 use Rattle.meaning.specs.declared.FreeRating.{FreeRating}
 use Rattle.meaning.specs.Search.{holdsForSome}
 use Rattle.meaning.specs.Field.{prime}
-use Rattle.meaning.specs.Polynomial.{Polynomial, product}
+use Rattle.meaning.specs.Polynomial.{Polynomial, product, monicMultiple}
 use Rattle.meaning.specs.Sequence.{Sequence, InField, AnnihilatesEndless, cut}
 use Rattle.meaning.specs.Conditions.{named, acceptedLent}
 use Rattle.meaning.specs.Power.{isX}
@@ -85,7 +85,7 @@ pub accepted-3 : T (acceptedFactors 2 factors (3 ∷ []))
 unfolding computed
 accepted-3 = tt
 
-pub plain : holdsForSome isX factors ≡ false
+pub plain : holdsForSome isX (map (monicMultiple (prime 2)) factors) ≡ false
 unfolding computed
 plain = refl
 

@@ -12,11 +12,11 @@ use lib.Dec.{T}
 use borrow.Author.Tests.{eq-eqb, ne-eqb, le-ltb, lt-ltb}
 use Rattle.meaning.specs.Search.{holdsForAll, isNone, bind, mapOption}
 use Rattle.meaning.specs.Field.{prime, isElement, areElements, primeInRange, isPrime, largestPrime}
-use Rattle.meaning.specs.Polynomial.{Polynomial, power, degree}
+use Rattle.meaning.specs.Polynomial.{Polynomial, power, degree, monicMultiple}
 use Rattle.meaning.specs.Sequence.{actAt, periodic, annihilatesPeriod}
 use Rattle.meaning.specs.Result.{valueOf, answered}
 use Rattle.meaning.specs.Power.{powerRating, repeatBound}
-use Rattle.meaning.specs.Conditions.{notPrime, countOutOfRange, termOutOfField, notMonic}
+use Rattle.meaning.specs.Conditions.{notPrime, countOutOfRange, termOutOfField, coefficientOutOfRange}
 use Rattle.meaning.specs.Conditions.{factorDegreeOutOfRange, lentTooShort, acceptedLent}
 use Rattle.meaning.specs.Portion.{acceptedFactors, factorTable}
 use Rattle.meaning.specs.Period.{periodPower, periodTable, periodAnswer, ratePeriod}
@@ -67,7 +67,8 @@ zeros-passes : (p n : ℕ) (f : Polynomial) (answer work : ℕ)
     → 1 ≤ n
     → n ≤ 4096
     → Passes
-    (periodTable p (factorDegreeOutOfRange (prime p) f) (notMonic (prime p) f) f (zeros n) answer work)
+    (periodTable p (factorDegreeOutOfRange (prime p) f) (coefficientOutOfRange (prime p) f)
+    (monicMultiple (prime p) f) (zeros n) answer work)
 unfolding periodTable factorTable isNone
 zeros-passes p n f answer work h a l m =
     let q = accepted-passes p (f ∷ []) (1 ∷ []) h in
@@ -75,10 +76,10 @@ zeros-passes p n f answer work h a l m =
     & count-passes n l m
     & terms-pass p n (q .fieldExists)
     & of-one _ f (q .degreesInRange)
-    & of-one _ f (q .monic)
-    & of-one _ f (q .irreducible)
+    & of-one _ f (q .coefficientsInRange)
+    & of-one _ (monicMultiple (prime p) f) (q .irreducible)
     & a
-    & ap isNone (power-zero p f n)
+    & ap isNone (power-zero p (monicMultiple (prime p) f) n)
     & nothing
 
 pub zero-period : (p n : ℕ) (f : Polynomial) (answer work : ℕ)
@@ -91,4 +92,5 @@ pub zero-period : (p n : ℕ) (f : Polynomial) (answer work : ℕ)
 unfolding ratePeriod periodAnswer acceptedLent valueOf bind powerRating repeatBound mapOption power degree
 zero-period p n f answer work h a l m =
     settle-none _ _ (zeros-passes p n f answer work h (not-false-of _ a) l m .noneHolds)
-    ∙ ap (λ o. valueOf (bind o (powerRating (prime p) f))) (power-zero p f n)
+    ∙ ap (λ o. valueOf (bind o (powerRating (prime p) (monicMultiple (prime p) f))))
+    (power-zero p (monicMultiple (prime p) f) n)

@@ -18,7 +18,8 @@ use Rattle.meaning.specs.declared.Refusal.{Refusal}
 use Rattle.meaning.specs.declared.Refusal.the-variants.{FileTooLong, UnknownKind, FileCutShort}
 use Rattle.meaning.specs.declared.Refusal.the-variants.{RecordOutOfPlace, ModeUnsuited, NotPrime}
 use Rattle.meaning.specs.declared.Refusal.the-variants.{CountOutOfRange, TermOutOfField, FactorCount}
-use Rattle.meaning.specs.declared.Refusal.the-variants.{DegreeOutOfRange, NotMonic, Reducible}
+use Rattle.meaning.specs.declared.Refusal.the-variants.{DegreeOutOfRange, CoefficientOutOfRange}
+use Rattle.meaning.specs.declared.Refusal.the-variants.{Reducible}
 use Rattle.meaning.specs.declared.Refusal.the-variants.{EqualFactors, UpperPowers, TooFewTerms}
 use Rattle.meaning.specs.declared.Refusal.the-variants.{LentTooShort, NotAnnihilated}
 use Rattle.meaning.specs.declared.Irreducibility.{Irreducibility}
@@ -45,7 +46,7 @@ numberOf CountOutOfRange = 7
 numberOf TermOutOfField = 8
 numberOf FactorCount = 9
 numberOf DegreeOutOfRange = 10
-numberOf NotMonic = 11
+numberOf CoefficientOutOfRange = 11
 numberOf Reducible = 12
 numberOf EqualFactors = 13
 numberOf UpperPowers = 14

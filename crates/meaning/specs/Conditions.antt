@@ -11,7 +11,7 @@ use lib.ListN.{length}
 use lib.Dec.{ltb, eqb}
 use Rattle.meaning.specs.Search.{holdsForSome}
 use Rattle.meaning.specs.Field.{Field, prime, primeInRange, areElements}
-use Rattle.meaning.specs.Polynomial.{Polynomial, degree, isMonic, same, irreducible}
+use Rattle.meaning.specs.Polynomial.{Polynomial, degree, leading, isMonic, same, irreducible}
 
 unfoldable pub named : List Polynomial → List ℕ → List (Polynomial × ℕ)
 named [] us = []
@@ -55,11 +55,15 @@ factorDegreeOutOfRange F (c ∷ f) = degreeOutOfRange F (degree (c ∷ f))
 unfoldable pub continuationDegreeOutOfRange : Polynomial → Bool
 continuationDegreeOutOfRange g = ltb 4096 (degree g)
 
--- 11, of a list; the empty list has no leading coefficient
+-- 11, of a list; the empty list has the leading coefficient 0
+unfoldable pub coefficientOutOfRange : Field → Polynomial → Bool
+coefficientOutOfRange F f = not (areElements F f) || eqb (leading f) 0
+
+-- a coefficient is no element, or the leading one is not 1
 unfoldable pub notMonic : Field → Polynomial → Bool
 notMonic F f = not (areElements F f) || not (isMonic f)
 
--- 12 is asked of a factor that 6, 10 and 11 let pass, and of no other
+-- 12 is asked of a monic factor that 6, 10 and 11 let pass, and of no other
 unfoldable pub isAsked : ℕ → Polynomial → Bool
 isAsked p f = not (notPrime p || (factorDegreeOutOfRange (prime p) f || notMonic (prime p) f))
 

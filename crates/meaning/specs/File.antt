@@ -4,8 +4,8 @@
 --   fileFactor body     == the factor of a body of 35 bytes
 --   polynomialOf f      == its polynomial: the coefficients below its degree, and then the leading 1, which
 --                          is implied
---   fileNotMonic F f    == refusal 11 of a file's factor: a coefficient below the degree is no element of the
---                          field, or one from the degree on is not 0
+--   fileCoefficientOutOfRange F f == refusal 11 of a file's factor: a coefficient below the degree is no
+--                          element of the field, or one from the degree on is not 0
 --   termsOf rs          == the terms of the records of kinds 5 and 6, in order
 --   Label               == what is printed after the density: the powers in factor order, or whether one
 --                          polynomial fits
@@ -46,8 +46,8 @@ polynomialOf f = take (f .degree) (f .coefficients) ++ (1 ∷ [])
 unfoldable pub fileDegreeOutOfRange : Field → WrittenFactor → Bool
 fileDegreeOutOfRange F f = degreeOutOfRange F (f .degree)
 
-unfoldable pub fileNotMonic : Field → WrittenFactor → Bool
-fileNotMonic F f =
+unfoldable pub fileCoefficientOutOfRange : Field → WrittenFactor → Bool
+fileCoefficientOutOfRange F f =
     not (areElements F (take (f .degree) (f .coefficients)))
     || not (holdsForAll (λ c. eqb c 0) (drop (f .degree) (f .coefficients)))
 
@@ -93,7 +93,7 @@ rateMode pick periodMode p fs ts answer work =
     ofPeriod (length ts)
     (periodAnswer p
     (holdsForSome (fileDegreeOutOfRange (prime p)) fs)
-    (holdsForSome (fileNotMonic (prime p)) fs)
+    (holdsForSome (fileCoefficientOutOfRange (prime p)) fs)
     (getD (map polynomialOf fs) 0 [])
     ts
     answer
@@ -102,7 +102,7 @@ rateMode pick setMode p fs ts answer work =
     ofSet (length ts)
     (setAnswer p
     (holdsForSome (fileDegreeOutOfRange (prime p)) fs)
-    (holdsForSome (fileNotMonic (prime p)) fs)
+    (holdsForSome (fileCoefficientOutOfRange (prime p)) fs)
     (map (λ f. (polynomialOf f, f .upper)) fs)
     ts
     answer

@@ -5,7 +5,8 @@
 --   NoPower F f ts     == no power of f, however large, annihilates the endless repetition
 --   periodTable        == the refusals that the period way meets, in order; `ten` and `eleven` say whether
 --                         these two hold of the factor, which a list and a file write differently
---   ratePeriod p f ts answer work == the answer of the period way for lent bytes of these lengths
+--   ratePeriod p f ts answer work == the answer of the period way for lent bytes of these lengths: 10 and 11
+--                         look at the factor as it is given, and all that follows at its monic multiple
 use Prim.Native.Nat.{ℕ}
 use mathlib.Core.Bool.{Bool}
 use mathlib.Core.List.{List, [], _∷_}
@@ -13,11 +14,11 @@ use mathlib.Core.Option.{Option}
 use lib.ListN.{length}
 use Rattle.meaning.specs.Search.{least, bind, isNone}
 use Rattle.meaning.specs.Field.{Field, prime}
-use Rattle.meaning.specs.Polynomial.{Polynomial, power}
+use Rattle.meaning.specs.Polynomial.{Polynomial, power, monicMultiple}
 use Rattle.meaning.specs.Sequence.{annihilatesPeriod, AnnihilatesEndless, periodic}
 use Rattle.meaning.specs.Result.{Result, Check, settle, Rated}
 use Rattle.meaning.specs.Conditions.{notPrime, countOutOfRange, termOutOfField, factorDegreeOutOfRange}
-use Rattle.meaning.specs.Conditions.{notMonic, isReducible, lentTooShort}
+use Rattle.meaning.specs.Conditions.{coefficientOutOfRange, isReducible, lentTooShort}
 use Rattle.meaning.specs.Power.{PowerFigures, powerRating}
 
 unfoldable pub periodPower : Field → Polynomial → List ℕ → Option ℕ
@@ -44,4 +45,6 @@ periodAnswer p ten eleven f ts answer work =
     (λ _. bind (periodPower (prime p) f ts) (powerRating (prime p) f))
 
 unfoldable pub ratePeriod : ℕ → Polynomial → List ℕ → ℕ → ℕ → Result (Rated PowerFigures)
-ratePeriod p f ts = periodAnswer p (factorDegreeOutOfRange (prime p) f) (notMonic (prime p) f) f ts
+ratePeriod p f ts =
+    periodAnswer p (factorDegreeOutOfRange (prime p) f) (coefficientOutOfRange (prime p) f)
+    (monicMultiple (prime p) f) ts

@@ -7,6 +7,8 @@
 --   plus, scale, times == sum, multiple by an element, product; the product goes by the head of the first
 --                         factor, a·g + x·(rest·g), and the product of two monic lists has the degrees' sum
 --                         for its degree
+--   monicMultiple F f == the multiple c·f that is monic, c an element of F; the empty list where there is
+--                        none. A factor with any leading coefficient stands for it
 --   power F f n       == the n-fold product; the list of 1 for n = 0
 --   product F l       == the product of the powers that l lists as pairs of a polynomial and an exponent
 --   monics F d        == every monic polynomial of degree d over F; two are compared from the coefficient of
@@ -19,9 +21,10 @@ use Prim.Native.Nat.{ℕ, zero, suc, _-_, _<_}
 use mathlib.Core.Logic.{_≢_}
 use mathlib.Core.Bool.{Bool, true, false, not, _&&_}
 use mathlib.Core.List.{List, [], _∷_, _++_, map}
+use mathlib.Core.Option.{none, some}
 use lib.ListN.{length}
 use lib.Dec.{eqb, T}
-use Rattle.meaning.specs.Search.{range, holdsForSome}
+use Rattle.meaning.specs.Search.{range, holdsForSome, least}
 use Rattle.meaning.specs.Field.{Field, areElements}
 
 abbrev pub Polynomial : Type 0
@@ -47,6 +50,10 @@ plus F (a ∷ f) (b ∷ g) = (F .add) a b ∷ plus F f g
 
 unfoldable pub scale : Field → ℕ → Polynomial → Polynomial
 scale F c f = map ((F .mul) c) f
+
+unfoldable pub monicMultiple : Field → Polynomial → Polynomial
+monicMultiple F f =
+    elim (least (F .size - 1) (λ c. eqb ((F .mul) (leading f) c) 1)) [ none ↦ [] | some c ↦ scale F c f ]
 
 unfoldable pub times : Field → Polynomial → Polynomial → Polynomial
 times F [] g = []

@@ -14,7 +14,9 @@
 --   setTable, portionTable == the refusals that the two ways meet, in order; `ten` and `eleven` as in Period
 --   factorTable, acceptedFactors p factors uppers == factors are accepted when 6 and 9 to 14 do not turn them
 --                          down
---   rateSet p factors uppers ts answer work, ratePortion p f v ts answer work == the answers of the two ways
+--   rateSet p factors uppers ts answer work, ratePortion p f v ts answer work == the answers of the two ways:
+--                          9 to 11 look at the factors as they are given, and all that follows at their monic
+--                          multiples
 use Prim.Native.Nat.{ℕ}
 use mathlib.Core.Path.{_≡_}
 use mathlib.Core.Bool.{Bool, not}
@@ -23,12 +25,13 @@ use mathlib.Core.Option.{Option}
 use lib.ListN.{length, getD, take, set}
 use Rattle.meaning.specs.Search.{range, least, mapOption, bind, isNone, together, holdsForSome}
 use Rattle.meaning.specs.Field.{Field, prime}
-use Rattle.meaning.specs.Polynomial.{Polynomial, degree, product}
+use Rattle.meaning.specs.Polynomial.{Polynomial, degree, product, monicMultiple}
 use Rattle.meaning.specs.Sequence.{Sequence, annihilatesKnown, continuation, cut, MinimalPolynomial}
 use Rattle.meaning.specs.Sequence.{LeastPower}
 use Rattle.meaning.specs.Result.{Result, Check, firstOf, settle, Rated}
 use Rattle.meaning.specs.Conditions.{named, totalDegree, notPrime, countOutOfRange, termOutOfField}
-use Rattle.meaning.specs.Conditions.{factorCountOutOfRange, factorDegreeOutOfRange, notMonic}
+use Rattle.meaning.specs.Conditions.{factorCountOutOfRange, factorDegreeOutOfRange}
+use Rattle.meaning.specs.Conditions.{coefficientOutOfRange}
 use Rattle.meaning.specs.Conditions.{isReducible, twoEqual, upperPowersOutOfRange, fewerTermsThan}
 use Rattle.meaning.specs.Conditions.{lentTooShort}
 use Rattle.meaning.specs.Power.{PowerFigures, powerRating}
@@ -97,8 +100,8 @@ unfoldable pub rateSet : ℕ → List Polynomial → List ℕ → List ℕ → �
 rateSet p factors uppers ts =
     setAnswer p
     (holdsForSome (factorDegreeOutOfRange (prime p)) factors)
-    (holdsForSome (notMonic (prime p)) factors)
-    (named factors uppers)
+    (holdsForSome (coefficientOutOfRange (prime p)) factors)
+    (named (map (monicMultiple (prime p)) factors) uppers)
     ts
 
 unfoldable pub factorTable : ℕ → List Polynomial → List ℕ → List Check
@@ -106,22 +109,22 @@ factorTable p factors uppers =
     (6, λ _. notPrime p)
     ∷ (9, λ _. factorCountOutOfRange (length factors))
     ∷ (10, λ _. holdsForSome (factorDegreeOutOfRange (prime p)) factors)
-    ∷ (11, λ _. holdsForSome (notMonic (prime p)) factors)
-    ∷ (12, λ _. holdsForSome (isReducible p) factors)
-    ∷ (13, λ _. twoEqual factors)
+    ∷ (11, λ _. holdsForSome (coefficientOutOfRange (prime p)) factors)
+    ∷ (12, λ _. holdsForSome (isReducible p) (map (monicMultiple (prime p)) factors))
+    ∷ (13, λ _. twoEqual (map (monicMultiple (prime p)) factors))
     ∷ (14, λ _. upperPowersOutOfRange (named factors uppers))
     ∷ []
 
 unfoldable pub acceptedFactors : ℕ → List Polynomial → List ℕ → Bool
 acceptedFactors p factors uppers = isNone (firstOf (factorTable p factors uppers))
 
-unfoldable pub portionTable : ℕ → Polynomial → ℕ → List ℕ → ℕ → ℕ → List Check
-portionTable p f v ts answer work =
+unfoldable pub portionTable : ℕ → Bool → Bool → Polynomial → ℕ → List ℕ → ℕ → ℕ → List Check
+portionTable p ten eleven f v ts answer work =
     (6, λ _. notPrime p)
     ∷ (7, λ _. countOutOfRange (length ts))
     ∷ (8, λ _. termOutOfField (prime p) ts)
-    ∷ (10, λ _. factorDegreeOutOfRange (prime p) f)
-    ∷ (11, λ _. notMonic (prime p) f)
+    ∷ (10, λ _. ten)
+    ∷ (11, λ _. eleven)
     ∷ (12, λ _. isReducible p f)
     ∷ (14, λ _. upperPowersOutOfRange ((f, v) ∷ []))
     ∷ (15, λ _. fewerTermsThan (totalDegree ((f, v) ∷ [])) ts)
@@ -129,7 +132,13 @@ portionTable p f v ts answer work =
     ∷ (17, λ _. not (annihilatesKnown (prime p) (product (prime p) ((f, v) ∷ [])) ts))
     ∷ []
 
-unfoldable pub ratePortion : ℕ → Polynomial → ℕ → List ℕ → ℕ → ℕ → Result (Rated PowerFigures)
-ratePortion p f v ts answer work =
-    settle (portionTable p f v ts answer work)
+unfoldable pub portionAnswer :
+    ℕ → Bool → Bool → Polynomial → ℕ → List ℕ → ℕ → ℕ → Result (Rated PowerFigures)
+portionAnswer p ten eleven f v ts answer work =
+    settle (portionTable p ten eleven f v ts answer work)
     (λ _. bind (leastAt (prime p) ((f, v) ∷ []) ts 0) (powerRating (prime p) f))
+
+unfoldable pub ratePortion : ℕ → Polynomial → ℕ → List ℕ → ℕ → ℕ → Result (Rated PowerFigures)
+ratePortion p f v ts =
+    portionAnswer p (factorDegreeOutOfRange (prime p) f) (coefficientOutOfRange (prime p) f)
+    (monicMultiple (prime p) f) v ts

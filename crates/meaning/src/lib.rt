@@ -24,8 +24,8 @@ pub enum Refusal {
     FactorCount,
     // 10: a degree out of range
     DegreeOutOfRange,
-    // 11: a polynomial that is not monic over the field
-    NotMonic,
+    // 11: a coefficient is not an element of the field, or the leading one is 0, or there is none
+    CoefficientOutOfRange,
     // 12: a reducible factor
     Reducible,
     // 13: two equal factors

@@ -4,3 +4,4 @@ pub mod products
 pub mod raising
 pub mod division
 pub mod residues
+pub mod multiples

@@ -1,6 +1,6 @@
-// Common divisors by Euclid's algorithm, in lent bytes.
-// Assumes a well-formed field, and its elements in both polynomials.
-use crate::division::remainder;
+// Common divisors by Euclid's algorithm, in lent bytes. Assumes a well-formed field, and its elements in both
+// polynomials.
+use crate::division::divide;
 use arith::GaloisField;
 ghost use Rattle.arith.specs.Represented.{fieldOf, WellFormed};
 ghost use Rattle.poly.specs.common_divisor.Common.{Trimmed, Euclidean, Turned, Common};
@@ -20,17 +20,15 @@ pub fn trimmed_length(f: &[u8]) -> usize
     n
 }
 
-// One turn of Euclid's algorithm: leaves the monic multiple of b in b, and the remainder of a by it in a.
-// Answers how many coefficients this has up to the last that is not 0.
-fn turn(field: GaloisField, a: &mut [u8], b: &mut [u8]) -> usize
+// One turn of Euclid's algorithm: leaves the remainder of a by b in a. Answers how many coefficients this has
+// up to the last that is not 0.
+fn turn(field: GaloisField, a: &mut [u8], b: &[u8]) -> usize
     requires { ⌜ WellFormed field ⌝ }
     requires { ⌜ Euclidean (fieldOf field) (now a) (now b) ⌝ }
-    ensures { λ n. ⌜ Turned field (now (a .entry)) (now (b .entry)) (now (a .exit)) (now (b .exit)) n ⌝ }
+    ensures { λ n. ⌜ Turned field (now (a .entry)) (now (b .entry)) (now (a .exit)) n ⌝ }
 {
     let e = b.len() - 1;
-    let c = field.inverse(b[e]);
-    field.multiply(b, c);
-    remainder(field, a, b);
+    divide(field, a, b);
     trimmed_length(&a[0..e])
 }
 

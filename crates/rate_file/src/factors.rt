@@ -42,8 +42,8 @@ pub fn written_factors_verdict(p: u64, file: &[u8], count: usize) -> Verdict
     if holds_for_some_record(FactorCondition::FileDegreeOutOfRange, p, file, count) {
         return Verdict::Refused(Refusal::DegreeOutOfRange);
     }
-    if holds_for_some_record(FactorCondition::FileNotMonic, p, file, count) {
-        return Verdict::Refused(Refusal::NotMonic);
+    if holds_for_some_record(FactorCondition::FileCoefficientOutOfRange, p, file, count) {
+        return Verdict::Refused(Refusal::CoefficientOutOfRange);
     }
     Verdict::Accepted
 }

@@ -1,14 +1,16 @@
 -- The period way, from the verdict and the power found to the contract of the call.
 --
---   period-refused    == the verdict refuses
---   period-prime, period-lent, period-input == accepted: what the field and the way ask
+--   period-refused    == 12 or 16 refuses the monic multiple
+--   period-lent, period-input == accepted: what the way asks
 --   period-answerable == what the answer asks of the power found
---   period-rated      == the contract of the call, where the verdict accepts
+--   period-rated      == the result with the multiple, where the verdict accepts
+--   given-refused, given-rated == the contract of the call, where what is given is refused, and where it is
+--                        rated
 --
 -- Assumes nothing.
 use Prim.Native.Nat.{ℕ, _≤_}
-use mathlib.Core.Path.{_≡_, refl, sym, ap, _∙_}
-use mathlib.Core.Bool.{Bool}
+use mathlib.Core.Path.{_≡_, refl, sym, ap, ap₂, subst, _∙_}
+use mathlib.Core.Bool.{Bool, false}
 use mathlib.Core.List.{List, [], _∷_, _++_}
 use mathlib.Core.Option.{Option, none, some}
 use native.Mathlib.Omega.{arith}
@@ -18,103 +20,100 @@ use Rattle.meaning.specs.declared.Refusal.{Refusal}
 use Rattle.meaning.specs.declared.PowerRating.{PowerRating}
 use Rattle.meaning.specs.Search.{bind, isNone, holdsForSome}
 use Rattle.meaning.specs.Field.{Field, prime, primeInRange}
-use Rattle.meaning.specs.Polynomial.{Polynomial}
-use Rattle.meaning.specs.Result.{refused, mapResult, firstOf, settle, figuresOf}
-use Rattle.meaning.specs.Power.{powerRating}
-use Rattle.meaning.specs.Period.{periodPower, periodTable, periodAnswer, ratePeriod}
-use Rattle.meaning.specs.Answers.{numberOf, toldPower}
+use Rattle.meaning.specs.Polynomial.{Polynomial, monicMultiple}
+use Rattle.meaning.specs.Result.{Result, Rated, refused, firstOf, settle}
+use Rattle.meaning.specs.Power.{PowerFigures, powerRating}
+use Rattle.meaning.specs.Period.{periodPower, periodAnswer, ratePeriod}
+use Rattle.meaning.specs.Answers.{numberOf}
 use Rattle.meaning.specs.Calls.{PeriodCall}
 use Rattle.meaning.proofs.Passes.{Passes}
 use Rattle.bridge.proofs.Interpretation.{inRange-isField}
 use Rattle.bridge.proofs.Irreducibles.{accepted-irreducible}
 use Rattle.bridge.proofs.Accepted.{prime-accepted, count-accepted, terms-accepted}
-use Rattle.irreducible.specs.Accepted.{Accepted}
 use Rattle.irreducible.proofs.Accepted.{accepted-short}
 use Rattle.refusals.specs.declared.Verdict.{Verdict}
-use Rattle.refusals.specs.Verdicts.{numberIn, allButLast, periodChecks}
-use Rattle.refusals.proofs.Settled.{verdict-passes, settle-early, period-last}
+use Rattle.refusals.specs.Verdicts.{numberIn, termsTable, oneFactorTable, lentTable, givenTable, periodRest}
+use Rattle.refusals.specs.Verdicts.{periodChecks}
+use Rattle.refusals.proofs.Settled.{verdict-passes, settle-early, settle-given, period-last}
+use Rattle.refusals.proofs.Ways.{period-parts, period-rest}
 use Rattle.period_way.specs.declared.Found.{Found}
 use Rattle.period_way.specs.Period.{told, PeriodInput, PeriodFound}
 use Rattle.period_way.proofs.Sizes.{period-small}
-use Rattle.period_way.specs.one_factor.OneFactor.{ratingFound, Answerable, FoundRated}
+use Rattle.period_way.specs.one_factor.OneFactor.{ratingFound, Answerable, FoundRated, Multiple, RatedAs}
 use Rattle.bridge.proofs.Accepted.{lent-enough}
-use Rattle.refusals.proofs.Lent.{never-refused, lent-refused}
+use Rattle.refusals.proofs.Lent.{never-refused}
 use Rattle.period_way.proofs.one_factor.OneFactor.{call-rating, call-lent, settled-none, settled-some}
-use Rattle.period_way.proofs.one_factor.OneFactor.{factor-monic, factor-positive}
+use Rattle.period_way.proofs.one_factor.OneFactor.{factor-monic, factor-positive, refused-as, given-ten}
+use Rattle.period_way.proofs.one_factor.OneFactor.{given-eleven}
 
-module _ (p : ℕ) (f : Polynomial) (ts : List ℕ) (answer work : ℕ) where
+module _ (p : ℕ) (f : Polynomial) (ts : List ℕ) (answer work : ℕ) (x : Multiple p f ts) where
+  -- the result with the monic multiple f
+  abbrev result : Result (Rated PowerFigures)
+  result = periodAnswer p false false f ts answer work
+
   -- no power of f annihilates the period
   abbrev seventeen : Unit {0} → Bool
   seventeen _ = isNone (periodPower (prime p) f ts)
 
   period-settled :
-      ratePeriod p f ts answer work
+      result
       ≡ settle (periodChecks p f ts answer work ++ ((17, seventeen) ∷ []))
       (λ _. bind (periodPower (prime p) f ts) (powerRating (prime p) f))
-  unfolding ratePeriod periodAnswer
+  unfolding periodAnswer
   period-settled =
       ap (λ table. settle table (λ _. bind (periodPower (prime p) f ts) (powerRating (prime p) f)))
       (period-last p ts answer work f)
 
-  module _ {v : Verdict} (e : numberIn v ≡ firstOf (periodChecks p f ts answer work)) where
-    period-early :
-        {x : Refusal}
-        → v ≡ Verdict.Refused x
-        → ratePeriod p f ts answer work ≡ refused (numberOf x)
-    period-early q = period-settled ∙ settle-early (periodChecks p f ts answer work) _ _ e q
+  pub period-prime : T (primeInRange p)
+  period-prime = prime-accepted p (x .accepted .fieldExists)
+
+  moved : firstOf (periodRest p f answer work) ≡ firstOf (periodChecks p f ts answer work)
+  moved = sym (period-rest p ts answer work (x .accepted .fieldExists) (x .countInRange) (x .termsInField) f)
+
+  module _ {v : Verdict} (k : numberIn v ≡ firstOf (periodRest p f answer work)) where
+    period-early : {r : Refusal} → v ≡ Verdict.Refused r → result ≡ refused (numberOf r)
+    period-early q = period-settled ∙ settle-early (periodChecks p f ts answer work) _ _ (k ∙ moved) q
 
     module _ (q : v ≡ Verdict.Accepted) where
-      passes : Passes (periodChecks p f ts answer work)
-      passes = verdict-passes (periodChecks p f ts answer work) e q
-
-      pub period-prime : T (primeInRange p)
-      unfolding periodChecks allButLast periodTable
-      period-prime = prime-accepted p (passes .fieldExists)
-
-      period-factor : Accepted p f
-      unfolding periodChecks allButLast periodTable
-      period-factor =
-          record {
-            fieldExists = passes .fieldExists;
-            degreeInRange = passes .degreesInRange;
-            monicOver = passes .monic;
-          }
+      passes : Passes (periodRest p f answer work)
+      passes = verdict-passes (periodRest p f answer work) k q
 
       pub period-lent : (4097 ≤ answer) × (8192 ≤ work)
-      unfolding periodChecks allButLast periodTable
+      unfolding periodRest lentTable
       period-lent = lent-enough answer work (passes .lentEnough)
 
       accepted-period : PeriodInput (prime p) f ts
-      unfolding periodChecks allButLast periodTable
+      unfolding periodRest lentTable
       accepted-period =
-          let (some-terms, few) = count-accepted (length ts) (passes .countInRange) in
+          let (some-terms, few) = count-accepted (length ts) (x .countInRange) in
+          let a = x .accepted in
           record {
-            monic = factor-monic period-factor;
-            positive = factor-positive period-factor;
+            monic = factor-monic a;
+            positive = factor-positive a;
             irreducibility =
-                accepted-irreducible p f (passes .fieldExists) (passes .degreesInRange) (passes .monic)
+                accepted-irreducible p f (a .fieldExists) (a .degreeInRange) (a .monicOver)
                 (passes .irreducible);
-            short = omega (arith, accepted-short period-factor);
-            inField = terms-accepted p ts (passes .termsInField);
+            short = omega (arith, accepted-short a);
+            inField = terms-accepted p ts (x .termsInField);
             atLeastOne = some-terms;
             notMany = few;
           }
 
-      period-rating : ratePeriod p f ts answer work ≡ ratingFound (prime p) f (periodPower (prime p) f ts)
+      period-rating : result ≡ ratingFound (prime p) f (periodPower (prime p) f ts)
       unfolding isNone
       period-rating = go (periodPower (prime p) f ts) refl
         where
           go :
               (o : Option ℕ)
               → periodPower (prime p) f ts ≡ o
-              → ratePeriod p f ts answer work ≡ ratingFound (prime p) f (periodPower (prime p) f ts)
+              → result ≡ ratingFound (prime p) f (periodPower (prime p) f ts)
           go none z =
               period-settled
-              ∙ settled-none (prime p) f _ seventeen _ e q (ap isNone z)
+              ∙ settled-none (prime p) f _ seventeen _ (k ∙ moved) q (ap isNone z)
               ∙ ap (ratingFound (prime p) f) (sym z)
           go (some r) z =
               period-settled
-              ∙ settled-some (prime p) f _ seventeen _ e q (ap isNone z) z
+              ∙ settled-some (prime p) f _ seventeen _ (k ∙ moved) q (ap isNone z) z
               ∙ ap (ratingFound (prime p) f) (sym z)
 
       module _ {F : Field} (h : F ≡ prime p) where
@@ -125,26 +124,27 @@ module _ (p : ℕ) (f : Polynomial) (ts : List ℕ) (answer work : ℕ) where
             {found : Found} {w w′ : List ℕ}
             → PeriodFound F f ts w w′ found
             → Answerable F f (told found)
-        period-answerable x =
+        period-answerable y =
             record {
-              monic = rw h (factor-monic period-factor);
-              degreeInRange = rw h (period-factor .degreeInRange);
+              monic = rw h (factor-monic (x .accepted));
+              degreeInRange = rw h (x .accepted .degreeInRange);
               small =
                   λ r z. period-small (inRange-isField p period-prime) accepted-period
-                  (ap (λ (G : Field). periodPower G f ts) (sym h) ∙ sym (x .power) ∙ z);
+                  (ap (λ (G : Field). periodPower G f ts) (sym h) ∙ sym (y .power) ∙ z);
             }
 
-module _ (p : ℕ) (f ts answer work : List ℕ) {v : Verdict}
-    (e : numberIn v ≡ firstOf (periodChecks p f ts (length answer) (length work))) where
+-- the inner function
+module _ (p : ℕ) (f ts answer work : List ℕ) (m : Multiple p f ts) {v : Verdict}
+    (e : numberIn v ≡ firstOf (periodRest p f (length answer) (length work))) where
   pub period-refused :
       {x : Refusal}
       → v ≡ Verdict.Refused x
-      → PeriodCall p f ts answer work (PowerRating.Refused x) answer work
-  unfolding toldPower figuresOf mapResult periodChecks allButLast periodTable holdsForSome
+      → RatedAs (periodAnswer p false false f ts (length answer) (length work)) answer work
+      (PowerRating.Refused x) answer work
+  unfolding periodRest lentTable holdsForSome
   period-refused q =
-      let z = period-early p f ts (length answer) (length work) e q in
-      let other = never-refused 17 (periodChecks p f ts (length answer) (length work)) refl e q in
-      record { rating = sym (ap figuresOf z); lent = lent-refused z other }
+      refused-as (period-early p f ts (length answer) (length work) m e q)
+      (never-refused 17 (periodRest p f (length answer) (length work)) refl e q)
 
   pub period-rated :
       {F : Field} {found : Found} {r : PowerRating} {answer′ work′ : List ℕ}
@@ -152,12 +152,46 @@ module _ (p : ℕ) (f ts answer work : List ℕ) {v : Verdict}
       → F ≡ prime p
       → PeriodFound F f ts work work′ found
       → FoundRated F f (told found) answer r answer′
-      → PeriodCall p f ts answer work r answer′ work′
+      → RatedAs (periodAnswer p false false f ts (length answer) (length work)) answer work r answer′ work′
   period-rated q h x y =
-      let isPrime = period-prime p f ts (length answer) (length work) e q in
-      let z = period-rating p f ts (length answer) (length work) e q in
+      let isPrime = period-prime p f ts (length answer) (length work) m in
+      let z = period-rating p f ts (length answer) (length work) m e q in
       let k = x .power ∙ ap (λ (G : Field). periodPower G f ts) h in
       record {
         rating = call-rating p f h k y z;
         lent = call-lent p f h k y z isPrime (x .work);
       }
+
+-- the call
+module _ (p : ℕ) (f ts answer work : List ℕ) {v : Verdict} (e : numberIn v
+    ≡ firstOf (givenTable p f ts)) where
+  pub given-refused :
+      {x : Refusal}
+      → v ≡ Verdict.Refused x
+      → PeriodCall p f ts answer work (PowerRating.Refused x) answer work
+  unfolding ratePeriod periodAnswer givenTable termsTable oneFactorTable holdsForSome
+  given-refused q =
+      let g = monicMultiple (prime p) f in
+      let z =
+      ap (λ table. settle table (λ _. bind (periodPower (prime p) g ts) (powerRating (prime p) g)))
+      (period-parts p ts (length answer) (length work) f g)
+      ∙ settle-given (givenTable p f ts) _ _ e q in
+      let y = refused-as z (never-refused 17 (givenTable p f ts) refl e q) in
+      record { rating = y .rating; lent = y .lent }
+
+  pub given-rated :
+      {r : PowerRating} {answer′ work′ g : List ℕ}
+      → v ≡ Verdict.Accepted
+      → g ≡ monicMultiple (prime p) f
+      → RatedAs (periodAnswer p false false g ts (length answer) (length work)) answer work r answer′ work′
+      → PeriodCall p f ts answer work r answer′ work′
+  unfolding ratePeriod
+  given-rated {r} {answer′} {work′} q k x =
+      let same : periodAnswer p false false _ ts (length answer) (length work)
+      ≡ ratePeriod p f ts (length answer) (length work) =
+      ap (λ (g : Polynomial). periodAnswer p false false g ts (length answer) (length work)) k
+      ∙ sym
+      (ap₂ (λ a b. periodAnswer p a b (monicMultiple (prime p) f) ts (length answer) (length work))
+      (given-ten p f ts e q) (given-eleven p f ts e q)) in
+      let y = subst (λ z. RatedAs z answer work r answer′ work′) same x in
+      record { rating = y .rating; lent = y .lent }

@@ -1,13 +1,15 @@
 -- The portion way, from the verdict and the power found to the contract of the call. u is the upper power.
 --
---   portion-refused    == the verdict refuses
---   portion-prime, portion-lent, portion-input == accepted: what the field and the way ask
+--   portion-refused    == 12, 14, 15 or 16 refuses the monic multiple
+--   portion-lent, portion-input == accepted: what the way asks
 --   portion-answerable == what the answer asks of the power found
---   portion-rated      == the contract of the call, where the verdict accepts
+--   portion-rated      == the result with the multiple, where the verdict accepts
+--   given-refused, given-rated == the contract of the call, where what is given is refused, and where it is
+--                        rated
 --
 -- Assumes nothing.
 use Prim.Native.Nat.{ℕ, _≤_}
-use mathlib.Core.Path.{_≡_, refl, sym, ap, _∙_}
+use mathlib.Core.Path.{_≡_, refl, sym, ap, ap₂, subst, _∙_}
 use mathlib.Core.Bool.{Bool, true, false, not}
 use mathlib.Core.List.{List, [], _∷_, _++_}
 use mathlib.Core.Option.{none, some, Option·none-ne-some}
@@ -18,13 +20,13 @@ use Rattle.meaning.specs.declared.Refusal.{Refusal}
 use Rattle.meaning.specs.declared.PowerRating.{PowerRating}
 use Rattle.meaning.specs.Search.{bind, holdsForSome}
 use Rattle.meaning.specs.Field.{Field, prime, primeInRange}
-use Rattle.meaning.specs.Polynomial.{Polynomial, product}
+use Rattle.meaning.specs.Polynomial.{Polynomial, product, monicMultiple}
 use Rattle.meaning.specs.Sequence.{annihilatesKnown}
-use Rattle.meaning.specs.Result.{refused, mapResult, firstOf, settle, figuresOf}
+use Rattle.meaning.specs.Result.{Result, Rated, refused, firstOf, settle}
 use Rattle.meaning.specs.Conditions.{named}
-use Rattle.meaning.specs.Power.{powerRating}
-use Rattle.meaning.specs.Portion.{leastAt, portionTable, ratePortion}
-use Rattle.meaning.specs.Answers.{numberOf, toldPower}
+use Rattle.meaning.specs.Power.{PowerFigures, powerRating}
+use Rattle.meaning.specs.Portion.{leastAt, portionAnswer, ratePortion}
+use Rattle.meaning.specs.Answers.{numberOf}
 use Rattle.meaning.specs.Calls.{PortionCall}
 use Rattle.meaning.proofs.Passes.{Passes}
 use Rattle.bridge.proofs.Interpretation.{inRange-isField}
@@ -32,21 +34,23 @@ use Rattle.bridge.proofs.Products.{monics-nonempty}
 use Rattle.bridge.proofs.Irreducibles.{accepted-irreducible, single-factor}
 use Rattle.bridge.proofs.Portions.{leastAt-exists}
 use Rattle.bridge.proofs.Accepted.{prime-accepted, count-accepted, terms-accepted, enough-accepted}
-use Rattle.irreducible.specs.Accepted.{Accepted}
 use Rattle.refusals.specs.declared.Verdict.{Verdict}
-use Rattle.refusals.specs.Verdicts.{numberIn, allButLast, portionChecks}
-use Rattle.refusals.proofs.Settled.{verdict-passes, settle-early, portion-last}
+use Rattle.refusals.specs.Verdicts.{numberIn, termsTable, oneFactorTable, powersTable, lentTable, givenTable}
+use Rattle.refusals.specs.Verdicts.{portionRest, portionChecks}
+use Rattle.refusals.proofs.Settled.{verdict-passes, settle-early, settle-given, portion-last}
+use Rattle.refusals.proofs.Ways.{portion-parts, portion-rest}
 use Rattle.period_way.specs.declared.Found.{Found}
 use Rattle.period_way.specs.Period.{told}
 use Rattle.set_way.specs.actions.SetActions.{SetInput}
 use Rattle.set_way.specs.portion.Portion.{portionFound, PortionFound}
 use Rattle.set_way.proofs.actions.Inputs.{input-monics}
 use Rattle.set_way.proofs.portion.Portions.{portion-small}
-use Rattle.period_way.specs.one_factor.OneFactor.{ratingFound, Answerable, FoundRated}
+use Rattle.period_way.specs.one_factor.OneFactor.{ratingFound, Answerable, FoundRated, Multiple, RatedAs}
 use Rattle.bridge.proofs.Accepted.{lent-enough}
-use Rattle.refusals.proofs.Lent.{never-refused, lent-refused}
+use Rattle.refusals.proofs.Lent.{never-refused}
 use Rattle.period_way.proofs.one_factor.OneFactor.{call-rating, call-lent, settled-none, settled-some}
-use Rattle.period_way.proofs.one_factor.OneFactor.{factor-monic, factor-positive}
+use Rattle.period_way.proofs.one_factor.OneFactor.{factor-monic, factor-positive, refused-as, given-ten}
+use Rattle.period_way.proofs.one_factor.OneFactor.{given-eleven}
 
 -- The power found
 portionFound-yes :
@@ -76,89 +80,84 @@ portionFound-some F f v ts {r} e = go (annihilatesKnown F (product F ((f, v) ∷
     go true k = sym (portionFound-yes F f v ts k) ∙ e
     go false k = absurd (Option·none-ne-some r (sym (portionFound-no F f v ts k) ∙ e))
 
--- The call
-module _ (p : ℕ) (f : Polynomial) (u : ℕ) (ts : List ℕ) (answer work : ℕ) where
+-- The monic multiple f
+module _ (p : ℕ) (f : Polynomial) (u : ℕ) (ts : List ℕ) (answer work : ℕ) (x : Multiple p f ts) where
+  -- the result with it
+  abbrev result : Result (Rated PowerFigures)
+  result = portionAnswer p false false f u ts answer work
+
   -- f to the upper power does not annihilate the terms
   abbrev seventeen : Unit {0} → Bool
   seventeen _ = not (annihilatesKnown (prime p) (product (prime p) ((f, u) ∷ [])) ts)
 
   portion-settled :
-      ratePortion p f u ts answer work
+      result
       ≡ settle (portionChecks p f u ts answer work ++ ((17, seventeen) ∷ []))
       (λ _. bind (leastAt (prime p) ((f, u) ∷ []) ts 0) (powerRating (prime p) f))
-  unfolding ratePortion
+  unfolding portionAnswer
   portion-settled =
       ap (λ table. settle table (λ _. bind (leastAt (prime p) ((f, u) ∷ []) ts 0) (powerRating (prime p) f)))
       (portion-last p ts answer work f u)
 
-  module _ {v : Verdict} (e : numberIn v ≡ firstOf (portionChecks p f u ts answer work)) where
-    portion-early :
-        {x : Refusal}
-        → v ≡ Verdict.Refused x
-        → ratePortion p f u ts answer work ≡ refused (numberOf x)
-    portion-early q = portion-settled ∙ settle-early (portionChecks p f u ts answer work) _ _ e q
+  pub portion-prime : T (primeInRange p)
+  portion-prime = prime-accepted p (x .accepted .fieldExists)
+
+  moved : firstOf (portionRest p f u ts answer work) ≡ firstOf (portionChecks p f u ts answer work)
+  moved = sym (portion-rest p ts answer work (x .accepted .fieldExists) (x .countInRange) (x .termsInField) f
+      u)
+
+  module _ {v : Verdict} (k : numberIn v ≡ firstOf (portionRest p f u ts answer work)) where
+    portion-early : {r : Refusal} → v ≡ Verdict.Refused r → result ≡ refused (numberOf r)
+    portion-early q = portion-settled ∙ settle-early (portionChecks p f u ts answer work) _ _ (k ∙ moved) q
 
     module _ (q : v ≡ Verdict.Accepted) where
-      passes : Passes (portionChecks p f u ts answer work)
-      passes = verdict-passes (portionChecks p f u ts answer work) e q
-
-      pub portion-prime : T (primeInRange p)
-      unfolding portionChecks allButLast portionTable
-      portion-prime = prime-accepted p (passes .fieldExists)
-
-      portion-factor : Accepted p f
-      unfolding portionChecks allButLast portionTable
-      portion-factor =
-          record {
-            fieldExists = passes .fieldExists;
-            degreeInRange = passes .degreesInRange;
-            monicOver = passes .monic;
-          }
+      passes : Passes (portionRest p f u ts answer work)
+      passes = verdict-passes (portionRest p f u ts answer work) k q
 
       pub portion-lent : (4097 ≤ answer) × (8192 ≤ work)
-      unfolding portionChecks allButLast portionTable
+      unfolding portionRest powersTable lentTable
       portion-lent = lent-enough answer work (passes .lentEnough)
 
       accepted-portion : SetInput (prime p) (f ∷ []) (u ∷ []) ts
-      unfolding portionChecks allButLast portionTable named
+      unfolding portionRest powersTable lentTable named
       accepted-portion =
+          let a = x .accepted in
           record {
             factors =
-                single-factor (prime p) f (factor-monic portion-factor) (factor-positive portion-factor)
-                (accepted-irreducible p f (passes .fieldExists) (passes .degreesInRange) (passes .monic)
+                single-factor (prime p) f (factor-monic a) (factor-positive a)
+                (accepted-irreducible p f (a .fieldExists) (a .degreeInRange) (a .monicOver)
                 (passes .irreducible));
             eight = omega arith;
             uppers = passes .uppersInRange;
             enough = enough-accepted _ ts (passes .enoughTerms);
-            inField = terms-accepted p ts (passes .termsInField);
-            notMany = count-accepted (length ts) (passes .countInRange) .1;
+            inField = terms-accepted p ts (x .termsInField);
+            notMany = count-accepted (length ts) (x .countInRange) .1;
           }
 
       portion-least : (r : ℕ) × (leastAt (prime p) ((f, u) ∷ []) ts 0 ≡ some r)
       unfolding named
       portion-least =
-          let x =
+          let y =
           leastAt-exists (inRange-isField p portion-prime) ((f, u) ∷ [])
           (monics-nonempty (prime p) (named (f ∷ []) (u ∷ [])) (input-monics accepted-portion)) ts 0 in
-          (x .0, x .1)
+          (y .0, y .1)
 
-      portion-rating :
-          ratePortion p f u ts answer work ≡ ratingFound (prime p) f (portionFound (prime p) f u ts)
+      portion-rating : result ≡ ratingFound (prime p) f (portionFound (prime p) f u ts)
       portion-rating = go (annihilatesKnown (prime p) (product (prime p) ((f, u) ∷ [])) ts) refl
         where
           go :
               (b : Bool)
               → annihilatesKnown (prime p) (product (prime p) ((f, u) ∷ [])) ts ≡ b
-              → ratePortion p f u ts answer work ≡ ratingFound (prime p) f (portionFound (prime p) f u ts)
+              → result ≡ ratingFound (prime p) f (portionFound (prime p) f u ts)
           go false z =
               portion-settled
-              ∙ settled-none (prime p) f _ seventeen _ e q (ap not z)
+              ∙ settled-none (prime p) f _ seventeen _ (k ∙ moved) q (ap not z)
               ∙ ap (ratingFound (prime p) f) (sym (portionFound-no (prime p) f u ts z))
           go true z =
-              let (r, k) = portion-least in
+              let (r, l) = portion-least in
               portion-settled
-              ∙ settled-some (prime p) f _ seventeen _ e q (ap not z) k
-              ∙ ap (ratingFound (prime p) f) (sym (portionFound-yes (prime p) f u ts z ∙ k))
+              ∙ settled-some (prime p) f _ seventeen _ (k ∙ moved) q (ap not z) l
+              ∙ ap (ratingFound (prime p) f) (sym (portionFound-yes (prime p) f u ts z ∙ l))
 
       module _ {F : Field} (h : F ≡ prime p) where
         pub portion-input : SetInput F (f ∷ []) (u ∷ []) ts
@@ -168,27 +167,28 @@ module _ (p : ℕ) (f : Polynomial) (u : ℕ) (ts : List ℕ) (answer work : ℕ
             {found : Found} {w w′ : List ℕ}
             → PortionFound F f u ts w w′ found
             → Answerable F f (told found)
-        portion-answerable x =
+        portion-answerable y =
             record {
-              monic = rw h (factor-monic portion-factor);
-              degreeInRange = rw h (portion-factor .degreeInRange);
+              monic = rw h (factor-monic (x .accepted));
+              degreeInRange = rw h (x .accepted .degreeInRange);
               small =
                   λ r z. portion-small (inRange-isField p portion-prime) accepted-portion
                   (portionFound-some (prime p) f u ts
-                  (ap (λ (G : Field). portionFound G f u ts) (sym h) ∙ sym (x .power) ∙ z));
+                  (ap (λ (G : Field). portionFound G f u ts) (sym h) ∙ sym (y .power) ∙ z));
             }
 
-module _ (p : ℕ) (f : List ℕ) (u : ℕ) (ts answer work : List ℕ) {v : Verdict}
-    (e : numberIn v ≡ firstOf (portionChecks p f u ts (length answer) (length work))) where
+-- the inner function
+module _ (p : ℕ) (f : List ℕ) (u : ℕ) (ts answer work : List ℕ) (m : Multiple p f ts) {v : Verdict}
+    (e : numberIn v ≡ firstOf (portionRest p f u ts (length answer) (length work))) where
   pub portion-refused :
       {x : Refusal}
       → v ≡ Verdict.Refused x
-      → PortionCall p f u ts answer work (PowerRating.Refused x) answer work
-  unfolding toldPower figuresOf mapResult portionChecks allButLast portionTable holdsForSome
+      → RatedAs (portionAnswer p false false f u ts (length answer) (length work)) answer work
+      (PowerRating.Refused x) answer work
+  unfolding portionRest powersTable lentTable holdsForSome
   portion-refused q =
-      let z = portion-early p f u ts (length answer) (length work) e q in
-      let other = never-refused 17 (portionChecks p f u ts (length answer) (length work)) refl e q in
-      record { rating = sym (ap figuresOf z); lent = lent-refused z other }
+      refused-as (portion-early p f u ts (length answer) (length work) m e q)
+      (never-refused 17 (portionRest p f u ts (length answer) (length work)) refl e q)
 
   pub portion-rated :
       {F : Field} {found : Found} {r : PowerRating} {answer′ work′ : List ℕ}
@@ -196,12 +196,47 @@ module _ (p : ℕ) (f : List ℕ) (u : ℕ) (ts answer work : List ℕ) {v : Ver
       → F ≡ prime p
       → PortionFound F f u ts work work′ found
       → FoundRated F f (told found) answer r answer′
-      → PortionCall p f u ts answer work r answer′ work′
+      → RatedAs (portionAnswer p false false f u ts (length answer) (length work)) answer work r answer′ work′
   portion-rated q h x y =
-      let isPrime = portion-prime p f u ts (length answer) (length work) e q in
-      let z = portion-rating p f u ts (length answer) (length work) e q in
+      let isPrime = portion-prime p f u ts (length answer) (length work) m in
+      let z = portion-rating p f u ts (length answer) (length work) m e q in
       let k = x .power ∙ ap (λ (G : Field). portionFound G f u ts) h in
       record {
         rating = call-rating p f h k y z;
         lent = call-lent p f h k y z isPrime (x .work);
       }
+
+-- the call
+module _ (p : ℕ) (f : List ℕ) (u : ℕ) (ts answer work : List ℕ) {v : Verdict}
+    (e : numberIn v ≡ firstOf (givenTable p f ts)) where
+  pub given-refused :
+      {x : Refusal}
+      → v ≡ Verdict.Refused x
+      → PortionCall p f u ts answer work (PowerRating.Refused x) answer work
+  unfolding ratePortion portionAnswer givenTable termsTable oneFactorTable holdsForSome
+  given-refused q =
+      let g = monicMultiple (prime p) f in
+      let z =
+      ap
+      (λ table. settle table (λ _. bind (leastAt (prime p) ((g, u) ∷ []) ts 0) (powerRating (prime p) g)))
+      (portion-parts p ts (length answer) (length work) f g u)
+      ∙ settle-given (givenTable p f ts) _ _ e q in
+      let y = refused-as z (never-refused 17 (givenTable p f ts) refl e q) in
+      record { rating = y .rating; lent = y .lent }
+
+  pub given-rated :
+      {r : PowerRating} {answer′ work′ g : List ℕ}
+      → v ≡ Verdict.Accepted
+      → g ≡ monicMultiple (prime p) f
+      → RatedAs (portionAnswer p false false g u ts (length answer) (length work)) answer work r answer′ work′
+      → PortionCall p f u ts answer work r answer′ work′
+  unfolding ratePortion
+  given-rated {r} {answer′} {work′} q k x =
+      let same : portionAnswer p false false _ u ts (length answer) (length work)
+      ≡ ratePortion p f u ts (length answer) (length work) =
+      ap (λ (g : Polynomial). portionAnswer p false false g u ts (length answer) (length work)) k
+      ∙ sym
+      (ap₂ (λ a b. portionAnswer p a b (monicMultiple (prime p) f) u ts (length answer) (length work))
+      (given-ten p f ts e q) (given-eleven p f ts e q)) in
+      let y = subst (λ z. RatedAs z answer work r answer′ work′) same x in
+      record { rating = y .rating; lent = y .lent }

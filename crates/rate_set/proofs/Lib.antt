@@ -1,1 +1,3 @@
 pub mod SetWay
+pub mod Parts
+pub mod Given

@@ -1,7 +1,8 @@
 -- The set way, by its verdict, the powers that are found and the product that is written.
 --
---   set-refused      == refused by one of the conditions 6 to 16
---   set-prime, set-lent, set-input == what an accepted call may hand on
+--   refused-call     == a refusal by its number, and no powers
+--   set-refused      == the monic multiples are refused by one of the conditions 12 to 16
+--   set-lent, set-input == what an accepted call may hand on
 --   set-seventeen    == refused by 17
 --   set-powers-input == the powers that are found can be written as a product
 --   set-rated        == rated
@@ -19,25 +20,26 @@ use Rattle.meaning.specs.declared.Refusal.{Refusal}
 use Rattle.meaning.specs.declared.SetOutcome.{SetOutcome}
 use Rattle.meaning.specs.declared.SetRating.{SetRating}
 use Rattle.meaning.specs.Search.{holdsForSome}
-use Rattle.meaning.specs.Field.{Field, prime, primeInRange}
+use Rattle.meaning.specs.Field.{Field, prime}
 use Rattle.meaning.specs.Polynomial.{Polynomial, degree, product}
 use Rattle.meaning.specs.Sequence.{annihilatesKnown}
-use Rattle.meaning.specs.Conditions.{named, factorCountOutOfRange, isReducible, twoEqual, totalDegree}
+use Rattle.meaning.specs.Conditions.{named, factorCountOutOfRange, totalDegree}
 use Rattle.meaning.specs.Result.{Result, refused, answered, mapResult, firstOf, valueOf, Rated, figuresOf}
 use Rattle.meaning.specs.Result.{written, cleared}
-use Rattle.meaning.specs.Portion.{SetFigures, setPowers, setRating, setTable, setAnswer, rateSet, factorsOf}
+use Rattle.meaning.specs.Portion.{SetFigures, setPowers, setRating, setAnswer, factorsOf}
 use Rattle.meaning.specs.Answers.{numberOf, toldSet, setFiguresTold, padded, setPadded}
-use Rattle.meaning.specs.Calls.{LentAfter, SetCall}
+use Rattle.meaning.specs.Calls.{LentAfter}
 use Rattle.meaning.proofs.Passes.{Passes}
 use Rattle.bridge.proofs.Searches.{or-false, mapOption-some}
 use Rattle.bridge.proofs.Interpretation.{IsField}
-use Rattle.bridge.proofs.Accepted.{prime-accepted, count-accepted, terms-accepted, enough-accepted}
-use Rattle.bridge.proofs.Products.{monics-nonempty, length-named, factorsOf-named}
+use Rattle.bridge.proofs.Accepted.{count-accepted, terms-accepted, enough-accepted}
+use Rattle.bridge.proofs.Products.{monics-nonempty, factorsOf-named}
 use Rattle.bridge.proofs.Irreducibles.{accepted-factors}
 use Rattle.bridge.proofs.Portions.{setPowers-exists}
 use Rattle.refusals.specs.declared.Verdict.{Verdict}
-use Rattle.refusals.specs.Verdicts.{numberIn, allButLast, setChecks}
+use Rattle.refusals.specs.Verdicts.{numberIn, multiplesTable, powersTable, lentTable, setRest, setChecks}
 use Rattle.refusals.proofs.Settled.{verdict-passes, settle-early, settle-last, settle-over, set-last}
+use Rattle.refusals.proofs.Ways.{set-rest}
 use Rattle.powers.specs.product.Writing.{ProductInput, ProductWritten}
 use Rattle.set_way.specs.declared.SetPowers.{SetPowers}
 use Rattle.set_way.specs.actions.SetActions.{SetInput}
@@ -48,14 +50,15 @@ use Rattle.set_way.proofs.Sizes.{set-count, set-product, named-padded}
 use Rattle.bridge.proofs.Accepted.{lent-enough}
 use Rattle.refusals.proofs.Lent.{names, never-refused, lent-refused, lent-seventeen}
 use Rattle.refusals.proofs.Lent.{lent-rated}
+use Rattle.rate_set.specs.Multiples.{Multiples, SetRatedAs}
 
 -- A refusal tells its number and no powers.
-refused-call :
-    {p : ℕ} {fs : List Polynomial} {us ts answer work answer′ work′ : List ℕ} {x : Refusal} {s : SetRating}
+pub refused-call :
+    {result : Result (Rated SetFigures)} {answer work answer′ work′ : List ℕ} {x : Refusal} {s : SetRating}
     → (s .outcome ≡ SetOutcome.Refused x) × (s .powers ≡ replicate 8 0)
-    → rateSet p fs us ts (length answer) (length work) ≡ refused (numberOf x)
-    → LentAfter (rateSet p fs us ts (length answer) (length work)) answer work answer′ work′
-    → SetCall p fs us ts answer work s answer′ work′
+    → result ≡ refused (numberOf x)
+    → LentAfter result answer work answer′ work′
+    → SetRatedAs result answer work s answer′ work′
 unfolding toldSet mapResult figuresOf setPadded padded
 refused-call (o, z) e l =
     record {
@@ -76,18 +79,20 @@ answer-polynomial F fs us rs size =
     ∙ ap (λ gs. product F (named gs rs)) (sym (factorsOf-named fs us))
 
 rated-call :
-    {p : ℕ} {fs : List Polynomial} {us ts answer work : List ℕ} {F : Field} (rs : List ℕ)
+    {result : Result (Rated SetFigures)} {fs : List Polynomial} (us : List ℕ) {answer work : List ℕ}
+    {F : Field}
+    (rs : List ℕ)
     {powers answer′ work′ : List ℕ} {n k : ℕ} {s : SetRating}
     → (s .outcome ≡ SetOutcome.Rated n k) × (s .powers ≡ powers)
     → length rs ≡ length fs
-    → rateSet p fs us ts (length answer) (length work) ≡ answered (setRating F (named fs us) rs)
+    → result ≡ answered (setRating F (named fs us) rs)
     → powers ≡ padded rs
     → k ≡ length fs
     → ProductWritten F fs (padded rs) answer answer′ n
     → work′ ≡ cleared work
-    → SetCall p fs us ts answer work s answer′ work′
+    → SetRatedAs result answer work s answer′ work′
 unfolding toldSet setFiguresTold mapResult figuresOf setPadded setRating
-rated-call {fs = fs} {us = us} {answer = answer} {F = F} rs {n = n} (o, z) size e i k y w =
+rated-call {fs = fs} us {answer = answer} {F = F} rs {n = n} (o, z) size e i k y w =
     let g = answer-polynomial F fs us rs size in
     record {
       rating =
@@ -101,109 +106,116 @@ rated-call {fs = fs} {us = us} {answer = answer} {F = F} rs {n = n} (o, z) size 
 
 no-seventeen :
     (p : ℕ) (fs : List Polynomial) (us ts : List ℕ) (answer work : ℕ)
-    → names 17 (setChecks p fs us ts answer work) ≡ false
-unfolding setChecks allButLast setTable holdsForSome
+    → names 17 (setRest p fs us ts answer work) ≡ false
+unfolding setRest multiplesTable powersTable lentTable holdsForSome
 no-seventeen p fs us ts answer work = refl
 
-module _ (p : ℕ) (fs : List Polynomial) (us ts : List ℕ) (answer work : ℕ) {v : Verdict}
-    (e : numberIn v ≡ firstOf (setChecks p fs us ts answer work)) where
-  set-early : {x : Refusal} → v ≡ Verdict.Refused x → rateSet p fs us ts answer work ≡ refused (numberOf x)
-  unfolding rateSet setAnswer
-  set-early q = rw (set-last p ts answer work fs us) (settle-early _ _ _ e q)
+module _ (p : ℕ) (fs : List Polynomial) (us ts : List ℕ) (answer work : ℕ) (m : Multiples p fs ts) where
+  -- the result with the monic multiples
+  abbrev result : Result (Rated SetFigures)
+  result = setAnswer p false false (named fs us) ts answer work
 
-  module _ (q : v ≡ Verdict.Accepted) where
-    passes : Passes (setChecks p fs us ts answer work)
-    passes = verdict-passes _ e q
+  moved : firstOf (setRest p fs us ts answer work) ≡ firstOf (setChecks p fs us ts answer work)
+  moved =
+      sym
+      (set-rest p ts answer work (m .fieldExists) (m .countInRange) (m .termsInField) fs us (m .factorCount))
 
-    pub set-prime : T (primeInRange p)
-    unfolding setChecks allButLast setTable
-    set-prime = prime-accepted p (passes .fieldExists)
+  module _ {v : Verdict} (k : numberIn v ≡ firstOf (setRest p fs us ts answer work)) where
+    set-early : {x : Refusal} → v ≡ Verdict.Refused x → result ≡ refused (numberOf x)
+    unfolding setAnswer
+    set-early q = rw (set-last p ts answer work fs us) (settle-early _ _ _ (k ∙ moved) q)
 
-    pub set-lent : (4097 ≤ answer) × (8192 ≤ work)
-    unfolding setChecks allButLast setTable
-    set-lent = lent-enough answer work (passes .lentEnough)
+    module _ (q : v ≡ Verdict.Accepted) where
+      passes : Passes (setRest p fs us ts answer work)
+      passes = verdict-passes _ k q
 
-    accepted-input : SetInput (prime p) fs us ts
-    unfolding setChecks allButLast setTable factorCountOutOfRange
-    accepted-input =
-        let n = length (named fs us) in
-        let few = ltb-false 8 n (or-false (eqb n 0) (ltb 8 n) (passes .factorCount) .1) in
-        record {
-          factors =
-              accepted-factors p fs (passes .fieldExists) (passes .degreesInRange) (passes .monic)
-              (ap (holdsForSome (isReducible p)) (sym (factorsOf-named fs us)) ∙ passes .irreducible)
-              (ap twoEqual (sym (factorsOf-named fs us)) ∙ passes .different);
-          eight = omega (arith, length-named fs us, few);
-          uppers = passes .uppersInRange;
-          enough = enough-accepted (totalDegree (named fs us)) ts (passes .enoughTerms);
-          inField = terms-accepted p ts (passes .termsInField);
-          notMany = count-accepted (length ts) (passes .countInRange) .1;
-        }
+      pub set-lent : (4097 ≤ answer) × (8192 ≤ work)
+      unfolding setRest multiplesTable powersTable lentTable
+      set-lent = lent-enough answer work (passes .lentEnough)
 
-    not-annihilated :
-        annihilatesKnown (prime p) (product (prime p) (named fs us)) ts ≡ false
-        → rateSet p fs us ts answer work ≡ refused 17
-    unfolding rateSet setAnswer
-    not-annihilated h = rw (set-last p ts answer work fs us) (settle-last _ _ _ e q (ap not h))
+      accepted-input : SetInput (prime p) fs us ts
+      unfolding setRest multiplesTable powersTable lentTable factorCountOutOfRange
+      accepted-input =
+          let n = length fs in
+          let few = ltb-false 8 n (or-false (eqb n 0) (ltb 8 n) (m .factorCount) .1) in
+          record {
+            factors =
+                accepted-factors p fs (m .fieldExists) (m .degreesInRange) (m .monic) (passes .irreducible)
+                (passes .different);
+            eight = few;
+            uppers = passes .uppersInRange;
+            enough = enough-accepted (totalDegree (named fs us)) ts (passes .enoughTerms);
+            inField = terms-accepted p ts (m .termsInField);
+            notMany = count-accepted (length ts) (m .countInRange) .1;
+          }
 
-    annihilated :
-        {rs : List ℕ}
-        → annihilatesKnown (prime p) (product (prime p) (named fs us)) ts ≡ true
-        → setPowers (prime p) (named fs us) ts ≡ some rs
-        → rateSet p fs us ts answer work ≡ answered (setRating (prime p) (named fs us) rs)
-    unfolding rateSet setAnswer valueOf
-    annihilated h i =
-        rw (set-last p ts answer work fs us)
-        (settle-over _ _ _ e q (ap not h) ∙ ap valueOf (mapOption-some (setRating (prime p) (named fs us)) i))
+      not-annihilated :
+          annihilatesKnown (prime p) (product (prime p) (named fs us)) ts ≡ false
+          → result ≡ refused 17
+      unfolding setAnswer
+      not-annihilated h = rw (set-last p ts answer work fs us) (settle-last _ _ _ (k ∙ moved) q (ap not h))
 
-    -- the field as the code has it
-    module _ {F : Field} (h : F ≡ prime p) where
-      pub set-input : SetInput F fs us ts
-      set-input = subst (λ G. SetInput G fs us ts) (sym h) accepted-input
+      annihilated :
+          {rs : List ℕ}
+          → annihilatesKnown (prime p) (product (prime p) (named fs us)) ts ≡ true
+          → setPowers (prime p) (named fs us) ts ≡ some rs
+          → result ≡ answered (setRating (prime p) (named fs us) rs)
+      unfolding setAnswer valueOf
+      annihilated h i =
+          rw (set-last p ts answer work fs us)
+          (settle-over _ _ _ (k ∙ moved) q (ap not h)
+          ∙ ap valueOf (mapOption-some (setRating (prime p) (named fs us)) i))
 
-      module _ (I : IsField F) {r : SetPowers} {w w′ : List ℕ} (y : SetFound F fs us ts w w′ r) where
-        powers-exist : (rs : List ℕ) × (setPowers F (named fs us) ts ≡ some rs)
-        powers-exist =
-            setPowers-exists I (named fs us) (monics-nonempty F (named fs us) (input-monics set-input)) ts
+      -- the field as the code has it
+      module _ {F : Field} (h : F ≡ prime p) where
+        pub set-input : SetInput F fs us ts
+        set-input = subst (λ G. SetInput G fs us ts) (sym h) accepted-input
 
-        decided : annihilatesKnown (prime p) (product (prime p) (named fs us)) ts ≡ r .annihilated
-        decided =
-            sym (answer-annihilated I set-input y
-            ∙ ap (λ G. annihilatesKnown G (product G (named fs us)) ts) h)
+        module _ (I : IsField F) {r : SetPowers} {w w′ : List ℕ} (y : SetFound F fs us ts w w′ r) where
+          powers-exist : (rs : List ℕ) × (setPowers F (named fs us) ts ≡ some rs)
+          powers-exist =
+              setPowers-exists I (named fs us) (monics-nonempty F (named fs us) (input-monics set-input)) ts
 
-        pub set-powers-input : r .annihilated ≡ true → ProductInput F fs (r .powers)
-        set-powers-input n =
-            let (rs, s) = powers-exist in
-            subst (ProductInput F fs) (sym (answer-powers I set-input y n s)) (set-product I set-input s)
+          decided : annihilatesKnown (prime p) (product (prime p) (named fs us)) ts ≡ r .annihilated
+          decided =
+              sym (answer-annihilated I set-input y
+              ∙ ap (λ G. annihilatesKnown G (product G (named fs us)) ts) h)
 
-module _ (p : ℕ) (fs : List Polynomial) (us ts answer work : List ℕ) {v : Verdict}
-    (e : numberIn v ≡ firstOf (setChecks p fs us ts (length answer) (length work))) where
+          pub set-powers-input : r .annihilated ≡ true → ProductInput F fs (r .powers)
+          set-powers-input n =
+              let (rs, s) = powers-exist in
+              subst (ProductInput F fs) (sym (answer-powers I set-input y n s)) (set-product I set-input s)
+
+module _ (p : ℕ) (fs : List Polynomial) (us ts answer work : List ℕ) (m : Multiples p fs ts)
+    {v : Verdict} (e : numberIn v ≡ firstOf (setRest p fs us ts (length answer) (length work))) where
   pub set-refused :
       {x : Refusal} {s : SetRating}
       → v ≡ Verdict.Refused x
       → (s .outcome ≡ SetOutcome.Refused x) × (s .powers ≡ replicate 8 0)
-      → SetCall p fs us ts answer work s answer work
+      → SetRatedAs (setAnswer p false false (named fs us) ts (length answer) (length work)) answer work s
+      answer work
   set-refused q o =
-      let k = set-early p fs us ts (length answer) (length work) e q in
+      let k = set-early p fs us ts (length answer) (length work) m e q in
       refused-call o k
       (lent-refused k (never-refused 17 _ (no-seventeen p fs us ts (length answer) (length work)) e q))
 
   module _ (q : v ≡ Verdict.Accepted) {F : Field} (h : F ≡ prime p) (I : IsField F) {r : SetPowers}
       {work′ : List ℕ} (y : SetFound F fs us ts work work′ r) where
     input : SetInput F fs us ts
-    input = set-input p fs us ts (length answer) (length work) e q h
+    input = set-input p fs us ts (length answer) (length work) m e q h
 
     tried : annihilatesKnown (prime p) (product (prime p) (named fs us)) ts ≡ r .annihilated
-    tried = decided p fs us ts (length answer) (length work) e q h I y
+    tried = decided p fs us ts (length answer) (length work) m e q h I y
 
     pub set-seventeen :
         {s : SetRating}
         → r .annihilated ≡ false
         → (s .outcome ≡ SetOutcome.Refused Refusal.NotAnnihilated) × (s .powers ≡ replicate 8 0)
-        → SetCall p fs us ts answer work s answer work′
+        → SetRatedAs (setAnswer p false false (named fs us) ts (length answer) (length work)) answer work s
+        answer work′
     unfolding numberOf
     set-seventeen n o =
-        let k = not-annihilated p fs us ts (length answer) (length work) e q (tried ∙ n) in
+        let k = not-annihilated p fs us ts (length answer) (length work) m e q (tried ∙ n) in
         refused-call o k (lent-seventeen k (y .work))
 
     pub set-rated :
@@ -212,14 +224,15 @@ module _ (p : ℕ) (fs : List Polynomial) (us ts answer work : List ℕ) {v : Ve
         → k ≡ length fs
         → ProductWritten F fs (r .powers) answer answer′ d
         → (t .outcome ≡ SetOutcome.Rated d k) × (t .powers ≡ r .powers)
-        → SetCall p fs us ts answer work t answer′ work′
+        → SetRatedAs (setAnswer p false false (named fs us) ts (length answer) (length work)) answer work t
+        answer′ work′
     set-rated {answer′} {d} n k z o =
-        let (rs, s) = powers-exist p fs us ts (length answer) (length work) e q h I y in
+        let (rs, s) = powers-exist p fs us ts (length answer) (length work) m e q h I y in
         let i = answer-powers I input y n s in
-        rated-call rs
+        rated-call us rs
         o
         (set-count I input s)
-        (annihilated p fs us ts (length answer) (length work) e q (tried ∙ n)
+        (annihilated p fs us ts (length answer) (length work) m e q (tried ∙ n)
         (ap (λ G. setPowers G (named fs us) ts) (sym h) ∙ s)
         ∙ ap (λ G. answered (setRating G (named fs us) rs)) (sym h))
         i

@@ -2,7 +2,8 @@
 -- the call meets 17.
 --
 --   verdict-passes   == an accepted call meets no condition of the table
---   settle-…         == the result of the call: for a whole table, and for one whose last condition is open
+--   settle-…         == the result of the call: for a whole table, for one of which what is given is refused,
+--                       and for one whose last condition is open
 --   period-last, portion-last, set-last == the tables of the three ways end with 17
 -- Assumes nothing.
 use Prim.Native.Nat.{ℕ}
@@ -11,11 +12,11 @@ use mathlib.Core.Bool.{true, false, not}
 use mathlib.Core.List.{List, [], _∷_, _++_}
 use mathlib.Core.Option.{Option}
 use Rattle.meaning.specs.declared.Refusal.{Refusal}
-use Rattle.meaning.specs.Search.{holdsForSome, isNone}
+use Rattle.meaning.specs.Search.{isNone}
 use Rattle.meaning.specs.Field.{prime}
 use Rattle.meaning.specs.Polynomial.{Polynomial, product}
 use Rattle.meaning.specs.Sequence.{annihilatesKnown}
-use Rattle.meaning.specs.Conditions.{named, factorDegreeOutOfRange, notMonic}
+use Rattle.meaning.specs.Conditions.{named}
 use Rattle.meaning.specs.Result.{refused, Check, firstOf, settle, valueOf}
 use Rattle.meaning.specs.Period.{periodTable, periodPower}
 use Rattle.meaning.specs.Portion.{portionTable, setTable}
@@ -49,6 +50,14 @@ module _ {A : Type 0} (table : List Check) (v : Unit {0} → Option A) {r : Verd
   unfolding numberIn
   settle-accepted q = settle-none table v (sym e ∙ ap numberIn q)
 
+-- a table that begins with A, by the verdict on A
+pub settle-given : {A : Type 0} (first rest : List Check) (v : Unit {0} → Option A)
+    {r : Verdict} {x : Refusal}
+    → numberIn r ≡ firstOf first
+    → r ≡ Verdict.Refused x
+    → settle (first ++ rest) v ≡ refused (numberOf x)
+settle-given first rest v {x = x} e q = settle-some _ v x (refused-before first rest e q)
+
 -- all of a table but its last condition c
 module _ {A : Type 0} (table : List Check) (c : Check) (v : Unit {0} → Option A) {r : Verdict}
     (e : numberIn r ≡ firstOf table) where
@@ -66,28 +75,22 @@ module _ {A : Type 0} (table : List Check) (c : Check) (v : Unit {0} → Option 
       settle-none _ v (accepted-before table (c ∷ []) e q ∙ first-skip c [] refl h ∙ sym first-nowhere)
 
 module _ (p : ℕ) (ts : List ℕ) (answer work : ℕ) where
-  pub period-last : (f : Polynomial)
-      → periodTable p (factorDegreeOutOfRange (prime p) f) (notMonic (prime p) f) f ts answer work
-      ≡ periodChecks p f ts answer work ++ ((17, λ _. isNone (periodPower (prime p) f ts)) ∷ [])
+  pub period-last : (g : Polynomial)
+      → periodTable p false false g ts answer work
+      ≡ periodChecks p g ts answer work ++ ((17, λ _. isNone (periodPower (prime p) g ts)) ∷ [])
   unfolding periodTable periodChecks allButLast
-  period-last f = refl
+  period-last g = refl
 
-  pub portion-last : (f : Polynomial) (v : ℕ)
-      → portionTable p f v ts answer work
-      ≡ portionChecks p f v ts answer work
-      ++ ((17, λ _. not (annihilatesKnown (prime p) (product (prime p) ((f, v) ∷ [])) ts)) ∷ [])
+  pub portion-last : (g : Polynomial) (v : ℕ)
+      → portionTable p false false g v ts answer work
+      ≡ portionChecks p g v ts answer work
+      ++ ((17, λ _. not (annihilatesKnown (prime p) (product (prime p) ((g, v) ∷ [])) ts)) ∷ [])
   unfolding portionTable portionChecks allButLast
-  portion-last f v = refl
+  portion-last g v = refl
 
-  pub set-last : (fs : List Polynomial) (us : List ℕ)
-      → setTable p
-      (holdsForSome (factorDegreeOutOfRange (prime p)) fs)
-      (holdsForSome (notMonic (prime p)) fs)
-      (named fs us)
-      ts
-      answer
-      work
-      ≡ setChecks p fs us ts answer work
-      ++ ((17, λ _. not (annihilatesKnown (prime p) (product (prime p) (named fs us)) ts)) ∷ [])
+  pub set-last : (gs : List Polynomial) (us : List ℕ)
+      → setTable p false false (named gs us) ts answer work
+      ≡ setChecks p gs us ts answer work
+      ++ ((17, λ _. not (annihilatesKnown (prime p) (product (prime p) (named gs us)) ts)) ∷ [])
   unfolding setTable setChecks allButLast
-  set-last fs us = refl
+  set-last gs us = refl

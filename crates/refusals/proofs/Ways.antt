@@ -1,33 +1,95 @@
--- The tables of the three ways by their parts.
+-- The tables of the three ways by their parts: what is given, then the rest, then 17.
 --
---   period-parts, portion-parts, set-parts == the terms, then the factors, then the rest
+--   period-parts, portion-parts, set-parts == the table for a factor, or factors, and what stands for them
+--   period-rest, portion-rest, set-rest == where 6 to 11 pass, the rest decides all but 17
 -- Assumes nothing.
 use Prim.Native.Nat.{ℕ}
-use mathlib.Core.Path.{_≡_, refl}
+use mathlib.Core.Path.{_≡_, refl, sym, ap, _∙_}
+use mathlib.Core.Bool.{Bool, false, not}
 use mathlib.Core.List.{List, [], _∷_, _++_}
-use Rattle.meaning.specs.Polynomial.{Polynomial}
-use Rattle.meaning.specs.Conditions.{named}
-use Rattle.meaning.specs.Period.{periodTable}
+use lib.ListN.{length}
+use Rattle.meaning.specs.Search.{holdsForSome, isNone}
+use Rattle.meaning.specs.Field.{prime}
+use Rattle.meaning.specs.Polynomial.{Polynomial, product}
+use Rattle.meaning.specs.Sequence.{annihilatesKnown}
+use Rattle.meaning.specs.Result.{Check, firstOf}
+use Rattle.meaning.specs.Conditions.{named, notPrime, countOutOfRange, termOutOfField, factorCountOutOfRange}
+use Rattle.meaning.specs.Conditions.{factorDegreeOutOfRange, coefficientOutOfRange}
+use Rattle.meaning.specs.Period.{periodTable, periodPower}
 use Rattle.meaning.specs.Portion.{portionTable, setTable}
+use Rattle.meaning.proofs.Tables.{firstOf-skip}
 use Rattle.bridge.proofs.Products.{length-named, factorsOf-named}
-use Rattle.refusals.specs.Verdicts.{termsTable, oneFactorTable, factorsTable, powersTable, lentTable}
-use Rattle.refusals.specs.Verdicts.{allButLast, periodChecks, portionChecks, setChecks}
+use Rattle.refusals.specs.Verdicts.{termsTable, oneFactorTable, factorsTable, multiplesTable}
+use Rattle.refusals.specs.Verdicts.{powersTable}
+use Rattle.refusals.specs.Verdicts.{lentTable, allButLast, givenTable, givenSetTable, periodRest}
+use Rattle.refusals.specs.Verdicts.{portionRest, setRest, periodChecks, portionChecks, setChecks}
 
 module _ (p : ℕ) (ts : List ℕ) (answer work : ℕ) where
-  pub period-parts : (f : Polynomial)
-      → periodChecks p f ts answer work ≡ termsTable p ts ++ (oneFactorTable p f ++ lentTable answer work)
-  unfolding periodChecks allButLast periodTable termsTable oneFactorTable lentTable
-  period-parts f = refl
+  pub period-parts : (f g : Polynomial)
+      → periodTable p (factorDegreeOutOfRange (prime p) f) (coefficientOutOfRange (prime p) f) g ts answer
+      work
+      ≡ givenTable p f ts
+      ++ (periodRest p g answer work ++ ((17, λ _. isNone (periodPower (prime p) g ts)) ∷ []))
+  unfolding periodTable givenTable termsTable oneFactorTable periodRest lentTable
+  period-parts f g = refl
 
-  pub portion-parts : (f : Polynomial) (v : ℕ)
-      → portionChecks p f v ts answer work
-      ≡ termsTable p ts ++ (oneFactorTable p f ++ powersTable ((f, v) ∷ []) ts answer work)
-  unfolding portionChecks allButLast portionTable termsTable oneFactorTable powersTable lentTable
-  portion-parts f v = refl
+  pub portion-parts : (f g : Polynomial) (v : ℕ)
+      → portionTable p (factorDegreeOutOfRange (prime p) f) (coefficientOutOfRange (prime p) f) g v ts answer
+      work
+      ≡ givenTable p f ts
+      ++ (portionRest p g v ts answer work
+      ++ ((17, λ _. not (annihilatesKnown (prime p) (product (prime p) ((g, v) ∷ [])) ts)) ∷ []))
+  unfolding portionTable givenTable termsTable oneFactorTable portionRest powersTable lentTable
+  portion-parts f g v = refl
 
   -- 9, 12 and 13 of the set way look at the factors with their upper powers
-  pub set-parts : (fs : List Polynomial) (us : List ℕ)
-      → setChecks p fs us ts answer work
-      ≡ termsTable p ts ++ (factorsTable p fs ++ powersTable (named fs us) ts answer work)
-  unfolding setChecks allButLast setTable termsTable factorsTable powersTable lentTable
-  set-parts fs us = simp (length-named, factorsOf-named)
+  pub set-parts : (fs gs : List Polynomial) (us : List ℕ)
+      → length gs ≡ length fs
+      → setTable p
+      (holdsForSome (factorDegreeOutOfRange (prime p)) fs)
+      (holdsForSome (coefficientOutOfRange (prime p)) fs)
+      (named gs us)
+      ts
+      answer
+      work
+      ≡ givenSetTable p fs ts
+      ++ (setRest p gs us ts answer work
+      ++ ((17, λ _. not (annihilatesKnown (prime p) (product (prime p) (named gs us)) ts)) ∷ []))
+  unfolding setTable givenSetTable termsTable factorsTable setRest multiplesTable powersTable lentTable
+  set-parts fs gs us e = simp (length-named, factorsOf-named, e)
+
+  -- where 6, 7, 8 and, of a set, 9 pass
+  module _ (six : notPrime p ≡ false) (seven : countOutOfRange (length ts) ≡ false)
+      (eight : termOutOfField (prime p) ts ≡ false) where
+    pub period-rest : (g : Polynomial)
+        → firstOf (periodChecks p g ts answer work) ≡ firstOf (periodRest p g answer work)
+    unfolding periodChecks allButLast periodTable periodRest lentTable
+    period-rest g =
+        firstOf-skip _ _ six
+        ∙ firstOf-skip _ _ seven
+        ∙ firstOf-skip _ _ eight
+        ∙ firstOf-skip _ _ refl
+        ∙ firstOf-skip _ _ refl
+
+    pub portion-rest : (g : Polynomial) (v : ℕ)
+        → firstOf (portionChecks p g v ts answer work) ≡ firstOf (portionRest p g v ts answer work)
+    unfolding portionChecks allButLast portionTable portionRest powersTable lentTable
+    portion-rest g v =
+        firstOf-skip _ _ six
+        ∙ firstOf-skip _ _ seven
+        ∙ firstOf-skip _ _ eight
+        ∙ firstOf-skip _ _ refl
+        ∙ firstOf-skip _ _ refl
+
+    pub set-rest : (gs : List Polynomial) (us : List ℕ)
+        → factorCountOutOfRange (length gs) ≡ false
+        → firstOf (setChecks p gs us ts answer work) ≡ firstOf (setRest p gs us ts answer work)
+    unfolding setChecks allButLast setTable setRest multiplesTable powersTable lentTable
+    set-rest gs us nine =
+        firstOf-skip _ _ six
+        ∙ firstOf-skip _ _ seven
+        ∙ firstOf-skip _ _ eight
+        ∙ firstOf-skip _ _ (ap factorCountOutOfRange (length-named gs us) ∙ nine)
+        ∙ firstOf-skip _ _ refl
+        ∙ firstOf-skip _ _ refl
+        ∙ simp (factorsOf-named)

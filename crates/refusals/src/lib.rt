@@ -4,9 +4,9 @@ mod factors;
 pub mod numbering;
 pub mod ratings;
 
+use conditions::lists::coefficient_out_of_range;
 use conditions::lists::continuation_degree_out_of_range;
 use conditions::lists::factor_degree_out_of_range;
-use conditions::lists::not_monic;
 use conditions::lists::start_unlike_degree;
 use conditions::lists::term_out_of_field;
 use conditions::numbers::count_out_of_range;
@@ -73,8 +73,8 @@ pub fn irreducible_verdict(p: u64, factor: &[u8]) -> Verdict
     if factor_degree_out_of_range(p, factor) {
         return Verdict::Refused(Refusal::DegreeOutOfRange);
     }
-    if not_monic(p, factor) {
-        return Verdict::Refused(Refusal::NotMonic);
+    if coefficient_out_of_range(p, factor) {
+        return Verdict::Refused(Refusal::CoefficientOutOfRange);
     }
     Verdict::Accepted
 }
@@ -102,8 +102,8 @@ pub fn continue_verdict(
     if continuation_degree_out_of_range(polynomial) {
         return Verdict::Refused(Refusal::DegreeOutOfRange);
     }
-    if not_monic(p, polynomial) {
-        return Verdict::Refused(Refusal::NotMonic);
+    if coefficient_out_of_range(p, polynomial) {
+        return Verdict::Refused(Refusal::CoefficientOutOfRange);
     }
     if start_unlike_degree(polynomial, start) {
         return Verdict::Refused(Refusal::TooFewTerms);

@@ -18,7 +18,7 @@ pub fn refusal_number(r: Refusal) -> u64
         Refusal::TermOutOfField => 8,
         Refusal::FactorCount => 9,
         Refusal::DegreeOutOfRange => 10,
-        Refusal::NotMonic => 11,
+        Refusal::CoefficientOutOfRange => 11,
         Refusal::Reducible => 12,
         Refusal::EqualFactors => 13,
         Refusal::UpperPowers => 14,

@@ -1,19 +1,22 @@
-// The conditions of the period, portion and set ways in their order, all but the last, 17.
+// The conditions of the period, portion and set ways in their order, all but the last, 17: those on what is
+// given, and then those on the monic multiples for which the factors stand.
 use crate::Verdict;
 use crate::factors::factor_verdict;
 use crate::factors::factors_verdict;
+use crate::factors::multiples_verdict;
 use crate::lent_verdict;
 use crate::terms_verdict;
 use conditions::factors::upper_powers_out_of_range;
 use conditions::lists::fewer_terms_than;
+use conditions::lists::reducible;
 use meaning::Refusal;
 use poly::factors::total_degree;
 ghost use mathlib.Core.Path.{_≡_};
 ghost use Rattle.meaning.specs.Result.{firstOf};
 ghost use Rattle.meaning.specs.Conditions.{named};
 ghost use Rattle.meaning.specs.Slices.{listsOf};
-ghost use Rattle.refusals.specs.Verdicts.{numberIn, powersTable, periodChecks, portionChecks};
-ghost use Rattle.refusals.specs.Verdicts.{setChecks};
+ghost use Rattle.refusals.specs.Verdicts.{numberIn, powersTable, givenTable, givenSetTable};
+ghost use Rattle.refusals.specs.Verdicts.{periodRest, portionRest, setRest};
 
 // What the upper powers, the number of terms and the lent bytes decide: 14, 15, 16.
 fn powers_verdict(
@@ -36,59 +39,70 @@ fn powers_verdict(
     lent_verdict(answer, work)
 }
 
-// The period way: 6, 7, 8, 10, 11, 12, 16.
-pub fn period_verdict(p: u64, factor: &[u8], terms: &[u8], answer: usize, work: usize) -> Verdict
-    ensures { λ r. ⌜ numberIn r
-        ≡ firstOf (periodChecks p (now (factor .entry)) (now (terms .entry)) answer work) ⌝ }
+// The terms and one factor as they are given: 6, 7, 8, 10, 11.
+pub fn given_verdict(p: u64, factor: &[u8], terms: &[u8]) -> Verdict
+    ensures { λ r. ⌜ numberIn r ≡ firstOf (givenTable p (now (factor .entry)) (now (terms .entry))) ⌝ }
 {
     match terms_verdict(p, terms) {
         Verdict::Refused(r) => Verdict::Refused(r),
-        Verdict::Accepted => match factor_verdict(p, factor) {
-            Verdict::Refused(r) => Verdict::Refused(r),
-            Verdict::Accepted => lent_verdict(answer, work),
-        },
+        Verdict::Accepted => factor_verdict(p, factor),
     }
 }
 
-// The portion way: 6, 7, 8, 10, 11, 12, 14, 15, 16.
+// The terms and several factors as they are given: 6 to 11.
+pub fn given_set_verdict(p: u64, factors: &[&[u8]], terms: &[u8]) -> Verdict
+    ensures { λ r. ⌜ numberIn r
+        ≡ firstOf (givenSetTable p (listsOf (now (factors .entry))) (now (terms .entry))) ⌝ }
+{
+    match terms_verdict(p, terms) {
+        Verdict::Refused(r) => Verdict::Refused(r),
+        Verdict::Accepted => factors_verdict(p, factors),
+    }
+}
+
+// The period way after that: 12, 16.
+pub fn period_verdict(p: u64, multiple: &[u8], answer: usize, work: usize) -> Verdict
+    ensures { λ r. ⌜ numberIn r ≡ firstOf (periodRest p (now (multiple .entry)) answer work) ⌝ }
+{
+    if reducible(p, multiple) {
+        return Verdict::Refused(Refusal::Reducible);
+    }
+    lent_verdict(answer, work)
+}
+
+// The portion way after that: 12, 14, 15, 16.
 pub fn portion_verdict(
     p: u64,
-    factor: &[u8],
+    multiple: &[u8],
     upper: u64,
     terms: &[u8],
     answer: usize,
     work: usize,
 ) -> Verdict
     ensures { λ r. ⌜ numberIn r
-        ≡ firstOf (portionChecks p (now (factor .entry)) upper (now (terms .entry)) answer work) ⌝ }
+        ≡ firstOf (portionRest p (now (multiple .entry)) upper (now (terms .entry)) answer work) ⌝ }
 {
-    match terms_verdict(p, terms) {
-        Verdict::Refused(r) => Verdict::Refused(r),
-        Verdict::Accepted => match factor_verdict(p, factor) {
-            Verdict::Refused(r) => Verdict::Refused(r),
-            Verdict::Accepted => powers_verdict(&[factor], &[upper], terms, answer, work),
-        },
+    if reducible(p, multiple) {
+        return Verdict::Refused(Refusal::Reducible);
     }
+    powers_verdict(&[multiple], &[upper], terms, answer, work)
 }
 
-// The set way: 6 to 16.
+// The set way after that: 12 to 16.
 pub fn set_verdict(
     p: u64,
-    factors: &[&[u8]],
+    multiples: &[&[u8]],
     uppers: &[u64],
     terms: &[u8],
     answer: usize,
     work: usize,
 ) -> Verdict
     ensures { λ r. ⌜ numberIn r
-        ≡ firstOf (setChecks p (listsOf (now (factors .entry))) (now (uppers .entry)) (now (terms .entry))
+        ≡ firstOf (setRest p (listsOf (now (multiples .entry))) (now (uppers .entry)) (now (terms .entry))
         answer work) ⌝ }
 {
-    match terms_verdict(p, terms) {
+    match multiples_verdict(p, multiples) {
         Verdict::Refused(r) => Verdict::Refused(r),
-        Verdict::Accepted => match factors_verdict(p, factors) {
-            Verdict::Refused(r) => Verdict::Refused(r),
-            Verdict::Accepted => powers_verdict(factors, uppers, terms, answer, work),
-        },
+        Verdict::Accepted => powers_verdict(multiples, uppers, terms, answer, work),
     }
 }

@@ -4,12 +4,12 @@
 --   …-sized          == its polynomial and its lent bytes have their sizes
 --   …-answers        == the promise
 -- Assumes nothing.
-use Prim.Native.Nat.{ℕ, suc, _-_, _≤_}
+use Prim.Native.Nat.{ℕ, suc, _-_, _≤_, _<_}
 use native.Mathlib.Omega.{arith}
 use mathlib.Core.Path.{_≡_, refl, sym, ap, subst, _∙_}
 use mathlib.Core.Logic.{_⊎_, inl, inr}
 use mathlib.Core.Bool.{Bool, true, false, true≢false}
-use mathlib.Core.List.{List, [], _∷_}
+use mathlib.Core.List.{List, [], _∷_, map}
 use mathlib.Core.Option.{Option, none, some, Option·some-injective}
 use lib.ListN.{length, take, length-append}
 use lib.Seq.{length-take-le}
@@ -23,15 +23,16 @@ use Rattle.meaning.specs.declared.Filling.{Filling}
 use Rattle.meaning.specs.declared.Irreducibility.{Irreducibility}
 use Rattle.meaning.specs.Search.{holdsForAll, holdsForSome, isNone, bind}
 use Rattle.meaning.specs.Field.{primeInRange}
-use Rattle.meaning.specs.Polynomial.{Polynomial}
+use Rattle.meaning.specs.Polynomial.{Polynomial, monicMultiple}
 use Rattle.meaning.specs.Sequence.{cut, continuation}
 use Rattle.meaning.specs.Result.{Result, Rated, answered, refused, figuresOf, mapResult, answerAfter}
-use Rattle.meaning.specs.Result.{workAfter}
-use Rattle.meaning.specs.Conditions.{named, totalDegree, factorDegreeOutOfRange, notMonic, lentTooShort}
+use Rattle.meaning.specs.Result.{Check, workAfter}
+use Rattle.meaning.specs.Conditions.{named, totalDegree, factorDegreeOutOfRange, lentTooShort}
+use Rattle.meaning.specs.Conditions.{notPrime, coefficientOutOfRange, isReducible, twoEqual}
 use Rattle.meaning.specs.Conditions.{placeOutOfRange, countOutOfRange}
 use Rattle.meaning.specs.Power.{PowerFigures, powerRating}
 use Rattle.meaning.specs.Period.{periodPower, periodTable, periodAnswer, ratePeriod}
-use Rattle.meaning.specs.Portion.{SetFigures, factorsOf, leastAt, portionTable, ratePortion}
+use Rattle.meaning.specs.Portion.{SetFigures, factorsOf, leastAt, portionTable, portionAnswer, ratePortion}
 use Rattle.meaning.specs.Portion.{setRating, setTable, setAnswer, rateSet}
 use Rattle.meaning.specs.Free.{Choice, FreeFigures, ChosenFits, leastDegree, isUnique, freePolynomial}
 use Rattle.meaning.specs.Free.{freeRating, freeTable, rateFree}
@@ -51,10 +52,11 @@ use Rattle.bridge.proofs.Searches.{map-refused, or-false}
 use Rattle.bridge.proofs.Accepted.{lent-enough}
 use Rattle.bridge.proofs.Interpretation.{IsField, inRange-isField, characteristic-two}
 use Rattle.bridge.proofs.Polynomials.{monic-nonempty, degree-length}
-use Rattle.bridge.proofs.Products.{Nonempties, accepted-monic, monics-nonempty, factorsOf-named}
+use Rattle.bridge.proofs.Products.{Nonempties, monics-nonempty, factorsOf-named}
 use Rattle.bridge.proofs.Products.{power-nonempty}
 use Rattle.bridge.proofs.Actions.{length-cut}
-use Rattle.bridge.proofs.Irreducibles.{accepted-factors, factors-monics}
+use Rattle.bridge.proofs.Multiples.{coefficients-lead, multiple-monic}
+use Rattle.bridge.proofs.Irreducibles.{Factors, multiples-factors, factors-monics}
 use Rattle.bridge.proofs.Portions.{portion-found, setPowers-exists}
 use Rattle.bridge.proofs.Fitting.{leastDegree-some, leastDegree-least, polynomial-one, polynomial-some}
 use Rattle.bridge.proofs.RepeatBounds.{repeatBound-exists}
@@ -135,7 +137,18 @@ pub period-told :
     → Tells periodNumbers (ratePeriod p f ts answer work)
 unfolding ratePeriod
 period-told p f ts answer work =
-    period-tells p (factorDegreeOutOfRange (GF p) f) (notMonic (GF p) f) f ts answer work
+    period-tells p (factorDegreeOutOfRange (GF p) f) (coefficientOutOfRange (GF p) f) (monicMultiple (GF p) f)
+    ts answer work
+
+-- the monic multiple of a polynomial that 6 and 11 let pass is not empty
+multiple-nonempty :
+    (p : ℕ) (f : Polynomial)
+    → notPrime p ≡ false
+    → coefficientOutOfRange (GF p) f ≡ false
+    → 0 < length (monicMultiple (GF p) f)
+multiple-nonempty p f six eleven =
+    monic-nonempty (GF p) (monicMultiple (GF p) f)
+    (multiple-monic (inRange-isField p (prime-accepted p six)) (coefficients-lead (GF p) f eleven))
 
 module _ (p : ℕ) (f : Polynomial) (ts answer work : List ℕ) where
   abbrev periodResult : Result (Rated PowerFigures)
@@ -163,19 +176,20 @@ module _ (p : ℕ) (f : Polynomial) (ts answer work : List ℕ) where
         polynomial =
             λ a e.
             let ten = factorDegreeOutOfRange (GF p) f in
+            let eleven = coefficientOutOfRange (GF p) f in
+            let g = monicMultiple (GF p) f in
             let (h, _) =
-            settle-answered _
-            (periodTable p ten (notMonic (GF p) f) f ts (length answer) (length work)) e in
-            period-size p ten (notMonic (GF p) f) f ts (length answer) (length work)
-            (monic-nonempty (GF p) f (accepted-monic (GF p) f (h .monic))) e;
+            settle-answered _ (periodTable p ten eleven g ts (length answer) (length work)) e in
+            period-size p ten eleven g ts (length answer) (length work)
+            (multiple-nonempty p f (h .fieldExists) (h .coefficientsInRange)) e;
         small =
             λ a e.
             let (r, answer′, work′, c) = period-some in
             period-promise p f ts answer work r answer′ work′ c .rated (a .figures)
             (c .rating ∙ ap figuresOf e) .small;
         lent =
-            period-lent p (factorDegreeOutOfRange (GF p) f) (notMonic (GF p) f) f ts (length answer)
-            (length work);
+            period-lent p (factorDegreeOutOfRange (GF p) f) (coefficientOutOfRange (GF p) f)
+            (monicMultiple (GF p) f) ts (length answer) (length work);
       }
 
 pub period-answers : PeriodAnswers
@@ -195,18 +209,25 @@ portion-listed : Listed portionNumbers
 unfolding Listed refusalOf refusals lookUp holdsForAll isNone
 portion-listed = tt
 
-pub portion-tells :
-    (p : ℕ) (f : Polynomial) (v : ℕ) (ts : List ℕ) (answer work : ℕ)
-    → Tells portionNumbers (ratePortion p f v ts answer work)
-unfolding ratePortion portionTable
-portion-tells p f v ts answer work =
-    settle-tells _ (portionTable p f v ts answer work)
-    (λ h.
-    let I = inRange-isField p (prime-accepted p (h .fieldExists)) in
-    power-value p f (leastAt (GF p) ((f, v) ∷ []) ts 0) I
-    (portion-found I f (accepted-monic (GF p) f (h .monic)) v ts (terms-accepted p ts (h .termsInField))
-    (subst (λ d. d ≤ length ts) (one-total f v)
-    (enough-accepted (totalDegree ((f, v) ∷ [])) ts (h .enoughTerms)))))
+-- 10 and 11 as the portion way asks them, and its table
+module _ (p : ℕ) (f : Polynomial) (v : ℕ) (ts : List ℕ) (answer work : ℕ) where
+  abbrev portionChecks : List Check
+  portionChecks =
+      portionTable p (factorDegreeOutOfRange (GF p) f) (coefficientOutOfRange (GF p) f)
+      (monicMultiple (GF p) f) v ts answer work
+
+  pub portion-tells : Tells portionNumbers (ratePortion p f v ts answer work)
+  unfolding ratePortion portionAnswer portionTable
+  portion-tells =
+      settle-tells _ portionChecks
+      (λ h.
+      let I = inRange-isField p (prime-accepted p (h .fieldExists)) in
+      let g = monicMultiple (GF p) f in
+      power-value p g (leastAt (GF p) ((g, v) ∷ []) ts 0) I
+      (portion-found I g (multiple-monic I (coefficients-lead (GF p) f (h .coefficientsInRange))) v ts
+      (terms-accepted p ts (h .termsInField))
+      (subst (λ d. d ≤ length ts) (one-total g v)
+      (enough-accepted (totalDegree ((g, v) ∷ [])) ts (h .enoughTerms)))))
 
 module _ (p : ℕ) (f : Polynomial) (v : ℕ) (ts answer work : List ℕ) where
   abbrev portionResult : Result (Rated PowerFigures)
@@ -228,17 +249,18 @@ module _ (p : ℕ) (f : Polynomial) (v : ℕ) (ts answer work : List ℕ) where
       )
 
   portion-sized : Sized (λ a. a .degree) portionResult (length answer) (length work)
-  unfolding ratePortion portionTable figuresOf mapResult rating-of
+  unfolding ratePortion portionAnswer portionTable figuresOf mapResult rating-of
   portion-sized =
       record {
         polynomial =
             λ a e.
-            let (h, w) = settle-answered _ (portionTable p f v ts (length answer) (length work)) e in
+            let g = monicMultiple (GF p) f in
+            let (h, w) = settle-answered _ (portionChecks p f v ts (length answer) (length work)) e in
             let I = inRange-isField p (prime-accepted p (h .fieldExists)) in
-            let (r, b, _, _, t) = rated-power p f (leastAt (GF p) ((f, v) ∷ []) ts 0) w in
-            let n = monic-nonempty (GF p) f (accepted-monic (GF p) f (h .monic)) in
+            let (r, b, _, _, t) = rated-power p g (leastAt (GF p) ((g, v) ∷ []) ts 0) w in
+            let n = multiple-nonempty p f (h .fieldExists) (h .coefficientsInRange) in
             subst (λ a. length (a .polynomial) ≡ suc (a .figures .degree)) t
-            (degree-length _ (power-nonempty I f r n));
+            (degree-length _ (power-nonempty I g r n));
         small =
             λ a e.
             let (r, answer′, work′, c) = portion-some in
@@ -248,10 +270,10 @@ module _ (p : ℕ) (f : Polynomial) (v : ℕ) (ts answer work : List ℕ) where
             λ x. elim x [
               | inl (a, e) ↦
                   lent-enough (length answer) (length work)
-                  (settle-answered _ (portionTable p f v ts (length answer) (length work)) e .0 .lentEnough)
+                  (settle-answered _ (portionChecks p f v ts (length answer) (length work)) e .0 .lentEnough)
               | inr e ↦
                   lent-enough (length answer) (length work)
-                  (settle-refused _ (portionTable p f v ts (length answer) (length work)) (omega arith) e .0
+                  (settle-refused _ (portionChecks p f v ts (length answer) (length work)) (omega arith) e .0
                   .lentEnough)
             ];
       }
@@ -303,25 +325,26 @@ module _ (p : ℕ) (fs : List Polynomial) (vs ts : List ℕ) (answer work : ℕ)
   ten = holdsForSome (factorDegreeOutOfRange (GF p)) fs
 
   abbrev eleven : Bool
-  eleven = holdsForSome (notMonic (GF p)) fs
+  eleven = holdsForSome (coefficientOutOfRange (GF p)) fs
 
-  named-nonempties : Passes (setTable p ten eleven (named fs vs) ts answer work) → Nonempties (named fs vs)
+  abbrev l : List (Polynomial × ℕ)
+  l = named (map (monicMultiple (GF p)) fs) vs
+
+  named-nonempties : Passes (setTable p ten eleven l ts answer work) → Nonempties l
   unfolding setTable
   named-nonempties h =
-      let l = named fs vs in
       let I = inRange-isField p (prime-accepted p (h .fieldExists)) in
-      let same = factorsOf-named fs vs in
+      let same = factorsOf-named (map (monicMultiple (GF p)) fs) vs in
       monics-nonempty (GF p) l
       (factors-monics I l
-      (accepted-factors p (factorsOf l) (h .fieldExists)
-      (ap (holdsForSome (factorDegreeOutOfRange (GF p))) same ∙ h .degreesInRange)
-      (ap (holdsForSome (notMonic (GF p))) same ∙ h .monic)
-      (h .irreducible)
-      (h .different)))
+      (subst (Factors (GF p)) (sym same)
+      (multiples-factors p fs (h .fieldExists) (h .degreesInRange) (h .coefficientsInRange)
+      (ap (holdsForSome (isReducible p)) (sym same) ∙ h .irreducible)
+      (ap twoEqual (sym same) ∙ h .different))))
 
   pub set-told : Tells setNumbers (rateSet p fs vs ts answer work)
   unfolding rateSet
-  set-told = set-tells p ten eleven (named fs vs) ts answer work named-nonempties
+  set-told = set-tells p ten eleven l ts answer work named-nonempties
 
   set-whole :
       (a : Rated SetFigures)
@@ -329,14 +352,14 @@ module _ (p : ℕ) (fs : List Polynomial) (vs ts : List ℕ) (answer work : ℕ)
       → length (a .polynomial) ≡ suc (setFiguresTold (a .figures) .degree)
   unfolding rateSet setAnswer setFiguresTold
   set-whole a e =
-      let (h, _) = settle-answered _ (setTable p ten eleven (named fs vs) ts answer work) e in
-      set-size p ten eleven (named fs vs) ts answer work (named-nonempties h) e
+      let (h, _) = settle-answered _ (setTable p ten eleven l ts answer work) e in
+      set-size p ten eleven l ts answer work (named-nonempties h) e
 
   set-room :
       Answered (rateSet p fs vs ts answer work) ⊎ (rateSet p fs vs ts answer work ≡ refused 17)
       → (4097 ≤ answer) × (8192 ≤ work)
   unfolding rateSet
-  set-room = set-lent p ten eleven (named fs vs) ts answer work
+  set-room = set-lent p ten eleven l ts answer work
 
 module _ (p : ℕ) (fs : List Polynomial) (vs ts answer work : List ℕ) where
   abbrev setResult : Result (Rated SetFigures)
@@ -512,7 +535,7 @@ module _ (p : ℕ) (g : Polynomial) (start buffer : List ℕ) (place : ℕ) wher
   continue-length (answered after) e =
       let (h, w) = settle-answered _ (continueTable p g start place (length buffer)) e in
       let inside = place-inside (length buffer) place (h .countInRange) in
-      let s = continuation (GF p) g start in
+      let s = continuation (GF p) (monicMultiple (GF p) g) start in
       let n = length-cut s 0 (length buffer - place) in
       ap length (sym (Option·some-injective _ _ w))
       ∙ length-append (take place buffer) (cut s 0 (length buffer - place))

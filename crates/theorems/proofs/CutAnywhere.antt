@@ -6,17 +6,18 @@ use native.Mathlib.Omega.{arith}
 use mathlib.Core.Path.{_≡_, refl, sym, ap, subst, fun-ext, _∙_}
 use mathlib.Core.Logic.{_≢_}
 use mathlib.Core.Bool.{true, false, true≢false}
-use mathlib.Core.List.{List, [], _∷_}
+use mathlib.Core.List.{List, [], _∷_, map}
 use mathlib.Core.Option.{some}
 use lib.ListN.{length, getD}
 use lib.Dec.{T, eqb, ltb}
 use Rattle.meaning.specs.declared.PowerRating.{PowerRating}
 use Rattle.meaning.specs.Search.{holdsForSome}
-use Rattle.meaning.specs.Polynomial.{Polynomial, degree, power, product}
+use Rattle.meaning.specs.Polynomial.{Polynomial, degree, power, product, monicMultiple}
 use Rattle.meaning.specs.Sequence.{Sequence, InField, AnnihilatesEndless, cut, periodic, Period}
 use Rattle.meaning.specs.Sequence.{MinimalPolynomial, annihilatesKnown}
 use Rattle.meaning.specs.Result.{Result, answered, Rated, mapResult, figuresOf, written, answerAfter}
 use Rattle.meaning.specs.Conditions.{named, totalDegree, upperPowersOutOfRange, factorCountOutOfRange}
+use Rattle.meaning.specs.Conditions.{coefficientOutOfRange}
 use Rattle.meaning.specs.Power.{PowerFigures, isX, repeatBound}
 use Rattle.meaning.specs.Period.{ratePeriod}
 use Rattle.meaning.specs.Portion.{acceptedFactors, factorTable, factorsOf, setPowers, setRating, onward}
@@ -32,6 +33,7 @@ use Rattle.bridge.proofs.Polynomials.{monic-nonempty}
 use Rattle.bridge.proofs.Products.{MonicFactors, monics-nonempty, factorsOf-named, length-factorsOf}
 use Rattle.bridge.proofs.Products.{product-elements, product-single}
 use Rattle.bridge.proofs.Irreducibles.{Factors, factors-monics, accepted-prime, accepted-different}
+use Rattle.bridge.proofs.Multiples.{associates-annihilate, associates-product, multiples-total}
 use Rattle.bridge.proofs.Searches.{or-false, false-T, some-head}
 use Rattle.bridge.proofs.Actions.{length-cut, cut-elements, endless-known, periodic-cut, actAt-shift}
 use Rattle.bridge.proofs.Minimal.{minimal-unique, leastPower-exists}
@@ -70,7 +72,9 @@ nonzero-upper f v l h e =
     (some-head (λ (g : Polynomial × ℕ). eqb (g .1) 0) (f, v) l (subst (λ n. T (eqb n 0)) (sym e) tt))
 
 positive :
-    (p : ℕ) (fs : List Polynomial) (vs : List ℕ) → T (acceptedFactors p fs vs) → 1 ≤ totalDegree (named fs vs)
+    (p : ℕ) (fs : List Polynomial) (vs : List ℕ)
+    → T (acceptedFactors p fs vs)
+    → 1 ≤ totalDegree (named (map (monicMultiple (GF p)) fs) vs)
 unfolding named totalDegree factorCountOutOfRange factorTable
 positive p [] vs h = absurd (true≢false (accepted-passes p [] vs h .factorCount))
 positive p (f ∷ fs) [] h =
@@ -78,22 +82,49 @@ positive p (f ∷ fs) [] h =
 positive p (f ∷ fs) (v ∷ vs) h =
     let u = nonzero-upper f v (named fs vs) (accepted-passes p (f ∷ fs) (v ∷ vs) h .uppersInRange) in
     let d = accepted-different p (f ∷ fs) (v ∷ vs) h .positive 0 (omega arith) in
-    omega (arith, mul-pos {m = v} {n = degree f} (omega arith) d)
+    omega (arith, mul-pos {m = v} {n = degree (monicMultiple (GF p) f)} (omega arith) d)
+
+-- the multiples of named factors have their upper powers
+named-multiples :
+    (h : Polynomial → Polynomial) (fs : List Polynomial) (vs : List ℕ)
+    → named (map h fs) vs ≡ map (λ (f : Polynomial × ℕ). (h (f .0), f .1)) (named fs vs)
+unfolding named
+named-multiples h [] vs = refl
+named-multiples h (f ∷ fs) [] =
+    ap (λ (l : List (Polynomial × ℕ)). (h f, 0) ∷ l) (named-multiples h fs [])
+named-multiples h (f ∷ fs) (v ∷ vs) =
+    ap (λ (l : List (Polynomial × ℕ)). (h f, v) ∷ l) (named-multiples h fs vs)
 
 module _
     (p : ℕ) (fs : List Polynomial) (vs : List ℕ) (s : Sequence)
-    (accepted : T (acceptedFactors p fs vs)) (noneX : holdsForSome isX fs ≡ false)
+    (accepted : T (acceptedFactors p fs vs))
+    (noneX : holdsForSome isX (map (monicMultiple (GF p)) fs) ≡ false)
     (inField : InField (GF p) s)
-    (annihilated : AnnihilatesEndless (GF p) (product (GF p) (named fs vs)) s)
+    (given : AnnihilatesEndless (GF p) (product (GF p) (named fs vs)) s)
   where
+    -- the monic multiples, for which the factors stand
+    abbrev gs : List Polynomial
+    gs = map (monicMultiple (GF p)) fs
+
     abbrev l : List (Polynomial × ℕ)
-    l = named fs vs
+    l = named gs vs
 
     I : IsField (GF p)
     I = inRange-isField p (accepted-prime p fs vs accepted)
 
+    eleven : holdsForSome (coefficientOutOfRange (GF p)) fs ≡ false
+    unfolding factorTable
+    eleven = accepted-passes p fs vs accepted .coefficientsInRange
+
+    -- their product annihilates the sequence too, and has the same total degree
+    annihilated : AnnihilatesEndless (GF p) (product (GF p) l) s
+    annihilated = associates-annihilate I (associates-product I fs vs eleven) s .0 given
+
+    total : (m : ℕ) → totalDegree (named fs vs) ≤ m → totalDegree l ≤ m
+    total m e = subst (λ d. d ≤ m) (sym (multiples-total I fs vs eleven)) e
+
     factors : Factors (GF p) (factorsOf l)
-    factors = subst (Factors (GF p)) (sym (factorsOf-named fs vs)) (accepted-different p fs vs accepted)
+    factors = subst (Factors (GF p)) (sym (factorsOf-named gs vs)) (accepted-different p fs vs accepted)
 
     monics : MonicFactors (GF p) l
     monics = factors-monics I l factors
@@ -101,7 +132,7 @@ module _
     constant : getD (product (GF p) l) 0 0 ≢ 0
     constant =
         product-constant I l factors monics (length-factorsOf l)
-        (ap (holdsForSome isX) (factorsOf-named fs vs) ∙ noneX)
+        (ap (holdsForSome isX) (factorsOf-named gs vs) ∙ noneX)
 
     -- the continuation of a stretch is the sequence from its place on
     continued : (k m : ℕ) → totalDegree l ≤ m → onward (GF p) l (cut s k m) ≡ shifted s k
@@ -156,6 +187,11 @@ module _
         let e = only-factor f v one in
         subst T (same-table p (f ∷ []) vs (v ∷ []) (ap (λ (gs : List Polynomial). named gs vs) (sym e) ∙ one))
         (subst (λ (gs : List Polynomial). T (acceptedFactors p gs vs)) e accepted)
+
+    one-multiple : (f : Polynomial) (v : ℕ) → named fs vs ≡ (f, v) ∷ [] → l ≡ (monicMultiple (GF p) f, v) ∷ []
+    one-multiple f v one =
+        named-multiples (monicMultiple (GF p)) fs vs
+        ∙ ap (map (λ (f : Polynomial × ℕ). (monicMultiple (GF p) (f .0), f .1))) one
 
     -- THE SET WAY
     total-positive : 1 ≤ totalDegree l
@@ -218,27 +254,29 @@ module _
         (f : Polynomial) (v : ℕ)
         → named fs vs ≡ (f, v) ∷ []
         → (k m : ℕ)
-        → totalDegree (named fs vs) ≤ m
+        → totalDegree l ≤ m
         → m ≤ 4096
         → PortionReturns p f v (cut s k m) g
-    portion-way f v one k m d few answer work lent told answer′ work′ c =
+    portion-way f v given-one k m d few answer work lent told answer′ work′ c =
+        let q = monicMultiple (GF p) f in
+        let one = one-multiple f v given-one in
         let h =
         subst (λ (n : List (Polynomial × ℕ)). T (annihilatesKnown (GF p) (product (GF p) n) (cut s k m))) one
         (known-annihilated k m) in
         let t = terms k m (le-trans total-positive d) few in
-        let x = one-factor p f (v ∷ []) (one-accepted f v one) in
-        let size : v * degree f ≤ length (cut s k m) =
-        subst (λ n. n ≤ length (cut s k m)) (ap totalDegree one ∙ one-total f v) (enough k m d) in
-        let found = portion-found I f (x .monic) v (cut s k m) (t .inField) size in
-        let bound = bound-of f (found .0) in
-        power-returns f (found .0) (bound .0) k
-        (subst (MinimalPolynomial (GF p) (power (GF p) f (found .0)))
+        let x = one-factor p f (v ∷ []) (one-accepted f v given-one) in
+        let size : v * degree q ≤ length (cut s k m) =
+        subst (λ n. n ≤ length (cut s k m)) (ap totalDegree one ∙ one-total q v) (enough k m d) in
+        let found = portion-found I q (x .monic) v (cut s k m) (t .inField) size in
+        let bound = bound-of q (found .0) in
+        power-returns q (found .0) (bound .0) k
+        (subst (MinimalPolynomial (GF p) (power (GF p) q (found .0)))
         (ap (λ (n : List (Polynomial × ℕ)). onward (GF p) n (cut s k m)) (sym one) ∙ continued k m d)
-        (portion-minimal I f (x .monic) v (cut s k m) (t .inField) size (x .positive) (x .irreducibility)
+        (portion-minimal I q (x .monic) v (cut s k m) (t .inField) size (x .positive) (x .irreducibility)
         (found .1)))
         (ratePortion p f v (cut s k m) (length answer) (length work))
         (portion-answer p f v (cut s k m) (length answer) (length work) (found .0) (bound .0)
-        (one-accepted f v one) t lent
+        (one-accepted f v given-one) t lent
         (subst (λ (n : List (Polynomial × ℕ)). totalDegree n ≤ length (cut s k m)) one (enough k m d)) h
         (found .1) (bound .1))
         told answer work answer′ work′ (c .rating) (c .lent)
@@ -252,6 +290,7 @@ module _
         → n ≤ 4096
         → PeriodReturns p f (cut s k n) g
     period-way f e k n period few answer work lent told answer′ work′ c =
+        let q = monicMultiple (GF p) f in
         let one : T (acceptedFactors p (f ∷ []) vs) =
         subst (λ (gs : List Polynomial). T (acceptedFactors p gs vs)) e accepted in
         let x = one-factor p f vs one in
@@ -259,23 +298,23 @@ module _
         let same : periodic (cut s k n) ≡ shifted s k =
         fun-ext (periodic-cut s k n (period .positive) (period .repeats)) in
         let v = getD vs 0 0 in
-        let whole : AnnihilatesEndless (GF p) (power (GF p) f v) s =
+        let whole : AnnihilatesEndless (GF p) (power (GF p) q v) s =
         subst (λ (h : Polynomial). AnnihilatesEndless (GF p) h s)
-        (ap (λ (gs : List Polynomial). product (GF p) (named gs vs)) e
-        ∙ ap (product (GF p)) (named-one f vs)
-        ∙ product-single I f v (monic-nonempty (GF p) f (x .monic)))
+        (ap (λ (hs : List Polynomial). product (GF p) (named (map (monicMultiple (GF p)) hs) vs)) e
+        ∙ ap (product (GF p)) (named-one q vs)
+        ∙ product-single I q v (monic-nonempty (GF p) q (x .monic)))
         annihilated in
         let least =
-        leastPower-exists I f (periodic (cut s k n)) v (x .monic)
-        (subst (AnnihilatesEndless (GF p) (power (GF p) f v)) (sym same)
-        (λ j. actAt-shift (GF p) (power (GF p) f v) s k j ∙ whole (k + j))) in
+        leastPower-exists I q (periodic (cut s k n)) v (x .monic)
+        (subst (AnnihilatesEndless (GF p) (power (GF p) q v)) (sym same)
+        (λ j. actAt-shift (GF p) (power (GF p) q v) s k j ∙ whole (k + j))) in
         let found =
-        least-periodPower I f (x .monic) (x .positive) (x .irreducibility) (cut s k n) (t .atLeastOne)
+        least-periodPower I q (x .monic) (x .positive) (x .irreducibility) (cut s k n) (t .atLeastOne)
         (least .2) in
-        let bound = bound-of f (least .0) in
-        power-returns f (least .0) (bound .0) k
-        (subst (MinimalPolynomial (GF p) (power (GF p) f (least .0))) same
-        (periodPower-minimal I f (x .monic) (x .positive) (x .irreducibility) (cut s k n) (t .atLeastOne)
+        let bound = bound-of q (least .0) in
+        power-returns q (least .0) (bound .0) k
+        (subst (MinimalPolynomial (GF p) (power (GF p) q (least .0))) same
+        (periodPower-minimal I q (x .monic) (x .positive) (x .irreducibility) (cut s k n) (t .atLeastOne)
         found))
         (ratePeriod p f (cut s k n) (length answer) (length work))
         (period-answer p f (cut s k n) (length answer) (length work) (least .0) (bound .0) vs one t lent found
@@ -303,10 +342,14 @@ cut-anywhere p fs vs s accepted noneX inField annihilated =
     record {
       g = g p fs vs s accepted noneX inField annihilated;
       minimal = minimal p fs vs s accepted noneX inField annihilated;
-      set-way = λ k m enough few. set-way p fs vs s accepted noneX inField annihilated k m enough few;
+      set-way =
+          λ k m enough few.
+          set-way p fs vs s accepted noneX inField annihilated k m
+          (total p fs vs s accepted noneX inField annihilated m enough) few;
       portion-way =
           λ f v one k m enough few.
-          portion-way p fs vs s accepted noneX inField annihilated f v one k m enough few;
+          portion-way p fs vs s accepted noneX inField annihilated f v one k m
+          (total p fs vs s accepted noneX inField annihilated m enough) few;
       period-way =
           λ f one k n repeats few.
           period-way p fs vs s accepted noneX inField annihilated f one k n repeats few;

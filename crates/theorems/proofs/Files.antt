@@ -13,7 +13,7 @@ use Rattle.meaning.specs.declared.PowerRating.{PowerRating}
 use Rattle.meaning.specs.declared.SetOutcome.{SetOutcome}
 use Rattle.meaning.specs.declared.FileRating.{FileRating}
 use Rattle.meaning.specs.Search.{holdsForSome}
-use Rattle.meaning.specs.Polynomial.{Polynomial}
+use Rattle.meaning.specs.Polynomial.{Polynomial, product}
 use Rattle.meaning.specs.Result.{Result, Rated, refused, answered, mapResult, figuresOf, answerAfter}
 use Rattle.meaning.specs.Result.{workAfter, written}
 use Rattle.meaning.specs.Power.{PowerFigures}
@@ -22,7 +22,8 @@ use Rattle.meaning.specs.Portion.{SetFigures, setTable, setAnswer, rateSet}
 use Rattle.meaning.specs.Free.{Choice, FreeFigures, freeTable, rateFree}
 use Rattle.meaning.specs.Route.{RouteRecord, Mode, periodMode, setMode, freeMode, modeOf, byteOf, bodies}
 use Rattle.meaning.specs.Route.{records}
-use Rattle.meaning.specs.File.{WrittenFactor, fileFactor, polynomialOf, fileDegreeOutOfRange, fileNotMonic}
+use Rattle.meaning.specs.File.{WrittenFactor, fileFactor, polynomialOf, fileDegreeOutOfRange}
+use Rattle.meaning.specs.File.{fileCoefficientOutOfRange}
 use Rattle.meaning.specs.File.{termsOf, FileFigures, fileAnswer, powers, freeLabel, ofPeriod, ofSet, ofFree}
 use Rattle.meaning.specs.File.{rateMode, rateFile}
 use Rattle.meaning.specs.Answers.{toldPower, toldSet, toldFile, setFiguresTold, setPadded, FileTold}
@@ -33,10 +34,12 @@ use Rattle.bridge.proofs.Searches.{refused-same}
 use Rattle.bridge.proofs.Interpretation.{inRange-isField}
 use Rattle.bridge.proofs.Accepted.{prime-accepted}
 use Rattle.bridge.proofs.Records.{records-suited, records-whole, records-number}
-use Rattle.bridge.proofs.WrittenFactors.{AllFull, all-full, period-lists, set-lists}
+use Rattle.bridge.proofs.WrittenFactors.{AllFull, all-full, period-lists, set-lists, first-itself}
+use Rattle.bridge.proofs.WrittenFactors.{lists-themselves}
 use Rattle.bridge.proofs.FileRatings.{known-mode, unknown-mode, accepted-file, refused-file, exactly-one}
 use Rattle.bridge.proofs.FileRatings.{period-map, set-map, free-map}
-use Rattle.theorems.specs.Ratings.{GF}
+use Rattle.meaning.specs.Conditions.{named}
+use Rattle.theorems.specs.Ratings.{GF, PeriodAnswered, SetAnswered, NoneBegins}
 use Rattle.theorems.specs.Files.{factorsIn, polynomialsIn, uppersIn, PeriodFile, SetFile, FreeFile}
 use Rattle.theorems.specs.Files.{freeTold, RatedBy, SeventeenBy, Holds, FilePromise}
 use Rattle.theorems.proofs.Ways.{period-promise, set-promise, free-promise, period-none, set-none}
@@ -126,7 +129,7 @@ module _ (pick : Choice) (file answer work : List ℕ) (r : FileRating) (answer�
     ten = holdsForSome (fileDegreeOutOfRange (GF p)) fs
 
     abbrev eleven : Bool
-    eleven = holdsForSome (fileNotMonic (GF p)) fs
+    eleven = holdsForSome (fileCoefficientOutOfRange (GF p)) fs
 
     full : AllFull fs
     full = all-full rs (records-whole file its .1)
@@ -168,7 +171,8 @@ module _ (pick : Choice) (file answer work : List ℕ) (r : FileRating) (answer�
           settle-answered _ (periodTable p ten eleven first ts (length answer) (length work)) w in
           let I = inRange-isField p (prime-accepted p (h .fieldExists)) in
           let same : ratePeriod p first ts (length answer) (length work) ≡ answered d =
-          sym (period-lists p fs full I (h .degreesInRange) (h .monic) ts (length answer) (length work)
+          sym (period-lists p fs full I (h .degreesInRange) (h .coefficientsInRange) ts (length answer)
+          (length work)
           (omega (arith, one-factor)))
           ∙ w in
           record {
@@ -178,13 +182,16 @@ module _ (pick : Choice) (file answer work : List ℕ) (r : FileRating) (answer�
             tells = sym u ∙ sym (ap (λ b. fileFiguresTold (b .figures)) v);
             places = eight-of q ∙ sym (ap placesIn v);
             rated =
-                period-promise p first ts answer work
+                subst (λ f. PeriodAnswered p f ts (d .figures) answer′)
+                (first-itself p fs full I (h .degreesInRange) (h .coefficientsInRange) ts (length answer)
+                (length work) (omega (arith, one-factor)))
+                (period-promise p first ts answer work
                 (PowerRating.Rated (d .figures .power) (d .figures .degree) (d .figures .bound)) answer′ work′
                 (record {
                   rating = sym (ap figuresOf same);
                   lent = lent-moved q same (sym (ap (λ b. b .polynomial) v)) (c .lent);
                 })
-                .rated (d .figures) refl;
+                .rated (d .figures) refl);
           }
 
       period-file :
@@ -206,12 +213,16 @@ module _ (pick : Choice) (file answer work : List ℕ) (r : FileRating) (answer�
           w in
           let I = inRange-isField p (prime-accepted p (h .fieldExists)) in
           let same : ratePeriod p first ts (length answer) (length work) ≡ refused 17 =
-          sym (period-lists p fs full I (h .degreesInRange) (h .monic) ts (length answer) (length work)
+          sym (period-lists p fs full I (h .degreesInRange) (h .coefficientsInRange) ts (length answer)
+          (length work)
           (omega (arith, one-factor)))
           ∙ w in (
             first,
             single (polynomialsIn rs) (length-map fs polynomialOf ∙ one-factor),
-            period-none p first ts (length answer) (length work) same,
+            subst (λ f. NoPower (GF p) f ts)
+                (first-itself p fs full I (h .degreesInRange) (h .coefficientsInRange) ts (length answer)
+                (length work) (omega (arith, one-factor)))
+                (period-none p first ts (length answer) (length work) same),
           )
 
     -- MODE 2
@@ -241,12 +252,18 @@ module _ (pick : Choice) (file answer work : List ℕ) (r : FileRating) (answer�
           let I = inRange-isField p (prime-accepted p (h .fieldExists)) in
           let same :
           rateSet p (polynomialsIn rs) (uppersIn rs) ts (length answer) (length work) ≡ answered d =
-          sym (set-lists p fs full I (h .degreesInRange) (h .monic) ts (length answer) (length work)) ∙ w in
+          sym (set-lists p fs full I (h .degreesInRange) (h .coefficientsInRange) ts (length answer)
+          (length work)) ∙ w in
           record {
             figures = setFiguresTold (d .figures);
             tells = sym u ∙ sym (ap (λ b. fileFiguresTold (b .figures)) v);
             rated =
-                set-promise p (polynomialsIn rs) (uppersIn rs) ts answer work
+                subst
+                (λ (gs : List Polynomial).
+                SetAnswered p gs (uppersIn rs) ts (setFiguresTold (d .figures)) (r .powers) answer′)
+                (lists-themselves p fs full I (h .degreesInRange) (h .coefficientsInRange) ts (length answer)
+                (length work))
+                (set-promise p (polynomialsIn rs) (uppersIn rs) ts answer work
                 (record {
                   outcome = SetOutcome.Rated (d .figures .degree) (length (d .figures .powers));
                   powers = r .powers;
@@ -258,7 +275,7 @@ module _ (pick : Choice) (file answer work : List ℕ) (r : FileRating) (answer�
                       eight-of q ∙ sym (ap placesIn v) ∙ sym (ap (λ x. setPadded (figuresOf x)) same);
                   lent = lent-moved q same (sym (ap (λ b. b .polynomial) v)) (c .lent);
                 })
-                .rated (setFiguresTold (d .figures)) refl;
+                .rated (setFiguresTold (d .figures)) refl);
           }
 
       set-file : (a : FileTold) → toldFile (r .outcome) ≡ answered a → SetFile rs a (r .powers) answer′
@@ -277,8 +294,14 @@ module _ (pick : Choice) (file answer work : List ℕ) (r : FileRating) (answer�
           let (h, _) =
           settle-refused _ (setTable p ten eleven pairs ts (length answer) (length work)) (omega arith) w in
           let I = inRange-isField p (prime-accepted p (h .fieldExists)) in
-          set-none p (polynomialsIn rs) (uppersIn rs) ts (length answer) (length work)
-          (sym (set-lists p fs full I (h .degreesInRange) (h .monic) ts (length answer) (length work)) ∙ w)
+          subst (λ (gs : List Polynomial). NoneBegins p (product (GF p) (named gs (uppersIn rs))) ts)
+          (lists-themselves p fs full I (h .degreesInRange) (h .coefficientsInRange) ts (length answer)
+          (length work))
+          (set-none p (polynomialsIn rs) (uppersIn rs) ts (length answer) (length work)
+          (sym
+          (set-lists p fs full I (h .degreesInRange) (h .coefficientsInRange) ts (length answer)
+          (length work))
+          ∙ w))
 
     -- MODE 3
     module _ (mode : modeOf (byteOf 3 rs) ≡ some freeMode) where

@@ -21,7 +21,8 @@ use Rattle.theorems.proofs.Answering.{irreducible-tells}
 use Rattle.theorems.proofs.FileAnswers.{file-answers, record-answers, program-answers, file-tells}
 use Rattle.theorems.proofs.FileAnswers.{read-tells}
 use Rattle.theorems.proofs.Words.{field-of, prime-words, irreducible-words, prime-promise}
-use Rattle.theorems.proofs.Words.{irreducible-promise, continue-promise}
+use Rattle.theorems.proofs.Words.{irreducible-promise, continue-promise, multiple-promise}
+use Rattle.theorems.proofs.Words.{multiples-promise}
 use Rattle.theorems.proofs.Ways.{period-promise, portion-promise, set-promise, free-promise}
 use Rattle.theorems.proofs.CutAnywhere.{cut-anywhere}
 use Rattle.theorems.proofs.Files.{file-promise}
@@ -106,6 +107,8 @@ promises =
       irreducibility = irreducible-promise;
       primes = prime-promise;
       repeat-bound = repeat-bounded;
+      multiple = multiple-promise;
+      multiples = multiples-promise;
       prime-words = prime-words;
       irreducible-words = irreducible-words;
       cut-anywhere = cut-anywhere;

@@ -5,7 +5,7 @@ use native.Mathlib.Nat.{mul-le-mul-right, le-trans, add-zero}
 use native.Mathlib.Omega.{arith}
 use mathlib.Core.Path.{_≡_, refl, sym, ap, subst, _∙_}
 use mathlib.Core.Bool.{Bool, true, false, not}
-use mathlib.Core.List.{List, [], _∷_}
+use mathlib.Core.List.{List, [], _∷_, map}
 use mathlib.Core.Option.{some, Option·some-injective}
 use lib.ListN.{length, getD, take}
 use lib.Seq.{take-at}
@@ -15,15 +15,17 @@ use Rattle.meaning.specs.declared.SetRating.{SetRating}
 use Rattle.meaning.specs.Search.{holdsForSome}
 use Rattle.meaning.specs.Field.{primeInRange, areElements}
 use Rattle.meaning.specs.Polynomial.{Polynomial, degree, isMonicOver, power, product, irreducible}
+use Rattle.meaning.specs.Polynomial.{monicMultiple}
 use Rattle.meaning.specs.Sequence.{Sequence, InField, periodic, annihilatesKnown, MinimalPolynomial}
 use Rattle.meaning.specs.Sequence.{AnnihilatesEndless}
 use Rattle.meaning.specs.Result.{Check, Result, Rated, answered, refused, figuresOf, mapResult, answerAfter}
 use Rattle.meaning.specs.Result.{written}
 use Rattle.meaning.specs.Conditions.{named, totalDegree, notPrime, factorDegreeOutOfRange, notMonic}
-use Rattle.meaning.specs.Conditions.{isReducible}
+use Rattle.meaning.specs.Conditions.{coefficientOutOfRange, isReducible, twoEqual}
 use Rattle.meaning.specs.Power.{PowerFigures, repeatBound}
 use Rattle.meaning.specs.Period.{NoPower, periodPower, ratePeriod, periodAnswer, periodTable}
 use Rattle.meaning.specs.Portion.{acceptedFactors, factorTable, factorsOf, leastAt, onward, portionTable}
+use Rattle.meaning.specs.Portion.{portionAnswer}
 use Rattle.meaning.specs.Portion.{ratePortion, SetFigures, setRating, setPowers, setTable, setAnswer, rateSet}
 use Rattle.meaning.specs.Free.{Choice, Fits, leastDegree, isUnique, freePolynomial, freeRating, freeTable}
 use Rattle.meaning.specs.Free.{rateFree, IsLeastDegree}
@@ -41,8 +43,9 @@ use Rattle.bridge.proofs.Polynomials.{monic-nonempty, getD-below}
 use Rattle.bridge.proofs.Minimal.{minimal-degree}
 use Rattle.bridge.proofs.Products.{powerAt, length-named, degree-power, degree-product, product-monic}
 use Rattle.bridge.proofs.Products.{accepted-monic, factorsOf-named, monics-nonempty, product-single}
-use Rattle.bridge.proofs.Irreducibles.{Factors, accepted-degree, accepted-irreducible, accepted-factors}
-use Rattle.bridge.proofs.Irreducibles.{factors-monics, single-factor}
+use Rattle.bridge.proofs.Irreducibles.{Factors, accepted-degree, accepted-irreducible, factors-monics}
+use Rattle.bridge.proofs.Irreducibles.{multiples-factors, single-factor}
+use Rattle.bridge.proofs.Multiples.{coefficients-lead, multiple-ten, multiple-eleven}
 use Rattle.bridge.proofs.Portions.{setPowers-minimal, annihilated-agrees, nothing-continues, portion-least}
 use Rattle.bridge.proofs.Portions.{portion-minimal, onward-continues, onward-unique, leastAt-upper}
 use Rattle.bridge.proofs.Portions.{setPowers-places}
@@ -98,12 +101,28 @@ one-factor-of p f six ten eleven twelve =
       irreducibility = accepted-irreducible p f six ten eleven twelve;
     }
 
-pub one-factor : (p : ℕ) (f : Polynomial) (vs : List ℕ) → T (acceptedFactors p (f ∷ []) vs) → OneFactor p f
+-- the monic multiple of a factor that 6, 10 and 11 let pass, where 12 lets the multiple pass
+multiple-of :
+    (p : ℕ) (f : Polynomial)
+    → notPrime p ≡ false
+    → factorDegreeOutOfRange (GF p) f ≡ false
+    → coefficientOutOfRange (GF p) f ≡ false
+    → isReducible p (monicMultiple (GF p) f) ≡ false
+    → OneFactor p (monicMultiple (GF p) f)
+multiple-of p f six ten eleven twelve =
+    let I = inRange-isField p (prime-accepted p six) in
+    let leads = coefficients-lead (GF p) f eleven in
+    one-factor-of p (monicMultiple (GF p) f) six (multiple-ten I leads ∙ ten) (multiple-eleven I leads) twelve
+
+pub one-factor :
+    (p : ℕ) (f : Polynomial) (vs : List ℕ)
+    → T (acceptedFactors p (f ∷ []) vs)
+    → OneFactor p (monicMultiple (GF p) f)
 unfolding factorTable
 one-factor p f vs h =
     let x = accepted-passes p (f ∷ []) vs h in
-    one-factor-of p f (x .fieldExists) (of-one _ f (x .degreesInRange)) (of-one _ f (x .monic))
-    (of-one _ f (x .irreducible))
+    multiple-of p f (x .fieldExists) (of-one _ f (x .degreesInRange)) (of-one _ f (x .coefficientsInRange))
+    (of-one _ (monicMultiple (GF p) f) (x .irreducible))
 
 -- the bound that is told
 bound-told :
@@ -169,49 +188,53 @@ period-rated :
     → PeriodCall p f ts answer work r answer′ work′
     → (a : PowerFigures)
     → toldPower r ≡ answered a
-    → PeriodAnswered p f ts a answer′
+    → PeriodAnswered p (monicMultiple (GF p) f) ts a answer′
 unfolding ratePeriod periodAnswer periodTable figuresOf rating-of
 period-rated p f ts answer work r answer′ work′ c a e =
     let result = ratePeriod p f ts (length answer) (length work) in
+    let g = monicMultiple (GF p) f in
     let (b, q, v) = map-answered (λ x. x .figures) result (sym (c .rating) ∙ e) in
     let (h, w) =
     settle-answered _
-    (periodTable p (factorDegreeOutOfRange (GF p) f) (notMonic (GF p) f) f ts (length answer) (length work))
+    (periodTable p (factorDegreeOutOfRange (GF p) f) (coefficientOutOfRange (GF p) f) g ts (length answer)
+    (length work))
     q in
-    let x = one-factor-of p f (h .fieldExists) (h .degreesInRange) (h .monic) (h .irreducible) in
-    let (n, bound, y, z, t) = rated-power p f (periodPower (GF p) f ts) w in
+    let x = multiple-of p f (h .fieldExists) (h .degreesInRange) (h .coefficientsInRange) (h .irreducible) in
+    let (n, bound, y, z, t) = rated-power p g (periodPower (GF p) g ts) w in
     let count = count-accepted (length ts) (h .countInRange) in
     let els = terms-accepted p ts (h .termsInField) in
     let min =
-    periodPower-minimal (x .isField) f (x .monic) (x .positive) (x .irreducibility) ts (count .0) y in
+    periodPower-minimal (x .isField) g (x .monic) (x .positive) (x .irreducibility) ts (count .0) y in
     let few =
-    periodPower-size (x .isField) f (x .monic) (x .positive) (x .irreducibility) ts (count .0) els y in
+    periodPower-size (x .isField) g (x .monic) (x .positive) (x .irreducibility) ts (count .0) els y in
     let returns =
-    power-returns p f n bound (periodic ts) result answer answer′ min (q ∙ ap answered (sym t))
+    power-returns p g n bound (periodic ts) result answer answer′ min (q ∙ ap answered (sym t))
     (c .lent .answerBytes) in
-    subst (λ a. PeriodAnswered p f ts a answer′) (ap (λ b. b .figures) t ∙ v)
+    subst (λ a. PeriodAnswered p g ts a answer′) (ap (λ b. b .figures) t ∙ v)
     (record {
-      small = power-small p f x n (le-trans few (count .1));
-      least = periodPower-least (GF p) f ts (count .0) y;
+      small = power-small p g x n (le-trans few (count .1));
+      least = periodPower-least (GF p) g ts (count .0) y;
       minimal = subst (λ h. MinimalPolynomial (GF p) h (periodic ts)) (sym (returns .coefficients)) min;
       returns = returns;
       bound =
-          bound-told p f x n bound (periodic ts) (periodic-inField p (x .isField) ts els) min
+          bound-told p g x n bound (periodic ts) (periodic-inField p (x .isField) ts els) min
           (le-trans few (count .1)) z;
     })
 
 pub period-none :
     (p : ℕ) (f : Polynomial) (ts : List ℕ) (answer work : ℕ)
     → ratePeriod p f ts answer work ≡ refused 17
-    → NoPower (GF p) f ts
+    → NoPower (GF p) (monicMultiple (GF p) f) ts
 unfolding ratePeriod periodAnswer periodTable
 period-none p f ts answer work e =
+    let g = monicMultiple (GF p) f in
     let (h, z) =
     settle-refused _
-    (periodTable p (factorDegreeOutOfRange (GF p) f) (notMonic (GF p) f) f ts answer work) (omega arith) e in
-    let x = one-factor-of p f (h .fieldExists) (h .degreesInRange) (h .monic) (h .irreducible) in
+    (periodTable p (factorDegreeOutOfRange (GF p) f) (coefficientOutOfRange (GF p) f) g ts answer work)
+    (omega arith) e in
+    let x = multiple-of p f (h .fieldExists) (h .degreesInRange) (h .coefficientsInRange) (h .irreducible) in
     let count = count-accepted (length ts) (h .countInRange) in
-    periodPower-none (x .isField) f (x .monic) (x .positive) (x .irreducibility) ts (count .0)
+    periodPower-none (x .isField) g (x .monic) (x .positive) (x .irreducibility) ts (count .0)
     (isNone-none (true-T z))
 
 pub period-promise : PeriodPromise
@@ -236,32 +259,37 @@ portion-rated :
     → PortionCall p f v ts answer work r answer′ work′
     → (a : PowerFigures)
     → toldPower r ≡ answered a
-    → PortionAnswered p f v ts a answer′
-unfolding ratePortion portionTable figuresOf rating-of factorsOf
+    → PortionAnswered p (monicMultiple (GF p) f) v ts a answer′
+unfolding ratePortion portionAnswer portionTable figuresOf rating-of factorsOf
 portion-rated p f v ts answer work r answer′ work′ c a e =
     let result = ratePortion p f v ts (length answer) (length work) in
-    let one : List (Polynomial × ℕ) = (f, v) ∷ [] in
+    let g = monicMultiple (GF p) f in
+    let one : List (Polynomial × ℕ) = (g, v) ∷ [] in
     let (b, q, u) = map-answered (λ x. x .figures) result (sym (c .rating) ∙ e) in
-    let (h, w) = settle-answered _ (portionTable p f v ts (length answer) (length work)) q in
-    let x = one-factor-of p f (h .fieldExists) (h .degreesInRange) (h .monic) (h .irreducible) in
-    let (n, bound, y, z, t) = rated-power p f (leastAt (GF p) one ts 0) w in
+    let (h, w) =
+    settle-answered _
+    (portionTable p (factorDegreeOutOfRange (GF p) f) (coefficientOutOfRange (GF p) f) g v ts (length answer)
+    (length work))
+    q in
+    let x = multiple-of p f (h .fieldExists) (h .degreesInRange) (h .coefficientsInRange) (h .irreducible) in
+    let (n, bound, y, z, t) = rated-power p g (leastAt (GF p) one ts 0) w in
     let els = terms-accepted p ts (h .termsInField) in
     let enough = enough-accepted (totalDegree one) ts (h .enoughTerms) in
-    let size : v * degree f ≤ length ts = subst (λ d. d ≤ length ts) (one-total f v) enough in
+    let size : v * degree g ≤ length ts = subst (λ d. d ≤ length ts) (one-total g v) enough in
     let monics =
-    factors-monics (x .isField) one (single-factor (GF p) f (x .monic) (x .positive) (x .irreducibility)) in
+    factors-monics (x .isField) one (single-factor (GF p) g (x .monic) (x .positive) (x .irreducibility)) in
     let s = onward (GF p) one ts in
     let min =
-    portion-minimal (x .isField) f (x .monic) v ts els size (x .positive) (x .irreducibility) y in
+    portion-minimal (x .isField) g (x .monic) v ts els size (x .positive) (x .irreducibility) y in
     let upper : n ≤ v = leastAt-upper (x .isField) one (monics-nonempty (GF p) one monics) ts 0 y in
-    let few : n * degree f ≤ 4096 =
-    le-trans (mul-le-mul-right (degree f) upper)
-    (subst (λ d. d ≤ 4096) (one-total f v) (total-accepted one (h .uppersInRange))) in
+    let few : n * degree g ≤ 4096 =
+    le-trans (mul-le-mul-right (degree g) upper)
+    (subst (λ d. d ≤ 4096) (one-total g v) (total-accepted one (h .uppersInRange))) in
     let returns =
-    power-returns p f n bound s result answer answer′ min (q ∙ ap answered (sym t)) (c .lent .answerBytes) in
-    subst (λ a. PortionAnswered p f v ts a answer′) (ap (λ b. b .figures) t ∙ u)
+    power-returns p g n bound s result answer answer′ min (q ∙ ap answered (sym t)) (c .lent .answerBytes) in
+    subst (λ a. PortionAnswered p g v ts a answer′) (ap (λ b. b .figures) t ∙ u)
     (record {
-      small = power-small p f x n few;
+      small = power-small p g x n few;
       continuation =
           record {
             continues = onward-continues (x .isField) one monics ts els enough;
@@ -271,24 +299,28 @@ portion-rated p f v ts answer work r answer′ work′ c a e =
       agrees =
           annihilated-agrees (x .isField) one monics ts els enough
           (not-false (annihilatesKnown (GF p) (product (GF p) one) ts) (h .annihilated));
-      least = portion-least (x .isField) f (x .monic) v ts els size y;
+      least = portion-least (x .isField) g (x .monic) v ts els size y;
       minimal = subst (λ h. MinimalPolynomial (GF p) h s) (sym (returns .coefficients)) min;
       returns = returns;
       bound =
-          bound-told p f x n bound s (onward-continues (x .isField) one monics ts els enough .inField) min few
+          bound-told p g x n bound s (onward-continues (x .isField) one monics ts els enough .inField) min few
           z;
     })
 
 portion-none :
     (p : ℕ) (f : Polynomial) (v : ℕ) (ts : List ℕ) (answer work : ℕ)
     → ratePortion p f v ts answer work ≡ refused 17
-    → NoneBegins p (power (GF p) f v) ts
-unfolding ratePortion portionTable
+    → NoneBegins p (power (GF p) (monicMultiple (GF p) f) v) ts
+unfolding ratePortion portionAnswer portionTable
 portion-none p f v ts answer work e s z =
-    let (h, k) = settle-refused _ (portionTable p f v ts answer work) (omega arith) e in
-    let x = one-factor-of p f (h .fieldExists) (h .degreesInRange) (h .monic) (h .irreducible) in
-    let same = product-single (x .isField) f v (monic-nonempty (GF p) f (x .monic)) in
-    not-continued p (product (GF p) ((f, v) ∷ [])) ts k s
+    let g = monicMultiple (GF p) f in
+    let (h, k) =
+    settle-refused _
+    (portionTable p (factorDegreeOutOfRange (GF p) f) (coefficientOutOfRange (GF p) f) g v ts answer work)
+    (omega arith) e in
+    let x = multiple-of p f (h .fieldExists) (h .degreesInRange) (h .coefficientsInRange) (h .irreducible) in
+    let same = product-single (x .isField) g v (monic-nonempty (GF p) g (x .monic)) in
+    not-continued p (product (GF p) ((g, v) ∷ [])) ts k s
     (subst (λ g. AnnihilatesEndless (GF p) g s) (sym same) z)
 
 pub portion-promise : PortionPromise
@@ -317,29 +349,32 @@ powerAt-named (f ∷ fs) (v ∷ vs) (suc i) k = powerAt-named fs vs i (omega ari
 module _ (p : ℕ) (fs : List Polynomial) (vs ts answer work : List ℕ) (r : SetRating) (answer′ work′ : List ℕ)
     (c : SetCall p fs vs ts answer work r answer′ work′)
   where
+    abbrev gs : List Polynomial
+    gs = map (monicMultiple (GF p)) fs
+
     abbrev l : List (Polynomial × ℕ)
-    l = named fs vs
+    l = named gs vs
 
     abbrev result : Result (Rated SetFigures)
     result = rateSet p fs vs ts (length answer) (length work)
 
     abbrev table : List Check
     table =
-        setTable p (holdsForSome (factorDegreeOutOfRange (GF p)) fs) (holdsForSome (notMonic (GF p)) fs) l ts
-        (length answer) (length work)
+        setTable p (holdsForSome (factorDegreeOutOfRange (GF p)) fs)
+        (holdsForSome (coefficientOutOfRange (GF p)) fs)
+        l ts (length answer) (length work)
 
     set-factors : Passes table → Factors (GF p) (factorsOf l)
     unfolding setTable
     set-factors h =
-        let same = factorsOf-named fs vs in
-        accepted-factors p (factorsOf l) (h .fieldExists)
-        (ap (holdsForSome (factorDegreeOutOfRange (GF p))) same ∙ h .degreesInRange)
-        (ap (holdsForSome (notMonic (GF p))) same ∙ h .monic)
-        (h .irreducible)
-        (h .different)
+        let same = factorsOf-named gs vs in
+        subst (Factors (GF p)) (sym same)
+        (multiples-factors p fs (h .fieldExists) (h .degreesInRange) (h .coefficientsInRange)
+        (ap (holdsForSome (isReducible p)) (sym same) ∙ h .irreducible)
+        (ap twoEqual (sym same) ∙ h .different))
 
     set-rated :
-        (a : SetTold) → toldSet (r .outcome) ≡ answered a → SetAnswered p fs vs ts a (r .powers) answer′
+        (a : SetTold) → toldSet (r .outcome) ≡ answered a → SetAnswered p gs vs ts a (r .powers) answer′
     unfolding rateSet setAnswer setTable figuresOf mapResult setRating setFiguresTold setPadded answerAfter
     set-rated a e =
         let (b′, q′, u′) = map-answered setFiguresTold (figuresOf result) (sym (c .rating) ∙ e) in
@@ -357,11 +392,11 @@ module _ (p : ℕ) (fs : List Polynomial) (vs ts answer work : List ℕ) (r : Se
         let g = product (GF p) (named (factorsOf l) rs) in
         let rated : result ≡ answered (setRating (GF p) l rs) = q ∙ ap answered (sym t) in
         let returns =
-        written-returns (product (GF p) (named fs rs)) g answer answer′
+        written-returns (product (GF p) (named gs rs)) g answer answer′
         (monic-nonempty (GF p) g (meaning .minimal .monic))
-        (ap (λ (gs : List Polynomial). product (GF p) (named gs rs)) (factorsOf-named fs vs))
+        (ap (λ (hs : List Polynomial). product (GF p) (named hs rs)) (factorsOf-named gs vs))
         (c .lent .answerBytes ∙ ap (λ x. answerAfter x answer) rated) in
-        subst (λ a. SetAnswered p fs vs ts a (r .powers) answer′)
+        subst (λ a. SetAnswered p gs vs ts a (r .powers) answer′)
         (ap setFiguresTold (ap (λ b. b .figures) t ∙ u) ∙ u′)
         (record {
           powers = rs;
@@ -376,8 +411,8 @@ module _ (p : ℕ) (fs : List Polynomial) (vs ts answer work : List ℕ) (r : Se
           continuation = record { continues = one; only = onward-unique I l monics ts els enough };
           atMost =
               λ i k.
-              let found = setPowers-places I l nonempties ts y .1 i (omega (arith, length-named fs vs)) in
-              subst (λ v. getD rs i 0 ≤ v) (powerAt-named fs vs i k)
+              let found = setPowers-places I l nonempties ts y .1 i (omega (arith, length-named gs vs)) in
+              subst (λ v. getD rs i 0 ≤ v) (powerAt-named gs vs i k)
               (leastAt-upper I l nonempties ts i found);
           agrees =
               annihilated-agrees I l monics ts els enough
@@ -385,7 +420,7 @@ module _ (p : ℕ) (fs : List Polynomial) (vs ts answer work : List ℕ) (r : Se
           meaning = meaning;
           minimal =
               subst (λ h. MinimalPolynomial (GF p) h (onward (GF p) l ts))
-              (ap (λ (gs : List Polynomial). product (GF p) (named gs rs)) (factorsOf-named fs vs)
+              (ap (λ (hs : List Polynomial). product (GF p) (named hs rs)) (factorsOf-named gs vs)
               ∙ sym (returns .coefficients))
               (meaning .minimal);
           returns = returns;
@@ -394,14 +429,15 @@ module _ (p : ℕ) (fs : List Polynomial) (vs ts answer work : List ℕ) (r : Se
 pub set-none :
     (p : ℕ) (fs : List Polynomial) (vs ts : List ℕ) (answer work : ℕ)
     → rateSet p fs vs ts answer work ≡ refused 17
-    → NoneBegins p (product (GF p) (named fs vs)) ts
+    → NoneBegins p (product (GF p) (named (map (monicMultiple (GF p)) fs) vs)) ts
 unfolding rateSet setAnswer setTable
 set-none p fs vs ts answer work e =
     let (_, z) =
     settle-refused _
-    (setTable p (holdsForSome (factorDegreeOutOfRange (GF p)) fs) (holdsForSome (notMonic (GF p)) fs)
-    (named fs vs) ts answer work) (omega arith) e in
-    not-continued p (product (GF p) (named fs vs)) ts z
+    (setTable p (holdsForSome (factorDegreeOutOfRange (GF p)) fs)
+    (holdsForSome (coefficientOutOfRange (GF p)) fs)
+    (named (map (monicMultiple (GF p)) fs) vs) ts answer work) (omega arith) e in
+    not-continued p (product (GF p) (named (map (monicMultiple (GF p)) fs) vs)) ts z
 
 pub set-promise : SetPromise
 unfolding figuresOf

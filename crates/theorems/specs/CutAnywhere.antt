@@ -9,14 +9,14 @@
 use Prim.Native.Nat.{ℕ, _*_, _≤_}
 use mathlib.Core.Path.{_≡_}
 use mathlib.Core.Bool.{false}
-use mathlib.Core.List.{List, [], _∷_}
+use mathlib.Core.List.{List, [], _∷_, map}
 use lib.ListN.{length}
 use lib.Dec.{T}
 use Rattle.meaning.specs.declared.PowerRating.{PowerRating}
 use Rattle.meaning.specs.declared.SetRating.{SetRating}
 use Rattle.meaning.specs.declared.FreeRating.{FreeRating}
 use Rattle.meaning.specs.Search.{holdsForSome}
-use Rattle.meaning.specs.Polynomial.{Polynomial, degree, product}
+use Rattle.meaning.specs.Polynomial.{Polynomial, degree, product, monicMultiple}
 use Rattle.meaning.specs.Sequence.{Sequence, InField, cut, Period, AnnihilatesEndless, MinimalPolynomial}
 use Rattle.meaning.specs.Result.{answered}
 use Rattle.meaning.specs.Conditions.{named, totalDegree, acceptedLent}
@@ -83,12 +83,13 @@ pub record CutAnywhere (p : ℕ) (fs : List Polynomial) (vs : List ℕ) (s : Seq
       → PeriodReturns p f (cut s k n) g
   pub free-way : (k m : ℕ) → 2 * degree g ≤ m → 1 ≤ m → m ≤ 4096 → FreeReturns p (cut s k m) g
 
--- So it is for every sequence of the field that the product of accepted factors annihilates, none of them x.
+-- So it is for every sequence of the field that the product of accepted factors annihilates, none of them x
+-- or a multiple of x. The factors are as they are given, with any leading coefficient but 0.
 abbrev pub CutAnywherePromise : Type 0
 CutAnywherePromise =
     (p : ℕ) (fs : List Polynomial) (vs : List ℕ) (s : Sequence)
     → T (acceptedFactors p fs vs)
-    → holdsForSome isX fs ≡ false
+    → holdsForSome isX (map (monicMultiple (GF p)) fs) ≡ false
     → InField (GF p) s
     → AnnihilatesEndless (GF p) (product (GF p) (named fs vs)) s
     → CutAnywhere p fs vs s

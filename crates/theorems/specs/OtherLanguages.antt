@@ -10,10 +10,10 @@ use Prim.Native.Nat.{ℕ}
 use mathlib.Core.Path.{_≡_}
 use mathlib.Core.Logic.{_↔_}
 use mathlib.Core.Bool.{Bool}
-use mathlib.Core.List.{List, _++_}
+use mathlib.Core.List.{List, _++_, map}
 use lib.ListN.{length, take, drop}
 use lib.Dec.{T}
-use Rattle.meaning.specs.Polynomial.{Polynomial, NotAProduct}
+use Rattle.meaning.specs.Polynomial.{Polynomial, NotAProduct, monicMultiple}
 use Rattle.meaning.specs.Result.{Result, refused, answered}
 use Rattle.meaning.specs.Power.{PowerFigures}
 use Rattle.meaning.specs.Period.{ratePeriod}
@@ -50,8 +50,8 @@ PeriodExport =
     (answer′ work′ : List ℕ) (power′ degree′ bound′ : ℕ)
     → PowerExported (ratePeriod p f ts (length answer) (length work)) answer work power degree bound status
     answer′ work′ power′ degree′ bound′
-    → PowerExportRight periodNumbers (λ told. PeriodRight p f ts told answer′) answer work power degree bound
-    status answer′ work′ power′ degree′ bound′
+    → PowerExportRight periodNumbers (λ told. PeriodRight p (monicMultiple (GF p) f) ts told answer′) answer
+    work power degree bound status answer′ work′ power′ degree′ bound′
 
 abbrev pub PortionExport : Type 0
 PortionExport =
@@ -59,8 +59,8 @@ PortionExport =
     (answer′ work′ : List ℕ) (power′ degree′ bound′ : ℕ)
     → PowerExported (ratePortion p f v ts (length answer) (length work)) answer work power degree bound status
     answer′ work′ power′ degree′ bound′
-    → PowerExportRight portionNumbers (λ told. PortionRight p f v ts told answer′) answer work power degree
-    bound status answer′ work′ power′ degree′ bound′
+    → PowerExportRight portionNumbers (λ told. PortionRight p (monicMultiple (GF p) f) v ts told answer′)
+    answer work power degree bound status answer′ work′ power′ degree′ bound′
 
 -- THE SET WAY: the powers are lent bytes. Eight numbers of eight bytes each, as many bytes as were lent.
 
@@ -73,7 +73,7 @@ pub record SetExportRight (p : ℕ) (fs : List Polynomial) (vs ts answer work po
   pub powers-told : Answered told → powers′ ≡ take (length powers) (bytesOfAll eight) ++ drop 64 powers
   pub powers-kept : (n : ℕ) → told ≡ refused n → powers′ ≡ powers
   pub answers : RatingAnswers setNumbers (λ a. a .degree) told answer work answer′ work′
-  pub right : SetRight p fs vs ts told eight answer′
+  pub right : SetRight p (map (monicMultiple (GF p)) fs) vs ts told eight answer′
 
 abbrev pub SetExport : Type 0
 SetExport =
@@ -108,7 +108,7 @@ pub record ContinueExportRight (p : ℕ) (g : Polynomial) (start buffer : List �
   pub told : Result (Unit {0})
   pub status-told : StatusTold told status
   pub answers : Tells continueNumbers told
-  pub right : ContinueRight p g start buffer place told buffer′
+  pub right : ContinueRight p (monicMultiple (GF p) g) start buffer place told buffer′
 
 abbrev pub ContinueExport : Type 0
 ContinueExport =

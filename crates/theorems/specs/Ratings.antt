@@ -1,5 +1,7 @@
 -- Demand 2, as statements about the contracts of the calls: the polynomial is the minimal polynomial, or for
--- a portion alone the shortest recurrence. The signs are those of Promises.
+-- a portion alone the shortest recurrence. The signs are those of Promises. A factor is as the call takes it,
+-- with any leading coefficient but 0; what is returned is said of its monic multiple, for which it stands,
+-- and MultiplePromise says that the two annihilate the same.
 --
 --   Returns g told answer′ == the call returns g: it tells the degree of g, and the answer bytes begin with g
 --   …Answered        == what an answer of the way means: its figures, and the list in the answer bytes
@@ -8,13 +10,15 @@
 --   OneContinuation  == the first terms have exactly one continuation that the product annihilates
 --   NoneBegins       == no sequence that a polynomial annihilates begins with the terms
 --   BoundTold        == what the repeat bound that is told means; RepeatPromise: for any sequence
+--   MultiplePromise  == a factor and its monic multiple annihilate the same sequences; so do the products of
+--                       their powers (MultiplesPromise)
 --   PrimeWords, IrreducibleWords == the tests for primes and irreducible polynomials are the words of the
 --                                   request
 use Prim.Native.Nat.{ℕ, suc, _*_, _-_, _^_, _≤_, _<_}
 use mathlib.Core.Path.{_≡_}
-use mathlib.Core.Logic.{_⊎_, _↔_}
+use mathlib.Core.Logic.{_⊎_, _↔_, _≢_}
 use mathlib.Core.Bool.{Bool, true, false}
-use mathlib.Core.List.{List, [], _∷_, _++_}
+use mathlib.Core.List.{List, [], _∷_, _++_, map}
 use mathlib.Core.Option.{some}
 use lib.ListN.{length, getD, take}
 use lib.Dec.{T}
@@ -23,13 +27,14 @@ use Rattle.meaning.specs.declared.SetRating.{SetRating}
 use Rattle.meaning.specs.declared.FreeRating.{FreeRating}
 use Rattle.meaning.specs.declared.Filling.{Filling}
 use Rattle.meaning.specs.declared.Irreducibility.{Irreducibility}
-use Rattle.meaning.specs.Field.{Field, prime, PrimeNumber, isPrime}
-use Rattle.meaning.specs.Polynomial.{Polynomial, degree, isMonicOver, power, product, irreducible}
-use Rattle.meaning.specs.Polynomial.{NotAProduct}
+use Rattle.meaning.specs.Field.{Field, prime, PrimeNumber, isPrime, areElements}
+use Rattle.meaning.specs.Polynomial.{Polynomial, degree, leading, isMonicOver, scale, power, product}
+use Rattle.meaning.specs.Polynomial.{irreducible, monicMultiple, NotAProduct}
 use Rattle.meaning.specs.Sequence.{Sequence, InField, periodic, cut, LeastPeriod, Continues}
 use Rattle.meaning.specs.Sequence.{AnnihilatesEndless, MinimalPolynomial, LeastPower}
 use Rattle.meaning.specs.Result.{Result, refused, answered}
-use Rattle.meaning.specs.Conditions.{named, totalDegree}
+use Rattle.meaning.specs.Search.{holdsForSome}
+use Rattle.meaning.specs.Conditions.{named, totalDegree, coefficientOutOfRange}
 use Rattle.meaning.specs.Power.{PowerFigures, isX, repeatBound, BoundMeaning}
 use Rattle.meaning.specs.Period.{NoPower}
 use Rattle.meaning.specs.Portion.{onward, SetMeaning, PortionMeaning, Agrees}
@@ -83,7 +88,7 @@ abbrev pub PeriodPromise : Type 0
 PeriodPromise =
     (p : ℕ) (f : Polynomial) (ts answer work : List ℕ) (r : PowerRating) (answer′ work′ : List ℕ)
     → PeriodCall p f ts answer work r answer′ work′
-    → PeriodRight p f ts (toldPower r) answer′
+    → PeriodRight p (monicMultiple (GF p) f) ts (toldPower r) answer′
 
 -- No sequence that g annihilates begins with the terms.
 abbrev pub NoneBegins : ℕ → Polynomial → List ℕ → Type 0
@@ -123,7 +128,7 @@ abbrev pub PortionPromise : Type 0
 PortionPromise =
     (p : ℕ) (f : Polynomial) (v : ℕ) (ts answer work : List ℕ) (r : PowerRating) (answer′ work′ : List ℕ)
     → PortionCall p f v ts answer work r answer′ work′
-    → PortionRight p f v ts (toldPower r) answer′
+    → PortionRight p (monicMultiple (GF p) f) v ts (toldPower r) answer′
 
 -- The set way: the same with several factors. Their powers stand in the eight places, each is at most its
 -- upper power, and the polynomial returned is the product of the factors to these powers.
@@ -149,7 +154,7 @@ abbrev pub SetPromise : Type 0
 SetPromise =
     (p : ℕ) (fs : List Polynomial) (vs ts answer work : List ℕ) (r : SetRating) (answer′ work′ : List ℕ)
     → SetCall p fs vs ts answer work r answer′ work′
-    → SetRight p fs vs ts (toldSet (r .outcome)) (r .powers) answer′
+    → SetRight p (map (monicMultiple (GF p)) fs) vs ts (toldSet (r .outcome)) (r .powers) answer′
 
 -- The free way: the degree is the least of a polynomial that annihilates the terms, and the polynomial
 -- returned is one of that degree; under the word `one` (`unique`), which stands where twice the degree is at
@@ -190,7 +195,7 @@ abbrev pub ContinuePromise : Type 0
 ContinuePromise =
     (p : ℕ) (g : Polynomial) (start buffer : List ℕ) (place : ℕ) (r : Filling) (buffer′ : List ℕ)
     → ContinueCall p g start buffer place r buffer′
-    → ContinueRight p g start buffer place (toldFilling r) buffer′
+    → ContinueRight p (monicMultiple (GF p) g) start buffer place (toldFilling r) buffer′
 
 -- The two questions
 abbrev pub IrreduciblePromise : Type 0
@@ -225,6 +230,43 @@ RepeatPromise =
     → 1 ≤ degree f
     → T (irreducible (GF p) f)
     → RepeatBounded p f r
+
+-- THE MONIC MULTIPLE
+
+-- The monic multiple of f: it is monic, f is its leading coefficient times it, it has the degree of f, and
+-- f^e annihilates exactly what its e-th power does, whatever e is; so a least power of the one is that of the
+-- other. A monic f is its own.
+pub record MonicMultiple (p : ℕ) (f g : Polynomial) : Type 0 where
+  pub monic : T (isMonicOver (GF p) g)
+  pub multiple : scale (GF p) (leading f) g ≡ f
+  pub same-degree : degree g ≡ degree f
+  pub annihilates : (e : ℕ) (s : Sequence)
+      → AnnihilatesEndless (GF p) (power (GF p) f e) s ↔ AnnihilatesEndless (GF p) (power (GF p) g e) s
+  pub least : (s : Sequence) (r : ℕ) → LeastPower (GF p) f s r ↔ LeastPower (GF p) g s r
+  pub itself : leading f ≡ 1 → g ≡ f
+
+abbrev pub MultiplePromise : Type 0
+MultiplePromise =
+    (p : ℕ) (f : Polynomial)
+    → T (isPrime p)
+    → T (areElements (GF p) f)
+    → leading f ≢ 0
+    → MonicMultiple p f (monicMultiple (GF p) f)
+
+-- The product of the powers of factors that 6 and 11 let pass annihilates exactly what the product of the
+-- same powers of their monic multiples does, and has the same total degree.
+pub record MonicMultiples (p : ℕ) (fs gs : List Polynomial) (vs : List ℕ) : Type 0 where
+  pub same-total : totalDegree (named gs vs) ≡ totalDegree (named fs vs)
+  pub annihilates : (s : Sequence)
+      → AnnihilatesEndless (GF p) (product (GF p) (named fs vs)) s
+      ↔ AnnihilatesEndless (GF p) (product (GF p) (named gs vs)) s
+
+abbrev pub MultiplesPromise : Type 0
+MultiplesPromise =
+    (p : ℕ) (fs : List Polynomial) (vs : List ℕ)
+    → T (isPrime p)
+    → holdsForSome (coefficientOutOfRange (GF p)) fs ≡ false
+    → MonicMultiples p fs (map (monicMultiple (GF p)) fs) vs
 
 -- THE WORDS OF THE REQUEST
 

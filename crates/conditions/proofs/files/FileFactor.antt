@@ -11,7 +11,7 @@ use lib.ListN.{length, getD, take, drop, length-drop, drop-of-length-le}
 use lib.Seq.{take-all, take-nil, drop-drop}
 use Rattle.meaning.specs.Field.{Field, areElements}
 use Rattle.meaning.specs.Conditions.{termOutOfField}
-use Rattle.meaning.specs.File.{fileFactor, fileDegreeOutOfRange, fileNotMonic}
+use Rattle.meaning.specs.File.{fileFactor, fileDegreeOutOfRange, fileCoefficientOutOfRange}
 use Rattle.conditions.specs.lists.Lists.{largest}
 use Rattle.conditions.proofs.numbers.Tests.{degree-tests}
 use Rattle.conditions.proofs.lists.Coefficients.{empty-terms-pass}
@@ -58,22 +58,24 @@ all-part : (body : List ℕ) → allPart body ≡ drop 3 body
 all-part body = take-all (length body - 3) (drop 3 body) (simp length-drop (omega arith))
 
 module _ (F : Field) (body : List ℕ) where
-  tests : fileNotMonic F (fileFactor body) ≡ termOutOfField F (lower body) || ltb 0 (largest (upper body))
-  unfolding fileNotMonic fileFactor termOutOfField lower upper
+  tests : fileCoefficientOutOfRange F (fileFactor body)
+      ≡ termOutOfField F (lower body) || ltb 0 (largest (upper body))
+  unfolding fileCoefficientOutOfRange fileFactor termOutOfField lower upper
   tests = ap (λ (x : Bool). not (areElements F (lower body)) || x) (sym (zeros-largest (upper body)))
 
   -- a coefficient below the degree is no element of the field
-  pub file-foreign : termOutOfField F (lowerPart body) ≡ true → true ≡ fileNotMonic F (fileFactor body)
+  pub file-foreign : termOutOfField F (lowerPart body) ≡ true
+      → true ≡ fileCoefficientOutOfRange F (fileFactor body)
   file-foreign h = sym (tests ∙ rw (lower-part, h))
 
   -- a coefficient from the degree on is not 0
   pub file-upper : termOutOfField F (lowerPart body) ≡ false
-      → ltb 0 (largest (upperPart body)) ≡ fileNotMonic F (fileFactor body)
+      → ltb 0 (largest (upperPart body)) ≡ fileCoefficientOutOfRange F (fileFactor body)
   file-upper h = sym (tests ∙ rw (lower-part, h, upper-part))
 
   -- the coefficients end at the degree or before it
   pub file-without-upper : length body ≤ end body
-      → termOutOfField F (allPart body) ≡ fileNotMonic F (fileFactor body)
+      → termOutOfField F (allPart body) ≡ fileCoefficientOutOfRange F (fileFactor body)
   unfolding lower upper largest
   file-without-upper h =
       let no-upper : upper body ≡ [] =
@@ -84,7 +86,7 @@ module _ (F : Field) (body : List ℕ) where
       ∙ sym (tests ∙ rw (all-lower, no-upper) (or-false (termOutOfField F (drop 3 body))))
 
   -- there are no coefficients
-  pub file-without-coefficients : length body ≤ 3 → false ≡ fileNotMonic F (fileFactor body)
+  pub file-without-coefficients : length body ≤ 3 → false ≡ fileCoefficientOutOfRange F (fileFactor body)
   file-without-coefficients h =
       empty-terms-pass F (allPart body) (rw (drop-of-length-le body {i = 3} h, take-nil))
       ∙ file-without-upper (omega arith)

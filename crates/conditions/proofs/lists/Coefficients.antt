@@ -12,7 +12,7 @@ use borrow.Author.Tests.{le-ltb}
 use Rattle.meaning.specs.Search.{holdsForAll}
 use Rattle.meaning.specs.Field.{Field, areElements}
 use Rattle.meaning.specs.Polynomial.{leading, isMonic}
-use Rattle.meaning.specs.Conditions.{termOutOfField, factorDegreeOutOfRange, notMonic}
+use Rattle.meaning.specs.Conditions.{termOutOfField, factorDegreeOutOfRange, coefficientOutOfRange, notMonic}
 
 pub empty-degree-passes : (F : Field) (f : List ℕ) → length f ≡ 0 → false ≡ factorDegreeOutOfRange F f
 unfolding factorDegreeOutOfRange
@@ -34,6 +34,23 @@ empty-terms-pass F [] h = refl
 empty-terms-pass F (t ∷ ts) h = absurd (omega arith)
 
 -- the three grounds of refusal 11
+-- 11
+pub foreign-coefficient : (F : Field) (f : List ℕ) → termOutOfField F f ≡ true
+    → true ≡ coefficientOutOfRange F f
+unfolding termOutOfField coefficientOutOfRange
+foreign-coefficient F f h = rw h
+
+pub empty-coefficient : (F : Field) (f : List ℕ) → length f ≡ 0 → true ≡ coefficientOutOfRange F f
+unfolding coefficientOutOfRange areElements holdsForAll leading
+empty-coefficient F [] h = refl
+empty-coefficient F (c ∷ f) h = absurd (omega arith)
+
+pub leading-coefficient : (F : Field) (f : List ℕ) → termOutOfField F f ≡ false
+    → eqb (getD f (length f - 1) 0) 0 ≡ coefficientOutOfRange F f
+unfolding termOutOfField coefficientOutOfRange
+leading-coefficient F f h = rw (h, leading-last f)
+
+-- not monic
 pub foreign-not-monic : (F : Field) (f : List ℕ) → termOutOfField F f ≡ true → true ≡ notMonic F f
 unfolding termOutOfField notMonic
 foreign-not-monic F f h = rw h

@@ -6,13 +6,14 @@ use Prim.Native.Nat.{ℕ}
 use mathlib.Core.Bool.{Bool}
 use mathlib.Core.List.{List}
 use Rattle.meaning.specs.Field.{prime}
-use Rattle.meaning.specs.Conditions.{factorDegreeOutOfRange, notMonic, isReducible}
-use Rattle.meaning.specs.File.{fileFactor, fileDegreeOutOfRange, fileNotMonic}
+use Rattle.meaning.specs.Conditions.{factorDegreeOutOfRange, coefficientOutOfRange, isReducible}
+use Rattle.meaning.specs.File.{fileFactor, fileDegreeOutOfRange, fileCoefficientOutOfRange}
 use Rattle.conditions.specs.declared.factors.FactorCondition.{FactorCondition}
 
 abbrev pub holdsOf : FactorCondition → ℕ → List ℕ → Bool
 holdsOf FactorCondition.DegreeOutOfRange p = factorDegreeOutOfRange (prime p)
-holdsOf FactorCondition.NotMonic p = notMonic (prime p)
+holdsOf FactorCondition.CoefficientOutOfRange p = coefficientOutOfRange (prime p)
 holdsOf FactorCondition.Reducible p = isReducible p
 holdsOf FactorCondition.FileDegreeOutOfRange p = λ body. fileDegreeOutOfRange (prime p) (fileFactor body)
-holdsOf FactorCondition.FileNotMonic p = λ body. fileNotMonic (prime p) (fileFactor body)
+holdsOf FactorCondition.FileCoefficientOutOfRange p =
+    λ body. fileCoefficientOutOfRange (prime p) (fileFactor body)

@@ -7,15 +7,15 @@
 -- Assumes nothing.
 use Prim.Native.Nat.{ℕ, zero, suc, _-_, _<_, min}
 use mathlib.Core.Path.{_≡_, refl, sym, ap, subst, _∙_}
-use mathlib.Core.List.{List, [], _∷_}
+use mathlib.Core.List.{List, [], _∷_, map}
 use native.Mathlib.Omega.{arith}
-use lib.ListN.{length, getD, take, drop, length-take}
+use lib.ListN.{length, getD, take, drop, length-take, length-map}
 use lib.Seq.{ext-getD, getD-take}
 use Rattle.meaning.specs.declared.SetRating.{SetRating}
-use Rattle.meaning.specs.Polynomial.{Polynomial}
+use Rattle.meaning.specs.Polynomial.{Polynomial, monicMultiple}
 use Rattle.meaning.specs.Search.{holdsForSome}
 use Rattle.meaning.specs.Field.{prime}
-use Rattle.meaning.specs.Conditions.{named, factorDegreeOutOfRange, notMonic}
+use Rattle.meaning.specs.Conditions.{named, factorDegreeOutOfRange, coefficientOutOfRange}
 use Rattle.meaning.specs.Portion.{setAnswer, rateSet}
 use Rattle.meaning.specs.Calls.{SetCall}
 use Rattle.meaning.specs.FlatBytes.{split}
@@ -53,13 +53,14 @@ named-same (f ∷ fs) (u ∷ us) (v ∷ vs) h =
     ∙ ap (λ l. (f, v) ∷ l) (named-same fs us vs (λ i k. h (suc i) (omega arith)))
 
 answer-same : (p : ℕ) (fs : List Polynomial) (us vs ts : List ℕ) (answer work : ℕ)
-    → named fs us ≡ named fs vs
+    → named (map (monicMultiple (prime p)) fs) us ≡ named (map (monicMultiple (prime p)) fs) vs
     → rateSet p fs us ts answer work ≡ rateSet p fs vs ts answer work
 unfolding rateSet
 answer-same p fs us vs ts answer work e =
     ap
     (λ l.
-    setAnswer p (holdsForSome (factorDegreeOutOfRange (prime p)) fs) (holdsForSome (notMonic (prime p)) fs) l
+    setAnswer p (holdsForSome (factorDegreeOutOfRange (prime p)) fs)
+    (holdsForSome (coefficientOutOfRange (prime p)) fs) l
     ts
     answer
     work)
@@ -77,8 +78,10 @@ module _ {p : ℕ} (b : List ℕ) {ls ms us vs ts answer work : List ℕ} {k : �
       let l : k - 0 ≡ k = omega arith in
       let fs : split b (take (k - 0) ms) ≡ take 9 (split b ls)
       = ap (split b) (ap (λ n. take n ms) l ∙ nine-lengths f e) ∙ split-take 9 b ls in
-      let q = named-same (take 9 (split b ls)) vs us
-      (λ i h. g .same i (omega (arith, length-take 9 (split b ls)))) in
+      let gs = take 9 (split b ls) in
+      let q = named-same (map (monicMultiple (prime p)) gs) vs us
+      (λ i h. g .same i (omega (arith, length-map gs (monicMultiple (prime p)), length-take 9 (split b ls))))
+      in
       call-nine (split b ls)
       (call-same (answer-same p (take 9 (split b ls)) vs us ts (length answer) (length work) q)
       (subst (λ gs. SetCall p gs vs ts answer work r answer′ work′) fs c))

@@ -10,15 +10,15 @@ use native.Mathlib.Decide.{decLt}
 use native.Mathlib.Omega.{arith}
 use mathlib.Core.Path.{_≡_, refl, sym, ap, subst, _∙_}
 use mathlib.Core.Bool.{Bool, true, false, _||_}
-use mathlib.Core.List.{List, [], _∷_, _++_}
+use mathlib.Core.List.{List, [], _∷_, _++_, map}
 use mathlib.Core.Option.{Option}
-use lib.ListN.{length, take, length-take}
+use lib.ListN.{length, take, length-take, length-map}
 use lib.Seq.{take-all}
 use lib.Dec.{eqb, ltb}
 use borrow.Author.Tests.{lt-ltb}
 use Rattle.meaning.specs.declared.SetRating.{SetRating}
 use Rattle.meaning.specs.Field.{prime}
-use Rattle.meaning.specs.Polynomial.{Polynomial}
+use Rattle.meaning.specs.Polynomial.{Polynomial, monicMultiple}
 use Rattle.meaning.specs.Conditions.{named, notPrime, countOutOfRange, termOutOfField, factorCountOutOfRange}
 use Rattle.meaning.specs.Result.{Result, refused, Check, settle, Rated, figuresOf, mapResult}
 use Rattle.meaning.specs.Portion.{SetFigures, setTable, setAnswer, rateSet}
@@ -54,6 +54,10 @@ too-many n h = go (eqb n 0) (ltb 8 n) (lt-ltb 8 n h)
     go false c e = e
 
 module _ (p : ℕ) (us ts : List ℕ) (answer work : ℕ) where
+  -- as many as the factors
+  count : (fs : List Polynomial) → length (named (map (monicMultiple (prime p)) fs) us) ≡ length fs
+  count fs = length-named (map (monicMultiple (prime p)) fs) us ∙ length-map fs (monicMultiple (prime p))
+
   set-refuses-many :
       (fs gs : List Polynomial)
       → 8 < length fs
@@ -66,11 +70,11 @@ module _ (p : ℕ) (us ts : List ℕ) (answer work : ℕ) where
       ∷ (7, λ _. countOutOfRange (length ts))
       ∷ (8, λ _. termOutOfField (prime p) ts)
       ∷ [])
-      (9, λ _. factorCountOutOfRange (length (named fs us)))
-      (9, λ _. factorCountOutOfRange (length (named gs us)))
+      (9, λ _. factorCountOutOfRange (length (named (map (monicMultiple (prime p)) fs) us)))
+      (9, λ _. factorCountOutOfRange (length (named (map (monicMultiple (prime p)) gs) us)))
       _ _ refl
-      (too-many (length (named fs us)) (omega (arith, length-named fs us)))
-      (too-many (length (named gs us)) (omega (arith, length-named gs us)))
+      (too-many (length (named (map (monicMultiple (prime p)) fs) us)) (omega (arith, count fs)))
+      (too-many (length (named (map (monicMultiple (prime p)) gs) us)) (omega (arith, count gs)))
 
   pub set-nine : (fs : List Polynomial)
       → rateSet p (take 9 fs) us ts answer work ≡ rateSet p fs us ts answer work

@@ -1,12 +1,8 @@
 -- Flat bytes part by part.
 --
---   PartFrom b ns i from j == part i of the bytes b, cut by the lengths ns, is part i − j of the bytes
---                       from the place `from` on, cut by the lengths from j on
+--   PartFrom b ns i from j == part i of the bytes b, cut by the lengths ns, is part i − j of the bytes from
+--                     the place `from` on, cut by the lengths from j on
 --   split-length     == there are as many parts as lengths
---   reads d l i k    == k elements of a list from the place i on, as they are read one by one: d beyond
---                       its end
---   reads-take       == as many of them as there are, are the first k elements
---   Each l i rs      == the slices rs hold the elements of l from the place i on
 --   rated-parts      == nine slices that hold the parts, cut to the number of parts, are the first nine parts
 -- Assumes nothing.
 use Prim.Native.Nat.{ℕ, zero, suc, _+_, _-_, _≤_, _<_, min}
@@ -18,9 +14,10 @@ use native.Mathlib.Decide.{decLt}
 use native.Mathlib.Omega.{arith}
 use lib.ListN.{length, getD, take, drop, length-drop, drop-of-length-le, List·getD-eq-default}
 use lib.Seq.{drop-cons, drop-drop, take-all, take-nil}
-use denote.Ref.{RefT, now}
+use denote.Ref.{RefT}
 use Rattle.meaning.specs.Slices.{listsOf}
 use Rattle.meaning.specs.FlatBytes.{split}
+use Rattle.rate_set.proofs.Parts.{Each, parts-first}
 use Rattle.flat_bytes.specs.factors.Parts.{PartEnd}
 
 pub split-length : (b ns : List ℕ) → length (split b ns) ≡ length ns
@@ -60,8 +57,8 @@ module _ (b ns : List ℕ) (j : ℕ) where
   ]
 
   split-later :
-      (k : ℕ) → getD (split b (drop j ns)) (suc k) [] ≡ getD (split (drop (getD ns j 0) b) (drop (suc j) ns))
-      k []
+      (k : ℕ) → getD (split b (drop j ns)) (suc k) []
+      ≡ getD (split (drop (getD ns j 0) b) (drop (suc j) ns)) k []
   unfolding split
   split-later k = elim (decLt j (length ns)) [
     | yes h ↦ ap (λ l. getD (split b l) (suc k) []) (drop-cons ns j 0 h)
@@ -112,53 +109,12 @@ module _ {b ns : List ℕ} {i from j end : ℕ} (x : PartFrom b ns i from j) whe
       ∙ ap (λ m. getD (split (drop from b) (drop j ns)) m []) z
       ∙ x .same
 
--- The parts read one by one
-module _ {A : Type 0} (d : A) where
-  abbrev pub reads : List A → ℕ → ℕ → List A
-  reads l i zero = []
-  reads l i (suc k) = getD l i d ∷ reads l (suc i) k
-
-  pub reads-take : (l : List A) (i k : ℕ) → take (min (length l - i) k) (reads l i k) ≡ take k (drop i l)
-  reads-take l i zero = take-nil (min (length l - i) 0)
-  reads-take l i (suc k) = elim (decLt i (length l)) [
-    | yes h ↦
-        let e : min (length l - i) (suc k) ≡ suc (min (length l - suc i) k) = omega arith in
-        ap (λ n. take n (reads l i (suc k))) e
-        ∙ ap (λ r. getD l i d ∷ r) (reads-take l (suc i) k)
-        ∙ ap (take (suc k)) (sym (drop-cons l i d h))
-    | no h ↦
-        let e : min (length l - i) (suc k) ≡ 0 = omega arith in
-        ap (λ n. take n (reads l i (suc k))) e
-        ∙ ap (take (suc k)) (sym (drop-of-length-le l {i = i} (omega arith)))
-  ]
-
-abbrev pub Each : List (List ℕ) → ℕ → List (RefT (List ℕ)) → Type 0
-Each l i [] = Unit {0}
-Each l i (r ∷ rs) = (now r ≡ getD l i []) × Each l (suc i) rs
-
-each-reads : (l : List (List ℕ)) (i : ℕ) (rs : List (RefT (List ℕ))) → Each l i rs
-    → listsOf rs ≡ reads [] l i (length rs)
-unfolding listsOf
-each-reads l i [] h = refl
-each-reads l i (r ∷ rs) (e, h) =
-    ap (λ f. f ∷ listsOf rs) e ∙ ap (λ fs. getD l i [] ∷ fs) (each-reads l (suc i) rs h)
-
-lists-take : (k : ℕ) (rs : List (RefT (List ℕ))) → listsOf (take k rs) ≡ take k (listsOf rs)
-unfolding listsOf
-lists-take zero rs = refl
-lists-take (suc k) [] = refl
-lists-take (suc k) (r ∷ rs) = ap (λ fs. now r ∷ fs) (lists-take k rs)
-
+-- The first nine parts
 pub rated-parts :
     (b ns : List ℕ) (rs : List (RefT (List ℕ))) {k : ℕ}
     → length rs ≡ 9
     → Each (split b ns) 0 rs
     → k ≡ min (length ns) 9
     → listsOf (take (k - 0) (drop 0 rs)) ≡ take 9 (split b ns)
-rated-parts b ns rs {k} nine h e =
-    let l = split b ns in
-    let m : k - 0 ≡ min (length l - 0) 9 = omega (arith, split-length b ns) in
-    lists-take (k - 0) rs
-    ∙ ap (take (k - 0)) (each-reads l 0 rs h ∙ ap (reads [] l 0) nine)
-    ∙ ap (λ n. take n (reads [] l 0 9)) m
-    ∙ reads-take [] l 0 9
+rated-parts b ns rs nine h e =
+    parts-first (split b ns) 9 rs nine h (e ∙ ap (λ n. min n 9) (sym (split-length b ns)))

@@ -4,23 +4,30 @@
 --   nothing-rated, power-rated == the answer where nothing is found, and where a power is
 --   call-rating, call-lent == what a call answers and leaves, where its result is that of the power found
 --   settled-none, settled-some == the result where the verdict accepts: 17 is the last condition of the table
---   factor-monic, factor-positive == of a factor that 10 and 11 let pass
+--   factor-monic, factor-positive == of a monic factor that 10 lets pass
+--   refused-as        == a refusal by another number than 17 is told, and leaves all as it was
+--   given-leads, given-multiple == a factor that 6, 10 and 11 let pass leads, and its monic multiple is one
+--                        that 6, 7, 8 and 10 let pass
 --
 -- Assumes nothing.
-use Prim.Native.Nat.{ℕ, _*_, _≤_, _<_}
-use mathlib.Core.Path.{_≡_, refl, sym, ap, _∙_}
+use Prim.Native.Nat.{ℕ, _*_, _-_, _≤_, _<_}
+use mathlib.Core.Path.{_≡_, refl, sym, ap, subst, _∙_}
 use mathlib.Core.Bool.{Bool, true, false}
 use mathlib.Core.List.{List, [], _∷_, _++_}
 use mathlib.Core.Option.{Option, none, some}
-use lib.ListN.{length}
-use lib.Dec.{T}
+use native.Mathlib.Nat.{sub-zero}
+use native.Mathlib.Omega.{arith}
+use lib.ListN.{length, take, drop, length-append}
+use lib.Seq.{take-at}
+use lib.Dec.{T, eqb}
 use Rattle.meaning.specs.declared.Refusal.{Refusal}
 use Rattle.meaning.specs.declared.PowerRating.{PowerRating}
 use Rattle.meaning.specs.Search.{bind}
 use Rattle.meaning.specs.Field.{Field, prime, primeInRange}
-use Rattle.meaning.specs.Polynomial.{Polynomial, degree, power, isMonicOver}
-use Rattle.meaning.specs.Result.{Result, answered, mapResult, Check, firstOf, valueOf, settle, Rated}
+use Rattle.meaning.specs.Polynomial.{Polynomial, degree, power, isMonicOver, monicMultiple}
+use Rattle.meaning.specs.Result.{Result, refused, answered, mapResult, Check, firstOf, valueOf, settle, Rated}
 use Rattle.meaning.specs.Result.{figuresOf, cleared, answerAfter, workAfter}
+use Rattle.meaning.specs.Conditions.{factorDegreeOutOfRange, coefficientOutOfRange}
 use Rattle.meaning.specs.Power.{PowerFigures, repeatBound, powerRating}
 use Rattle.meaning.specs.Answers.{numberOf, toldPower}
 use Rattle.meaning.specs.Calls.{LentAfter}
@@ -30,15 +37,21 @@ use Rattle.bridge.proofs.Polynomials.{monic-nonempty}
 use Rattle.bridge.proofs.Products.{accepted-monic}
 use Rattle.bridge.proofs.Irreducibles.{accepted-degree}
 use Rattle.bridge.proofs.RepeatBounds.{repeatBound-exists}
+use Rattle.bridge.proofs.Accepted.{prime-accepted}
+use Rattle.bridge.proofs.Multiples.{Leads, coefficients-lead, multiple-ten, multiple-eleven, multiple-length}
+use Rattle.meaning.proofs.Passes.{Passes}
 use Rattle.irreducible.specs.Accepted.{Accepted}
+use Rattle.irreducible.proofs.Accepted.{accepted-short}
 use Rattle.refusals.specs.declared.Verdict.{Verdict}
-use Rattle.refusals.specs.Verdicts.{numberIn}
-use Rattle.refusals.proofs.Settled.{settle-last, settle-over}
+use Rattle.refusals.specs.Verdicts.{numberIn, termsTable, oneFactorTable, givenTable}
+use Rattle.refusals.proofs.Settled.{verdict-passes, settle-last, settle-over}
+use Rattle.refusals.proofs.Lent.{lent-refused}
 use Rattle.powers.specs.product.Writing.{PowerInput, PowerWritten}
 use Rattle.period_way.specs.declared.Found.{Found}
 use Rattle.period_way.specs.declared.Found.the-variants.{Power, Nothing}
 use Rattle.period_way.specs.Period.{told}
-use Rattle.period_way.specs.one_factor.OneFactor.{ratingFound, Answerable, FoundRated}
+use Rattle.period_way.specs.one_factor.OneFactor.{ratingFound, Answerable, FoundRated, Multiple}
+use Rattle.period_way.specs.one_factor.OneFactor.{RatedAs}
 
 -- The answer
 abbrev rating : Field → Polynomial → ℕ → ℕ → Rated PowerFigures
@@ -156,3 +169,84 @@ module _ {p : ℕ} {f : Polynomial} (a : Accepted p f) where
   pub factor-positive : 1 ≤ degree f
   factor-positive =
       accepted-degree (prime p) f (monic-nonempty (prime p) f factor-monic) (a .degreeInRange)
+
+-- a refusal before 17
+pub refused-as :
+    {result : Result (Rated PowerFigures)} {answer work : List ℕ} {x : Refusal}
+    → result ≡ refused (numberOf x)
+    → eqb (numberOf x) 17 ≡ false
+    → RatedAs result answer work (PowerRating.Refused x) answer work
+unfolding toldPower figuresOf mapResult
+refused-as e other = record { rating = sym (ap figuresOf e); lent = lent-refused e other }
+
+-- what is given, where 6, 7, 8, 10 and 11 let it pass
+module _ (p : ℕ) (f : Polynomial) (ts : List ℕ) {v : Verdict} (e : numberIn v ≡ firstOf (givenTable p f ts))
+    (q : v ≡ Verdict.Accepted) where
+  given : Passes (givenTable p f ts)
+  given = verdict-passes (givenTable p f ts) e q
+
+  pub given-prime : T (primeInRange p)
+  unfolding givenTable termsTable oneFactorTable
+  given-prime = prime-accepted p (given .fieldExists)
+
+  leads : Leads (prime p) f
+  unfolding givenTable termsTable oneFactorTable
+  leads = coefficients-lead (prime p) f (given .coefficientsInRange)
+
+  pub given-multiple : Multiple p (monicMultiple (prime p) f) ts
+  unfolding givenTable termsTable oneFactorTable
+  given-multiple =
+      let I = inRange-isField p given-prime in
+      record {
+        accepted =
+            record {
+              fieldExists = given .fieldExists;
+              degreeInRange = multiple-ten I leads ∙ given .degreesInRange;
+              monicOver = multiple-eleven I leads;
+            };
+        countInRange = given .countInRange;
+        termsInField = given .termsInField;
+      }
+
+  pub given-ten : factorDegreeOutOfRange (prime p) f ≡ false
+  unfolding givenTable termsTable oneFactorTable
+  given-ten = given .degreesInRange
+
+  pub given-eleven : coefficientOutOfRange (prime p) f ≡ false
+  unfolding givenTable termsTable oneFactorTable
+  given-eleven = given .coefficientsInRange
+
+  -- the field as the code has it, and the room for the multiple
+  module _ {F : Field} (h : F ≡ prime p) where
+    pub given-leads : Leads F f
+    given-leads = subst (λ G. Leads G f) (sym h) leads
+
+    pub given-short : length f ≤ 33
+    given-short =
+        let I = inRange-isField p given-prime in
+        subst (λ n. n ≤ 33) (multiple-length I leads) (accepted-short (given-multiple .accepted))
+
+    -- the multiple that stands at the front of the room
+    pub given-front :
+        (room : List ℕ) {w : List ℕ}
+        → w ≡ monicMultiple F f ++ drop (length f) room
+        → take (length f - 0) w ≡ monicMultiple (prime p) f
+    given-front room k =
+        ap (take (length f - 0)) (k ∙ ap (λ G. monicMultiple G f ++ drop (length f) room) h)
+        ∙ take-at (monicMultiple (prime p) f) (drop (length f) room) (length f - 0)
+        (multiple-length (inRange-isField p given-prime) leads ∙ sym (sub-zero (length f)))
+
+    -- and there is room for it
+    pub given-room :
+        (room : List ℕ) {w : List ℕ}
+        → length room ≡ 33
+        → w ≡ monicMultiple F f ++ drop (length f) room
+        → length f ≤ length w
+    given-room room n k =
+        subst (λ (l : List ℕ). length f ≤ length l) (sym k)
+        (omega (
+          arith,
+          length-append (monicMultiple F f) (drop (length f) room),
+          ap (λ (G : Field). length (monicMultiple G f)) h,
+          multiple-length (inRange-isField p given-prime) leads,
+        ))

@@ -2,22 +2,29 @@
 -- o is the power that a way found.
 --
 --   ratingFound F f o == the answer with f to the power found, or 17 where none was found
---   Answerable F f o  == f is monic over F, of a degree that 10 lets pass, and f to the power found
---                        has a degree of at most 4,096
+--   Answerable F f o  == f is monic over F, of a degree that 10 lets pass, and f to the power found has a
+--                        degree of at most 4,096
 --   FoundRated F f o answer r answer′ == r tells the answer, and the answer bytes have become answer′
+--   Multiple p g ts   == 6, 7, 8 and 10 let p, the terms and the monic multiple g of a factor pass, and g is
+--                        monic
+--   RatedAs result answer work r answer′ work′ == r tells the result of a call, and the lent bytes are left
+--                        as it says
 use Prim.Native.Nat.{ℕ, _*_, _≤_}
 use mathlib.Core.Path.{_≡_}
 use mathlib.Core.Bool.{false}
 use mathlib.Core.List.{List}
 use mathlib.Core.Option.{Option, none, some}
+use lib.ListN.{length}
 use lib.Dec.{T}
 use Rattle.meaning.specs.declared.PowerRating.{PowerRating}
-use Rattle.meaning.specs.Field.{Field}
+use Rattle.meaning.specs.Field.{Field, prime}
 use Rattle.meaning.specs.Polynomial.{Polynomial, degree, isMonicOver}
 use Rattle.meaning.specs.Result.{Result, refused, valueOf, Rated, figuresOf, answerAfter}
-use Rattle.meaning.specs.Conditions.{factorDegreeOutOfRange}
+use Rattle.meaning.specs.Conditions.{factorDegreeOutOfRange, countOutOfRange, termOutOfField}
 use Rattle.meaning.specs.Power.{PowerFigures, powerRating}
 use Rattle.meaning.specs.Answers.{toldPower}
+use Rattle.meaning.specs.Calls.{LentAfter}
+use Rattle.irreducible.specs.Accepted.{Accepted}
 
 unfoldable pub ratingFound : Field → Polynomial → Option ℕ → Result (Rated PowerFigures)
 ratingFound F f none = refused 17
@@ -32,3 +39,13 @@ pub record FoundRated (F : Field) (f : Polynomial) (o : Option ℕ) (answer : Li
     (answer′ : List ℕ) : Type 0 where
   pub rating : toldPower r ≡ figuresOf (ratingFound F f o)
   pub answerBytes : answer′ ≡ answerAfter (ratingFound F f o) answer
+
+pub record Multiple (p : ℕ) (g : Polynomial) (ts : List ℕ) : Type 0 where
+  pub accepted : Accepted p g
+  pub countInRange : countOutOfRange (length ts) ≡ false
+  pub termsInField : termOutOfField (prime p) ts ≡ false
+
+pub record RatedAs (result : Result (Rated PowerFigures)) (answer work : List ℕ) (r : PowerRating)
+    (answer′ work′ : List ℕ) : Type 0 where
+  pub rating : toldPower r ≡ figuresOf result
+  pub lent : LentAfter result answer work answer′ work′

@@ -1,5 +1,10 @@
--- Division by a monic polynomial, one coefficient of the quotient after the other.
+-- Division by a polynomial whose leading coefficient is not 0, one coefficient of the quotient after the
+-- other.
 --
+--   monic-divisible  == a monic divisor has such a leading coefficient
+--   Digit F g c q    == q times the leading coefficient of g is c: the coefficient of the quotient where c
+--                       stands; `monic-digit`: c itself where g is monic; `inverse-digit`: c times the
+--                       inverse
 --   Dividing F g f w i == what the loop keeps: w below i, and g times what stands in w from i on, as many
 --                       places lower as the degree of g, add up to f
 --   dividing-start, dividing-next, dividing-end == at the start, one coefficient more, at the end
@@ -11,10 +16,11 @@ use mathlib.Core.List.{List, [], _∷_, _++_}
 use native.Mathlib.Nat.{le-refl, sub-zero}
 use native.Mathlib.Decide.{decLt}
 use native.Mathlib.Omega.{arith}
-use lib.ListN.{length, getD, take, drop, replicate, length-replicate, List·getD-append}
+use lib.ListN.{length, getD, take, drop, set, replicate, length-replicate, length-set}
+use lib.ListN.{List·getD-append}
 use lib.ListN.{List·getD-eq-default, length-take, length-drop, drop-of-length-le}
 use lib.Seq.{ext-getD, getD-take, getD-drop, getD-append-add, drop-cons, take-all, length-take-le}
-use lib.Seq.{paste, length-paste}
+use lib.Seq.{paste, length-paste, getD-set-same, getD-set-other}
 use lib.Dec.{T}
 use borrow.Rule.Slice.PartMut.{putMid}
 use Rattle.meaning.specs.Field.{Field, areElements, negative}
@@ -22,17 +28,21 @@ use Rattle.meaning.specs.Polynomial.{Polynomial, degree, plus, scale, times}
 use Rattle.bridge.proofs.Interpretation.{IsField, number-add-comm, number-add-assoc, number-add-zero}
 use Rattle.bridge.proofs.Interpretation.{number-zero-add, number-add-negative, number-mul-comm}
 use Rattle.bridge.proofs.Interpretation.{number-mul-zero, number-mul-negative, number-one-mul}
+use Rattle.bridge.proofs.Interpretation.{number-mul-assoc}
 use Rattle.bridge.proofs.Interpretation.{add-below, size-positive}
 use Rattle.bridge.proofs.Polynomials.{getD-below, getD-elements, elements-cons}
 use Rattle.bridge.proofs.Polynomials.{scale-elements, times-elements, length-plus, length-times}
-use Rattle.bridge.proofs.Polynomials.{monic-last, monic-length, monic-nonempty}
+use Rattle.bridge.proofs.Polynomials.{monic-last, leading-getD, leading-nonempty, degree-length}
+use Rattle.bridge.proofs.Multiples.{monic-leads}
 use Rattle.bridge.proofs.Coefficients.{getD-sum, getD-multiple, getD-zeros}
 use Rattle.bridge.proofs.Continuations.{take-elements}
 use Rattle.arith.specs.Slices.{combined}
 use Rattle.arith.proofs.Slices.{length-combined, getD-combined, getD-paste-inside, getD-paste-before}
 use Rattle.arith.proofs.Slices.{getD-paste-after}
 use Rattle.lent.proofs.Parts.{put-paste}
-use Rattle.poly.specs.division.Division.{Divisible, Divided}
+use Rattle.poly.specs.division.Division.{Divisible, LeadingDivisible, Divided}
+use Rattle.arith.specs.Inverse.{inverse}
+use Rattle.arith.proofs.Inverse.{inverse-product}
 
 -- the number at place j of a list that stands x places higher
 pub raised : ℕ → List ℕ → ℕ → ℕ
@@ -75,8 +85,12 @@ times-none : (F : Field) (g : Polynomial) → length (times F [] g) ≡ 0
 unfolding times
 times-none F g = refl
 
--- the numbers before place i, as many as the degree of g, are less by c·g, where c stands at i
-pub record Reduced (F : Field) (g : Polynomial) (w : List ℕ) (i : ℕ) (w′ : List ℕ) : Type 0 where
+-- q is the coefficient of the quotient where c is the highest coefficient that is left
+abbrev pub Digit : Field → Polynomial → ℕ → ℕ → Type 0
+Digit F g c q = (F .mul) q (getD g (degree g) 0) ≡ c
+
+-- the numbers before place i, as many as the degree of g, are less by q·g, and q stands at i
+pub record Reduced (F : Field) (g : Polynomial) (q : ℕ) (w : List ℕ) (i : ℕ) (w′ : List ℕ) : Type 0 where
   pub size : length w′ ≡ length w
   pub before : (j : ℕ) → j < i - degree g → getD w′ j 0 ≡ getD w j 0
   pub inside :
@@ -84,10 +98,40 @@ pub record Reduced (F : Field) (g : Polynomial) (w : List ℕ) (i : ℕ) (w′ :
       → i - degree g ≤ j
       → j < i
       → getD w′ j 0
-      ≡ (F .add) (getD w j 0) ((F .mul) (negative F (getD w i 0)) (getD g (j - (i - degree g)) 0))
-  pub after : (j : ℕ) → i ≤ j → getD w′ j 0 ≡ getD w j 0
+      ≡ (F .add) (getD w j 0) ((F .mul) (negative F q) (getD g (j - (i - degree g)) 0))
+  pub digit : getD w′ i 0 ≡ q
+  pub after : (j : ℕ) → i < j → getD w′ j 0 ≡ getD w j 0
 
-module _ {F : Field} (I : IsField F) {g : Polynomial} {f : List ℕ} (d : Divisible F f g) where
+pub monic-divisible : {F : Field} {f g : List ℕ} → Divisible F f g → LeadingDivisible F f g
+monic-divisible {F} {g = g} d =
+    let x = monic-leads F g (d .monic) in
+    record { divisor = x .elements; nonzero = x .nonzero; elements = d .elements }
+
+pub monic-digit : {F : Field} (I : IsField F) {f g : List ℕ} → Divisible F f g → (c : ℕ) → c < F .size
+    → Digit F g c c
+monic-digit {F} I {g = g} d c l =
+    ap ((F .mul) c) (monic-last F g (d .monic)) ∙ number-mul-comm I c 1 ∙ number-one-mul I l
+
+pub inverse-digit : {F : Field} (I : IsField F) {f g : List ℕ} → LeadingDivisible F f g → (c : ℕ)
+    → c < F .size
+    → Digit F g c ((F .mul) (inverse F (getD g (degree g) 0)) c)
+inverse-digit {F} I {g = g} d c l =
+    let a = getD g (degree g) 0 in
+    let u = inverse F a in
+    let e : (F .mul) a u ≡ 1 =
+    inverse-product I (getD-below I g (d .divisor) (degree g)) (λ z. d .nonzero (leading-getD g ∙ z)) in
+    number-mul-comm I ((F .mul) u c) a
+    ∙ sym (number-mul-assoc I a u c)
+    ∙ ap (λ z. (F .mul) z c) e
+    ∙ number-one-mul I l
+
+module _ {F : Field} (I : IsField F) {g : Polynomial} {f : List ℕ} (d : LeadingDivisible F f g) where
+  some : 0 < length g
+  some = leading-nonempty g (d .nonzero)
+
+  length-g : length g ≡ suc (degree g)
+  length-g = degree-length g some
+
   abbrev e : ℕ
   e = degree g
 
@@ -112,7 +156,8 @@ module _ {F : Field} (I : IsField F) {g : Polynomial} {f : List ℕ} (d : Divisi
       nothing x j = elim (decLt j x) [ yes l ↦ raised-low x [] j l | no l ↦ raised-high x [] j (omega arith) ]
 
   -- one coefficient more of the quotient, at place i
-  module _ {w : List ℕ} {k : ℕ} (m : Dividing F g f w k) (l : e < k) where
+  module _ {w : List ℕ} {k q : ℕ} (m : Dividing F g f w k) (l : e < k)
+      (t : Digit F g (getD w (k - 1) 0) q) where
     abbrev i : ℕ
     i = k - 1
 
@@ -122,57 +167,57 @@ module _ {F : Field} (I : IsField F) {g : Polynomial} {f : List ℕ} (d : Divisi
     abbrev x : ℕ
     x = i - e
 
-    -- (a − c·b) + c·b
+    -- (a − q·b) + q·b
     restored : (a b : ℕ) → a < F .size
-        → (F .add) ((F .add) a ((F .mul) (negative F c) b)) ((F .mul) c b) ≡ a
+        → (F .add) ((F .add) a ((F .mul) (negative F q) b)) ((F .mul) q b) ≡ a
     restored a b h =
-        number-add-assoc I a ((F .mul) (negative F c) b) ((F .mul) c b)
+        number-add-assoc I a ((F .mul) (negative F q) b) ((F .mul) q b)
         ∙ ap ((F .add) a)
-        (ap (λ y. (F .add) y ((F .mul) c b))
-        (number-mul-comm I (negative F c) b
-        ∙ number-mul-negative I b c
-        ∙ ap (negative F) (number-mul-comm I b c))
-        ∙ number-add-comm I (negative F ((F .mul) c b)) ((F .mul) c b)
-        ∙ number-add-negative I ((F .mul) c b))
+        (ap (λ y. (F .add) y ((F .mul) q b))
+        (number-mul-comm I (negative F q) b
+        ∙ number-mul-negative I b q
+        ∙ ap (negative F) (number-mul-comm I b q))
+        ∙ number-add-comm I (negative F ((F .mul) q b)) ((F .mul) q b)
+        ∙ number-add-negative I ((F .mul) q b))
         ∙ number-add-zero I h
 
-    module _ {w′ : List ℕ} (s : Reduced F g w i w′) where
-      -- what stands below, with c·g added
+    module _ {w′ : List ℕ} (s : Reduced F g q w i w′) where
+      -- what stands below, with q·g added
       lower : (j : ℕ) → x ≤ j
-          → (F .add) (getD (take i w′) j 0) ((F .mul) c (getD g (j - x) 0)) ≡ getD (take k w) j 0
+          → (F .add) (getD (take i w′) j 0) ((F .mul) q (getD g (j - x) 0)) ≡ getD (take k w) j 0
       lower j h = elim (decLt j i) [
         | yes a ↦
-            ap (λ y. (F .add) y ((F .mul) c (getD g (j - x) 0))) (getD-take i w′ j 0 a ∙ s .inside j h a)
+            ap (λ y. (F .add) y ((F .mul) q (getD g (j - x) 0))) (getD-take i w′ j 0 a ∙ s .inside j h a)
             ∙ restored (getD w j 0) (getD g (j - x) 0) (getD-below I w (m .elements) j)
             ∙ sym (getD-take k w j 0 (omega arith))
         | no a ↦
-            ap (λ y. (F .add) y ((F .mul) c (getD g (j - x) 0))) (take-beyond i w′ j (omega arith))
+            ap (λ y. (F .add) y ((F .mul) q (getD g (j - x) 0))) (take-beyond i w′ j (omega arith))
             ∙ elim (decLt j k) [
               | yes b ↦ at-top j (omega arith) ∙ sym (getD-take k w j 0 b)
               | no b ↦
-                  ap (λ y. (F .add) 0 ((F .mul) c y))
-                  (List·getD-eq-default g 0 (omega (arith, monic-length F g (d .monic))))
-                  ∙ ap ((F .add) 0) (number-mul-zero I c)
+                  ap (λ y. (F .add) 0 ((F .mul) q y))
+                  (List·getD-eq-default g 0 (omega (arith, length-g)))
+                  ∙ ap ((F .add) 0) (number-mul-zero I q)
                   ∙ number-zero-add I (size-positive I)
                   ∙ sym (take-beyond k w j (omega arith))
             ]
       ]
         where
-          at-top : (j : ℕ) → j ≡ i → (F .add) 0 ((F .mul) c (getD g (j - x) 0)) ≡ getD w j 0
-          at-top j t =
+          at-top : (j : ℕ) → j ≡ i → (F .add) 0 ((F .mul) q (getD g (j - x) 0)) ≡ getD w j 0
+          at-top j u =
               let y : j - x ≡ e = omega arith in
-              ap (λ z. (F .add) 0 ((F .mul) c z)) (ap (λ z. getD g z 0) y ∙ monic-last F g (d .monic))
-              ∙ ap ((F .add) 0) (number-mul-comm I c 1 ∙ number-one-mul I (getD-below I w (m .elements) i))
+              ap (λ z. (F .add) 0 ((F .mul) q (getD g z 0))) y
+              ∙ ap ((F .add) 0) t
               ∙ number-zero-add I (getD-below I w (m .elements) i)
-              ∙ ap (λ z. getD w z 0) (sym t)
+              ∙ ap (λ z. getD w z 0) (sym u)
 
-      -- the quotient has c before the coefficients that it had
-      quotient : drop i w′ ≡ c ∷ drop k w
+      -- the quotient has q before the coefficients that it had
+      quotient : drop i w′ ≡ q ∷ drop k w
       quotient =
           let a : i < length w′ = omega (arith, s .size, m .size, m .within) in
           let b : suc i ≡ k = omega arith in
           drop-cons w′ i 0 a
-          ∙ ap₂ _∷_ (s .after i (omega arith)) (ap (λ n. drop n w′) b ∙ later)
+          ∙ ap₂ _∷_ (s .digit) (ap (λ n. drop n w′) b ∙ later)
         where
           later : drop k w′ ≡ drop k w
           later =
@@ -183,14 +228,14 @@ module _ {F : Field} (I : IsField F) {g : Polynomial} {f : List ℕ} (d : Divisi
 
       -- what the product with g adds at place j
       higher : (j : ℕ) → x ≤ j
-          → raised x (times F (c ∷ drop k w) g) j
-          ≡ (F .add) ((F .mul) c (getD g (j - x) 0)) (raised (k - e) (times F (drop k w) g) j)
+          → raised x (times F (q ∷ drop k w) g) j
+          ≡ (F .add) ((F .mul) q (getD g (j - x) 0)) (raised (k - e) (times F (drop k w) g) j)
       unfolding times
       higher j h =
-          raised-high x (times F (c ∷ drop k w) g) j h
-          ∙ getD-sum I (scale F c g) (0 ∷ old) (j - x) (scale-elements I c g)
+          raised-high x (times F (q ∷ drop k w) g) j h
+          ∙ getD-sum I (scale F q g) (0 ∷ old) (j - x) (scale-elements I q g)
           (elements-cons F old (size-positive I) (times-elements I (drop k w) g))
-          ∙ ap₂ (F .add) (getD-multiple I c g (j - x)) (raised-suc x old j h ∙ ap (λ n. raised n old j) above)
+          ∙ ap₂ (F .add) (getD-multiple I q g (j - x)) (raised-suc x old j h ∙ ap (λ n. raised n old j) above)
         where
           old : List ℕ
           old = times F (drop k w) g
@@ -198,27 +243,32 @@ module _ {F : Field} (I : IsField F) {g : Polynomial} {f : List ℕ} (d : Divisi
           above : suc x ≡ k - e
           above = omega arith
 
-      reduced-elements : T (areElements F w′)
-      reduced-elements =
+      reduced-elements : q < F .size → T (areElements F w′)
+      reduced-elements below =
           getD-elements F w′
           (λ j h. elim (decLt j i) [
             | yes a ↦ elim (decLt j x) [
               | yes b ↦ kept j (s .before j b)
               | no b ↦ subst (λ y. y < F .size) (sym (s .inside j (omega arith) a)) (add-below I _ _)
             ]
-            | no a ↦ kept j (s .after j (omega arith))
+            | no a ↦ elim (decLt i j) [
+              | yes b ↦ kept j (s .after j b)
+              | no b ↦
+                  let u : j ≡ i = omega arith in
+                  subst (λ y. y < F .size) (sym (ap (λ n. getD w′ n 0) u ∙ s .digit)) below
+            ]
           ])
         where
           kept : (j : ℕ) → getD w′ j 0 ≡ getD w j 0 → getD w′ j 0 < F .size
           kept j t = subst (λ y. y < F .size) (sym t) (getD-below I w (m .elements) j)
 
-      pub dividing-next : Dividing F g f w′ i
-      dividing-next =
+      pub dividing-next : q < F .size → Dividing F g f w′ i
+      dividing-next below =
           record {
             size = s .size ∙ m .size;
             within = omega (arith, m .within);
             least = λ h. omega arith;
-            elements = reduced-elements;
+            elements = reduced-elements below;
             total = λ j. m .total j ∙ sym (ap (sum j) quotient ∙ same j);
           }
         where
@@ -228,16 +278,16 @@ module _ {F : Field} (I : IsField F) {g : Polynomial} {f : List ℕ} (d : Divisi
           sum : ℕ → List ℕ → ℕ
           sum j u = (F .add) (getD (take i w′) j 0) (raised x (times F u g) j)
 
-          same : (j : ℕ) → sum j (c ∷ drop k w) ≡ (F .add) (getD (take k w) j 0) (old j)
+          same : (j : ℕ) → sum j (q ∷ drop k w) ≡ (F .add) (getD (take k w) j 0) (old j)
           same j = elim (decLt j x) [
             | yes a ↦
                 ap₂ (F .add)
                 (getD-take i w′ j 0 (omega arith) ∙ s .before j a ∙ sym (getD-take k w j 0 (omega arith)))
-                (raised-low x (times F (c ∷ drop k w) g) j a
+                (raised-low x (times F (q ∷ drop k w) g) j a
                 ∙ sym (raised-low (k - e) (times F (drop k w) g) j (omega arith)))
             | no a ↦
                 ap ((F .add) (getD (take i w′) j 0)) (higher j (omega arith))
-                ∙ sym (number-add-assoc I (getD (take i w′) j 0) ((F .mul) c (getD g (j - x) 0)) (old j))
+                ∙ sym (number-add-assoc I (getD (take i w′) j 0) ((F .mul) q (getD g (j - x) 0)) (old j))
                 ∙ ap (λ y. (F .add) y (old j)) (lower j (omega arith))
           ]
 
@@ -250,8 +300,8 @@ module _ {F : Field} (I : IsField F) {g : Polynomial} {f : List ℕ} (d : Divisi
               arith,
               length-take e w,
               length-drop e w,
-              length-times I (drop e w) g (omega (arith, length-drop e w)) (monic-nonempty F g (d .monic)),
-              monic-length F g (d .monic),
+              length-times I (drop e w) g (omega (arith, length-drop e w)) some,
+              length-g,
             )
         | no h ↦
             omega (
@@ -321,7 +371,7 @@ module _ (F : Field) (g : Polynomial) (some : 0 < length g) (w : List ℕ) (i : 
   pub lent-length : length factor ≤ length lent
   lent-length = omega (arith, length-factor, length-lent)
 
-  module _ {ys : List ℕ} {v : ℕ} (q : v ≡ negative F (getD w i 0)) (e : ys ≡ combined F lent v factor) where
+  module _ (u : ℕ) {ys : List ℕ} {v : ℕ} (q : v ≡ negative F u) (e : ys ≡ combined F lent v factor) where
     length-ys : length ys ≡ n
     length-ys =
         ap length e
@@ -334,7 +384,7 @@ module _ (F : Field) (g : Polynomial) (some : 0 < length g) (w : List ℕ) (i : 
         ap (λ k. putMid y (k - y) w ys) t ∙ put-paste w y n ys length-ys
 
     updated : (j : ℕ) → j < n
-        → getD ys j 0 ≡ (F .add) (getD w (y + j) 0) ((F .mul) (negative F (getD w i 0)) (getD g j 0))
+        → getD ys j 0 ≡ (F .add) (getD w (y + j) 0) ((F .mul) (negative F u) (getD g j 0))
     updated j b =
         ap (λ u. getD u j 0) e
         ∙ getD-combined F lent v factor j
@@ -342,25 +392,53 @@ module _ (F : Field) (g : Polynomial) (some : 0 < length g) (w : List ℕ) (i : 
         (omega (arith, length-factor))
         ∙ ap₂ (λ a k. (F .add) a ((F .mul) k (getD factor j 0)))
         (getD-take (i - y) (drop y w) j 0 (omega arith) ∙ getD-drop y w j 0) q
-        ∙ ap (λ k. (F .add) (getD w (y + j) 0) ((F .mul) (negative F (getD w i 0)) k))
+        ∙ ap (λ k. (F .add) (getD w (y + j) 0) ((F .mul) (negative F u) k))
         (getD-take (n - 0) g j 0 (omega arith))
 
-    pub reduced-put : Reduced F g w i (putMid y (i - y) w ys)
+    length-pasted : length (paste w y ys n) ≡ length w
+    length-pasted = length-paste w y ys n (omega arith) (omega (arith, length-ys))
+
+    before-pasted : (j : ℕ) → j < y → getD (paste w y ys n) j 0 ≡ getD w j 0
+    before-pasted = getD-paste-before w y ys n (omega arith) (omega (arith, length-ys))
+
+    inside-pasted :
+        (j : ℕ)
+        → y ≤ j
+        → j < i
+        → getD (paste w y ys n) j 0
+        ≡ (F .add) (getD w j 0) ((F .mul) (negative F u) (getD g (j - y) 0))
+    inside-pasted j a b =
+        let t : j ≡ y + (j - y) = omega arith in
+        ap (λ k. getD (paste w y ys n) k 0) t
+        ∙ getD-paste-inside w y ys n (omega arith) (omega (arith, length-ys)) (j - y) (omega arith)
+        ∙ updated (j - y) (omega arith)
+        ∙ ap (λ k. (F .add) (getD w k 0) ((F .mul) (negative F u) (getD g (j - y) 0))) (sym t)
+
+    after-pasted : (j : ℕ) → i ≤ j → getD (paste w y ys n) j 0 ≡ getD w j 0
+    after-pasted j a = getD-paste-after w y ys n (omega arith) (omega (arith, length-ys)) j (omega arith)
+
+    -- where the coefficient of the quotient is written after it, and where it is there already
+    pub reduced-set : Reduced F g u w i (set (putMid y (i - y) w ys) i u)
     unfolding degree
-    reduced-put =
-        subst (Reduced F g w i) (sym pasted)
+    reduced-set =
+        subst (λ v. Reduced F g u w i (set v i u)) (sym pasted)
         (record {
-          size = length-paste w y ys n (omega arith) (omega (arith, length-ys));
-          before = getD-paste-before w y ys n (omega arith) (omega (arith, length-ys));
-          inside =
-              λ j a b.
-              let t : j ≡ y + (j - y) = omega arith in
-              ap (λ k. getD (paste w y ys n) k 0) t
-              ∙ getD-paste-inside w y ys n (omega arith) (omega (arith, length-ys)) (j - y) (omega arith)
-              ∙ updated (j - y) (omega arith)
-              ∙ ap
-              (λ k. (F .add) (getD w k 0) ((F .mul) (negative F (getD w i 0)) (getD g (j - y) 0)))
-              (sym t);
+          size = length-set (paste w y ys n) i u ∙ length-pasted;
+          before = λ j a. getD-set-other (paste w y ys n) i j u 0 (λ z. omega arith) ∙ before-pasted j a;
+          inside = λ j a b. getD-set-other (paste w y ys n) i j u 0 (λ z. omega arith) ∙ inside-pasted j a b;
+          digit = getD-set-same (paste w y ys n) i u 0 (omega (arith, length-pasted));
           after = λ j a.
-              getD-paste-after w y ys n (omega arith) (omega (arith, length-ys)) j (omega arith);
+              getD-set-other (paste w y ys n) i j u 0 (λ z. omega arith) ∙ after-pasted j (omega arith);
+        })
+
+    pub reduced-put : u ≡ getD w i 0 → Reduced F g u w i (putMid y (i - y) w ys)
+    unfolding degree
+    reduced-put k =
+        subst (Reduced F g u w i) (sym pasted)
+        (record {
+          size = length-pasted;
+          before = before-pasted;
+          inside = inside-pasted;
+          digit = after-pasted i (omega arith) ∙ sym k;
+          after = λ j a. after-pasted j (omega arith);
         })

@@ -1,4 +1,4 @@
--- `is_irreducible` meets its contract: the verdict refuses, or Ben-Or's test answers.
+-- `is_irreducible` meets its contract: the verdict refuses, or the answer is that for the monic multiple.
 -- Assumes nothing.
 use borrow.Author.Needs.{needs}
 use Rattle.questions.proofs.Question.{question-refused, question-accepted, question-yes, question-no}
@@ -14,8 +14,8 @@ enum-known-r c = search needs
 enum-told : tie.Need-enum-told
 enum-told c = search needs
 
-is-irreducible-requires : tie.Need-is-irreducible-requires
-is-irreducible-requires c κs =
+multiple-irreducible-requires : tie.Need-multiple-irreducible-requires
+multiple-irreducible-requires c κs =
     question-accepted _ _ (c .before .before .irreducible-verdict .ensures) (c .enum-told .given .1)
 
 returns : tie.Need-returns
@@ -26,14 +26,14 @@ returns-2 : tie.Need-returns-2
 returns-2 c =
     let a = c .before .before in
     question-yes _ _ (a .before .before .irreducible-verdict .ensures) (a .enum-told .given .1)
-    (c .before .is-irreducible .ensures)
+    (c .before .multiple-irreducible .ensures)
     (c .if1 .taken)
 
 returns-3 : tie.Need-returns-3
 returns-3 c =
     let a = c .before .before in
     question-no _ _ (a .before .before .irreducible-verdict .ensures) (a .enum-told .given .1)
-    (c .before .is-irreducible .ensures)
+    (c .before .multiple-irreducible .ensures)
     (c .if1 .left)
 
 pub is-irreducible-spec : {M : Type 1} → statement M
@@ -43,7 +43,7 @@ is-irreducible-spec =
     irreducible-verdict-requires
     enum-known-r
     enum-told
-    is-irreducible-requires
+    multiple-irreducible-requires
     returns
     returns-2
     returns-3)

@@ -24,7 +24,7 @@ use Rattle.meaning.specs.Period.{periodTable, periodPower, periodAnswer, ratePe
 use Rattle.meaning.specs.Portion.{factorsOf, setTable, setAnswer, rateSet}
 use Rattle.meaning.specs.Free.{Choice, freeTable, rateFree}
 use Rattle.meaning.specs.Route.{Mode, periodMode, setMode, freeMode}
-use Rattle.meaning.specs.File.{WrittenFactor, polynomialOf, fileDegreeOutOfRange, fileNotMonic}
+use Rattle.meaning.specs.File.{WrittenFactor, polynomialOf, fileDegreeOutOfRange, fileCoefficientOutOfRange}
 use Rattle.meaning.specs.File.{ofPeriod, ofSet, ofFree, rateMode}
 use Rattle.meaning.specs.Answers.{numberOf}
 use Rattle.meaning.proofs.Passes.{Passes}
@@ -52,7 +52,7 @@ module _ (p : ℕ) (fs : List WrittenFactor) (ts : List ℕ) (answer work : ℕ)
   ten = holdsForSome (fileDegreeOutOfRange (prime p)) fs
 
   abbrev eleven : Bool
-  eleven = holdsForSome (fileNotMonic (prime p)) fs
+  eleven = holdsForSome (fileCoefficientOutOfRange (prime p)) fs
 
   -- the tables by their parts: 6, 7, 8; 9, 10 and 11; the others
   periodRest : List Check
@@ -146,7 +146,8 @@ module _ (p : ℕ) (fs : List WrittenFactor) (ts : List ℕ) (answer work : ℕ)
           unfolding rateMode writtenTable
           period-way pick low =
               ap (ofPeriod (length ts))
-              (period-lists p fs full fieldExists (passes .degreesInRange) (passes .monic) ts answer work low)
+              (period-lists p fs full fieldExists (passes .degreesInRange) (passes .coefficientsInRange) ts
+              answer work low)
 
           pub set-way : (pick : Choice)
               → rateMode pick setMode p fs ts answer work
@@ -154,4 +155,5 @@ module _ (p : ℕ) (fs : List WrittenFactor) (ts : List ℕ) (answer work : ℕ)
           unfolding rateMode writtenTable
           set-way pick =
               ap (ofSet (length ts))
-              (set-lists p fs full fieldExists (passes .degreesInRange) (passes .monic) ts answer work)
+              (set-lists p fs full fieldExists (passes .degreesInRange) (passes .coefficientsInRange) ts
+              answer work)

@@ -18,7 +18,8 @@ use Rattle.meaning.specs.Field.{prime}
 use Rattle.meaning.specs.Polynomial.{Polynomial}
 use Rattle.meaning.specs.Result.{Check}
 use Rattle.meaning.specs.Route.{bodies}
-use Rattle.meaning.specs.File.{WrittenFactor, fileFactor, polynomialOf, fileDegreeOutOfRange, fileNotMonic}
+use Rattle.meaning.specs.File.{WrittenFactor, fileFactor, polynomialOf, fileDegreeOutOfRange}
+use Rattle.meaning.specs.File.{fileCoefficientOutOfRange}
 use Rattle.route.specs.framing.Framing.{recordsFrom}
 
 abbrev pub bodiesIn : List ℕ → List (List ℕ)
@@ -36,7 +37,7 @@ noFactor = fileFactor []
 unfoldable pub writtenTable : ℕ → List WrittenFactor → List Check
 writtenTable p fs =
     (10, λ _. holdsForSome (fileDegreeOutOfRange (prime p)) fs)
-    ∷ (11, λ _. holdsForSome (fileNotMonic (prime p)) fs)
+    ∷ (11, λ _. holdsForSome (fileCoefficientOutOfRange (prime p)) fs)
     ∷ []
 
 pub record Packed (gs : List Polynomial) (count : ℕ) (to ns to′ : List ℕ) : Type 0 where

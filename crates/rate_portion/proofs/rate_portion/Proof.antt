@@ -1,19 +1,20 @@
--- `rate_portion` meets its contract: the verdict refuses, or the answer is that of the power found.
+-- `rate_portion` meets its contract: what is given is refused, or its monic multiple is rated.
 -- Assumes nothing.
 use borrow.Author.Needs.{needs}
-use Rattle.rate_portion.proofs.PortionAnswer.{
-  portion-refused,
-  portion-prime,
-  portion-lent,
-  portion-input,
-  portion-answerable,
-  portion-rated,
-}
+use native.Mathlib.Omega.{arith}
+use mathlib.Core.Path.{sym, subst}
+use Prim.Native.Nat.{ℕ}
+use lib.ListN.{length, replicate, length-replicate}
+use denote.Ref.{now}
+use Rattle.period_way.specs.one_factor.OneFactor.{Multiple}
+use Rattle.period_way.proofs.one_factor.OneFactor.{given-prime, given-multiple, given-leads, given-short}
+use Rattle.period_way.proofs.one_factor.OneFactor.{given-front, given-room}
+use Rattle.rate_portion.proofs.PortionAnswer.{given-refused, given-rated}
 use Rattle.rate_portion.proofs.rate_portion.Statement.{statement}
 use Rattle.rate_portion.proofs.rate_portion.Tie as tie
 
-portion-verdict-requires : tie.Need-portion-verdict-requires
-portion-verdict-requires c κs = search needs
+given-verdict-requires : tie.Need-given-verdict-requires
+given-verdict-requires c κs = search needs
 
 enum-known-r : tie.Need-enum-known-r
 enum-known-r c = search needs
@@ -23,35 +24,55 @@ enum-told c = search needs
 
 of-prime-requires : tie.Need-of-prime-requires
 of-prime-requires c κs =
-    portion-prime _ _ _ _ _ _ (c .before .before .portion-verdict .ensures) (c .enum-told .given .1)
+    given-prime _ _ _ (c .before .before .given-verdict .ensures) (c .enum-told .given .1)
 
-portion-power-requires : tie.Need-portion-power-requires
-portion-power-requires c κs =
-    let f = c .before in
-    let a = f .before in
-    let e = a .before .before .portion-verdict .ensures in
-    let q = a .enum-told .given .1 in (
-      f .of-prime .ensures .wellFormed,
-      (portion-lent _ _ _ _ _ _ e q .1, portion-input _ _ _ _ _ _ e q (f .of-prime .ensures .isField)),
+slice-aggregate-monic-multiple : tie.Need-slice-aggregate-monic-multiple
+slice-aggregate-monic-multiple c = search needs
+
+monic-multiple-requires : tie.Need-monic-multiple-requires
+monic-multiple-requires c κs =
+    let o = c .before in
+    let a = o .before in
+    let e = a .before .before .given-verdict .ensures in
+    let q = a .enum-told .given .1 in
+    let h = o .of-prime .ensures in (
+      h .wellFormed,
+      (given-leads _ _ _ e q (h .isField), given-short _ _ _ e q (h .isField)),
     )
 
-rated-requires : tie.Need-rated-requires
-rated-requires c κs =
-    let w = c .before .before .before in
-    let f = w .before .before in
-    let a = f .before in
-    let e = a .before .before .portion-verdict .ensures in
-    let q = a .enum-told .given .1 in (
-      f .of-prime .ensures .wellFormed,
-      (
-        portion-lent _ _ _ _ _ _ e q .0,
-        portion-answerable _ _ _ _ _ _ e q (f .of-prime .ensures .isField) (w .portion-power .ensures),
-      ),
+sub-rate-multiple : tie.Need-sub-rate-multiple
+sub-rate-multiple c = search needs
+
+part-rate-multiple-start : tie.Need-part-rate-multiple-start
+part-rate-multiple-start c = search needs
+
+part-rate-multiple-end : tie.Need-part-rate-multiple-end
+part-rate-multiple-end c =
+    let m = c .before .before in
+    let o = m .before .before in
+    let a = o .before in
+    given-room _ _ _ (a .before .before .given-verdict .ensures) (a .enum-told .given .1)
+    (o .of-prime .ensures .isField)
+    (replicate 33 0) (length-replicate {A = ℕ} 33 0) (m .monic-multiple .ensures)
+
+rate-multiple-requires : tie.Need-rate-multiple-requires
+rate-multiple-requires c κs =
+    let m = c .before .before .before .before .before in
+    let o = m .before .before in
+    let a = o .before in
+    let s = a .before .before .before .before .before .before .before in
+    let e = a .before .before .given-verdict .ensures in
+    let q = a .enum-told .given .1 in
+    let h = o .of-prime .ensures in (
+      h,
+      subst (λ g. Multiple (s .args .p) g (now (s .args .terms)))
+          (sym (given-front _ _ _ e q (h .isField) (replicate 33 0) (m .monic-multiple .ensures)))
+          (given-multiple _ _ _ e q),
     )
 
 returns : tie.Need-returns
 returns c =
-    portion-refused _ _ _ _ _ _ (c .before .before .before .portion-verdict .ensures) (c .before .r .given .1)
+    given-refused _ _ _ _ _ _ (c .before .before .before .given-verdict .ensures) (c .before .r .given .1)
 
 same-length : tie.Need-same-length
 same-length c = search needs
@@ -61,25 +82,30 @@ same-length-2 c = search needs
 
 returns-2 : tie.Need-returns-2
 returns-2 c =
-    let g = c .before .before in
-    let w = g .before .before .before .before in
-    let f = w .before .before in
-    let a = f .before in
-    portion-rated _ _ _ _ _ _ (a .before .before .portion-verdict .ensures) (a .enum-told .given .1)
-    (f .of-prime .ensures .isField)
-    (w .portion-power .ensures)
-    (g .rated .ensures)
+    let r = c .before .before .before .before in
+    let m = r .before .before .before .before .before .before in
+    let o = m .before .before in
+    let a = o .before in
+    let e = a .before .before .given-verdict .ensures in
+    let q = a .enum-told .given .1 in
+    given-rated _ _ _ _ _ _ e q
+    (given-front _ _ _ e q (o .of-prime .ensures .isField) (replicate 33 0) (m .monic-multiple .ensures))
+    (r .rate-multiple .ensures)
 
 pub rate-portion-spec : {M : Type 1} → statement M
 rate-portion-spec =
     tie.close
     (tie.spec
-    portion-verdict-requires
+    given-verdict-requires
     enum-known-r
     enum-told
     of-prime-requires
-    portion-power-requires
-    rated-requires
+    slice-aggregate-monic-multiple
+    monic-multiple-requires
+    sub-rate-multiple
+    part-rate-multiple-start
+    part-rate-multiple-end
+    rate-multiple-requires
     returns
     same-length
     same-length-2

@@ -58,7 +58,7 @@ passed-5 : (c : tie.Else5) → Passed 5 (table (at-5 c))
 unfolding continueTable
 passed-5 c =
     passed-4 (c .before .before)
-    ∙ first-skip _ _ (c .before .not-monic .ensures) (c .if5 .left)
+    ∙ first-skip _ _ (c .before .coefficient-out-of-range .ensures) (c .if5 .left)
 
 abbrev at-6 : tie.Else6 → tie.Start
 at-6 c = at-5 (c .before .before)
@@ -103,13 +103,13 @@ returns-4 c =
     first-here _ _ (c .before .continuation-degree-out-of-range .ensures) (c .if4 .taken)
     ∙ sym (passed-3 (c .before .before))
 
-not-monic-requires : tie.Need-not-monic-requires
-not-monic-requires c κs = search needs
+coefficient-out-of-range-requires : tie.Need-coefficient-out-of-range-requires
+coefficient-out-of-range-requires c κs = search needs
 
 returns-5 : tie.Need-returns-5
 unfolding numberIn numberOf continueTable
 returns-5 c =
-    first-here _ _ (c .before .not-monic .ensures) (c .if5 .taken)
+    first-here _ _ (c .before .coefficient-out-of-range .ensures) (c .if5 .taken)
     ∙ sym (passed-4 (c .before .before))
 
 start-unlike-degree-requires : tie.Need-start-unlike-degree-requires
@@ -137,7 +137,7 @@ continue-verdict-spec =
     returns-3
     continuation-degree-out-of-range-requires
     returns-4
-    not-monic-requires
+    coefficient-out-of-range-requires
     returns-5
     start-unlike-degree-requires
     returns-6

@@ -38,7 +38,7 @@ passed-3 : (c : tie.Else3) → Passed 3 (table (at-3 c))
 unfolding irreducibleTable
 passed-3 c =
     passed-2 (c .before .before)
-    ∙ first-skip _ _ (c .before .not-monic .ensures) (c .if3 .left)
+    ∙ first-skip _ _ (c .before .coefficient-out-of-range .ensures) (c .if3 .left)
 
 not-prime-requires : tie.Need-not-prime-requires
 not-prime-requires c κs = search needs
@@ -56,13 +56,13 @@ returns-2 c =
     first-here _ _ (c .before .factor-degree-out-of-range .ensures) (c .if2 .taken)
     ∙ sym (passed-1 (c .before .before))
 
-not-monic-requires : tie.Need-not-monic-requires
-not-monic-requires c κs = search needs
+coefficient-out-of-range-requires : tie.Need-coefficient-out-of-range-requires
+coefficient-out-of-range-requires c κs = search needs
 
 returns-3 : tie.Need-returns-3
 unfolding numberIn numberOf irreducibleTable
 returns-3 c =
-    first-here _ _ (c .before .not-monic .ensures) (c .if3 .taken)
+    first-here _ _ (c .before .coefficient-out-of-range .ensures) (c .if3 .taken)
     ∙ sym (passed-2 (c .before .before))
 
 returns-4 : tie.Need-returns-4
@@ -77,6 +77,6 @@ irreducible-verdict-spec =
     returns
     factor-degree-out-of-range-requires
     returns-2
-    not-monic-requires
+    coefficient-out-of-range-requires
     returns-3
     returns-4)

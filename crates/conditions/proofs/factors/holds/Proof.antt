@@ -25,8 +25,8 @@ factor-degree-out-of-range-requires c κs = search needs
 enum-told-2 : tie.Need-enum-told-2
 enum-told-2 c = search needs
 
-not-monic-requires : tie.Need-not-monic-requires
-not-monic-requires c κs = search needs
+coefficient-out-of-range-requires : tie.Need-coefficient-out-of-range-requires
+coefficient-out-of-range-requires c κs = search needs
 
 enum-told-3 : tie.Need-enum-told-3
 enum-told-3 c = search needs
@@ -43,14 +43,14 @@ file-degree-out-of-range-requires c κs = search needs
 enum-told-5 : tie.Need-enum-told-5
 enum-told-5 c = search needs
 
-file-not-monic-requires : tie.Need-file-not-monic-requires
-file-not-monic-requires c κs = search needs
+file-coefficient-out-of-range-requires : tie.Need-file-coefficient-out-of-range-requires
+file-coefficient-out-of-range-requires c κs = search needs
 
 returns : tie.Need-returns
 returns c = named _ _ (c .before .enum-told .given .1) (c .factor-degree-out-of-range .ensures)
 
 returns-2 : tie.Need-returns-2
-returns-2 c = named _ _ (c .before .enum-told2 .given .1) (c .not-monic .ensures)
+returns-2 c = named _ _ (c .before .enum-told2 .given .1) (c .coefficient-out-of-range .ensures)
 
 returns-3 : tie.Need-returns-3
 returns-3 c = named _ _ (c .before .enum-told3 .given .1) (c .reducible .ensures)
@@ -59,7 +59,7 @@ returns-4 : tie.Need-returns-4
 returns-4 c = named _ _ (c .before .enum-told4 .given .1) (c .file-degree-out-of-range .ensures)
 
 returns-5 : tie.Need-returns-5
-returns-5 c = named _ _ (c .before .enum-told5 .given .1) (c .file-not-monic .ensures)
+returns-5 c = named _ _ (c .before .enum-told5 .given .1) (c .file-coefficient-out-of-range .ensures)
 
 pub holds-spec : {M : Type 1} → statement M
 holds-spec =
@@ -68,13 +68,13 @@ holds-spec =
     enum-told
     factor-degree-out-of-range-requires
     enum-told-2
-    not-monic-requires
+    coefficient-out-of-range-requires
     enum-told-3
     reducible-requires
     enum-told-4
     file-degree-out-of-range-requires
     enum-told-5
-    file-not-monic-requires
+    file-coefficient-out-of-range-requires
     returns
     returns-2
     returns-3

@@ -69,7 +69,7 @@ common-degree-returns : (t : ℕ) → common-degree-lts.Need-returns (
   common-degree.Post,
 ) (common-degree-at t) common-degree.Post
 common-degree-returns t c =
-    turned-ends (c .before .before .before .before .before .turn .ensures) (c .if1 .taken)
+    turned-ends (c .before .before .before .turn .ensures) (c .if1 .taken)
 
 common-degree-sub-common-degree : (t : ℕ) → common-degree-lts.Need-sub-common-degree (
   turn-reads.Asked,
@@ -103,7 +103,7 @@ common-degree-common-degree-requires : (t : ℕ) → common-degree-lts.Need-comm
 ) (common-degree-at t) common-degree.Post
 common-degree-common-degree-requires t c κs =
     let i = c .before .before in
-    let r = i .before .before .before .before .before in
+    let r = i .before .before .before in
     let s = r .before .before .before .before .before in (
       omega (arith, s .pre .0, turned-falls (r .turn .ensures)),
       (s .pre .1 .0, turned-again (r .turn .ensures) (i .if1 .left)),
@@ -133,7 +133,7 @@ common-degree-returns-2 : (t : ℕ) → common-degree-lts.Need-returns-2 (
 ) (common-degree-at t) common-degree.Post
 common-degree-returns-2 t c =
     let e = c .before .before .before .before in
-    let r = e .before .before .before .before .before .before .before .before in
+    let r = e .before .before .before .before .before .before in
     turned-goes-on (r .turn .ensures) (e .common-degree .ensures)
 
 pub +common-degree-spec : {M : Type 1} → statement M

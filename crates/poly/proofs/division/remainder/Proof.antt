@@ -3,13 +3,15 @@
 use borrow.Author.Needs.{needs}
 use native.Mathlib.Omega.{arith}
 use Prim.Native.Nat.{_-_}
+use mathlib.Core.Path.{refl}
+use lib.ListN.{getD}
 use denote.Ref.{now}
 use Rattle.meaning.specs.Polynomial.{degree}
-use Rattle.bridge.proofs.Polynomials.{monic-nonempty}
+use Rattle.bridge.proofs.Polynomials.{monic-nonempty, getD-below}
 use Rattle.arith.specs.Represented.{fieldOf}
 use Rattle.arith.proofs.Represented.{field-isField}
 use Rattle.poly.proofs.division.Dividing.{Dividing, dividing-start, dividing-next, dividing-end}
-use Rattle.poly.proofs.division.Dividing.{lent-length, reduced-put}
+use Rattle.poly.proofs.division.Dividing.{lent-length, reduced-put, monic-divisible, monic-digit}
 use Rattle.poly.proofs.division.remainder.Statement.{statement}
 use Rattle.poly.proofs.division.remainder.Tie as tie
 
@@ -28,7 +30,7 @@ sub-e c =
 loop-holds : tie.Need-loop-holds Inv-loop μ-loop
 loop-holds c =
     let s = c .before .before in
-    dividing-start (field-isField (s .pre .0)) (s .pre .1)
+    dividing-start (field-isField (s .pre .0)) (monic-divisible (s .pre .1))
 
 sub-i : tie.Need-sub-i Inv-loop μ-loop
 sub-i c = search needs
@@ -82,11 +84,17 @@ loop-again c =
     let s = l .before .before .before in
     let a = s .args in
     let n = monic-nonempty (fieldOf (a .field)) (now (a .g)) (s .pre .1 .monic) in
-    dividing-next (field-isField (s .pre .0)) (s .pre .1) (l .loop .inv) (omega arith)
+    let I = field-isField (s .pre .0) in
+    let below = getD-below I (l .loop .f) (l .loop .inv .elements) (l .loop .i - 1) in
+    dividing-next I (monic-divisible (s .pre .1)) (l .loop .inv) (omega arith)
+    (monic-digit I (s .pre .1) (getD (l .loop .f) (l .loop .i - 1) 0) below)
     (reduced-put (fieldOf (a .field)) (now (a .g)) n (l .loop .f) (l .loop .i - 1) (omega arith)
     (omega (arith, l .loop .inv .within, l .loop .inv .size))
+    (getD (l .loop .f) (l .loop .i - 1) 0)
     (k .negative .ensures)
-    (c .before .before .add-multiple .ensures))
+    (c .before .before .add-multiple .ensures)
+    refl)
+    below
 
 same-length : tie.Need-same-length Inv-loop μ-loop
 same-length c = c .before .loop .inv .size
@@ -95,7 +103,8 @@ returns : tie.Need-returns Inv-loop μ-loop
 unfolding degree
 returns c =
     let s = c .before .before .before .before in
-    dividing-end (field-isField (s .pre .0)) (s .pre .1) (c .before .loop .inv) (omega arith)
+    dividing-end (field-isField (s .pre .0)) (monic-divisible (s .pre .1)) (c .before .loop .inv)
+    (omega arith)
 
 pub remainder-spec : {M : Type 1} → statement M
 remainder-spec =

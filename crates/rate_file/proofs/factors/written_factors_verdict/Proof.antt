@@ -6,7 +6,7 @@ use denote.Ref.{now}
 use Rattle.meaning.specs.Result.{Check}
 use Rattle.meaning.specs.Answers.{numberOf}
 use Rattle.meaning.specs.Field.{prime}
-use Rattle.meaning.specs.File.{fileDegreeOutOfRange, fileNotMonic}
+use Rattle.meaning.specs.File.{fileDegreeOutOfRange, fileCoefficientOutOfRange}
 use Rattle.refusals.specs.Verdicts.{numberIn}
 use Rattle.refusals.proofs.Order.{Passed, first-here, first-skip, first-nowhere}
 use Rattle.rate_file.specs.factors.Written.{factorsIn, writtenTable}
@@ -41,7 +41,7 @@ returns-2 : tie.Need-returns-2
 unfolding numberIn numberOf writtenTable
 returns-2 c =
     first-here _ _
-    (c .before .holds-for-some-record2 .ensures ∙ some-factor (fileNotMonic (prime _)) _)
+    (c .before .holds-for-some-record2 .ensures ∙ some-factor (fileCoefficientOutOfRange (prime _)) _)
     (c .if2 .taken)
     ∙ sym (passed-1 (c .before .before))
 
@@ -52,7 +52,7 @@ returns-3 c =
     ∙ sym
     (passed-1 (c .before .before)
     ∙ first-skip _ _
-    (c .before .holds-for-some-record2 .ensures ∙ some-factor (fileNotMonic (prime _)) _)
+    (c .before .holds-for-some-record2 .ensures ∙ some-factor (fileCoefficientOutOfRange (prime _)) _)
     (c .if2 .left))
 
 pub written-factors-verdict-spec : {M : Type 1} → statement M

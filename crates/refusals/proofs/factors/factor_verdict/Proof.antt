@@ -28,16 +28,7 @@ passed-2 : (c : tie.Else2) → Passed 2 (table (at-2 c))
 unfolding oneFactorTable
 passed-2 c =
     passed-1 (c .before .before)
-    ∙ first-skip _ _ (c .before .not-monic .ensures) (c .if2 .left)
-
-abbrev at-3 : tie.Else3 → tie.Start
-at-3 c = at-2 (c .before .before)
-
-passed-3 : (c : tie.Else3) → Passed 3 (table (at-3 c))
-unfolding oneFactorTable
-passed-3 c =
-    passed-2 (c .before .before)
-    ∙ first-skip _ _ (c .before .reducible .ensures) (c .if3 .left)
+    ∙ first-skip _ _ (c .before .coefficient-out-of-range .ensures) (c .if2 .left)
 
 factor-degree-out-of-range-requires : tie.Need-factor-degree-out-of-range-requires
 factor-degree-out-of-range-requires c κs = search needs
@@ -46,27 +37,18 @@ returns : tie.Need-returns
 unfolding numberIn numberOf oneFactorTable
 returns c = first-here _ _ (c .before .factor-degree-out-of-range .ensures) (c .if1 .taken)
 
-not-monic-requires : tie.Need-not-monic-requires
-not-monic-requires c κs = search needs
+coefficient-out-of-range-requires : tie.Need-coefficient-out-of-range-requires
+coefficient-out-of-range-requires c κs = search needs
 
 returns-2 : tie.Need-returns-2
 unfolding numberIn numberOf oneFactorTable
 returns-2 c =
-    first-here _ _ (c .before .not-monic .ensures) (c .if2 .taken)
+    first-here _ _ (c .before .coefficient-out-of-range .ensures) (c .if2 .taken)
     ∙ sym (passed-1 (c .before .before))
 
-reducible-requires : tie.Need-reducible-requires
-reducible-requires c κs = search needs
-
 returns-3 : tie.Need-returns-3
-unfolding numberIn numberOf oneFactorTable
-returns-3 c =
-    first-here _ _ (c .before .reducible .ensures) (c .if3 .taken)
-    ∙ sym (passed-2 (c .before .before))
-
-returns-4 : tie.Need-returns-4
 unfolding numberIn oneFactorTable
-returns-4 c = first-nowhere ∙ sym (passed-3 c)
+returns-3 c = first-nowhere ∙ sym (passed-2 c)
 
 pub factor-verdict-spec : {M : Type 1} → statement M
 factor-verdict-spec =
@@ -74,8 +56,6 @@ factor-verdict-spec =
     (tie.spec
     factor-degree-out-of-range-requires
     returns
-    not-monic-requires
+    coefficient-out-of-range-requires
     returns-2
-    reducible-requires
-    returns-3
-    returns-4)
+    returns-3)

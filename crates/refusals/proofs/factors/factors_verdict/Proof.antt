@@ -50,24 +50,6 @@ passed-3 c =
     passed-2 (c .before .before)
     ∙ first-skip _ _ (c .before .holds-for-some2 .ensures) (c .if3 .left)
 
-abbrev at-4 : tie.Else4 → tie.Start
-at-4 c = at-3 (c .before .before)
-
-passed-4 : (c : tie.Else4) → Passed 4 (table (at-4 c))
-unfolding factorsTable
-passed-4 c =
-    passed-3 (c .before .before)
-    ∙ first-skip _ _ (c .before .holds-for-some3 .ensures) (c .if4 .left)
-
-abbrev at-5 : tie.Else5 → tie.Start
-at-5 c = at-4 (c .before .before)
-
-passed-5 : (c : tie.Else5) → Passed 5 (table (at-5 c))
-unfolding factorsTable
-passed-5 c =
-    passed-4 (c .before .before)
-    ∙ first-skip _ _ (c .before .two-equal .ensures) (c .if5 .left)
-
 factor-count-out-of-range-requires : tie.Need-factor-count-out-of-range-requires
 factor-count-out-of-range-requires c κs = search needs
 
@@ -93,27 +75,9 @@ returns-3 c =
     first-here _ _ (c .before .holds-for-some2 .ensures) (c .if3 .taken)
     ∙ sym (passed-2 (c .before .before))
 
-holds-for-some-requires-3 : tie.Need-holds-for-some-requires-3
-holds-for-some-requires-3 c κs = search needs
-
 returns-4 : tie.Need-returns-4
-unfolding numberIn numberOf factorsTable
-returns-4 c =
-    first-here _ _ (c .before .holds-for-some3 .ensures) (c .if4 .taken)
-    ∙ sym (passed-3 (c .before .before))
-
-two-equal-requires : tie.Need-two-equal-requires
-two-equal-requires c κs = search needs
-
-returns-5 : tie.Need-returns-5
-unfolding numberIn numberOf factorsTable
-returns-5 c =
-    first-here _ _ (c .before .two-equal .ensures) (c .if5 .taken)
-    ∙ sym (passed-4 (c .before .before))
-
-returns-6 : tie.Need-returns-6
 unfolding numberIn factorsTable
-returns-6 c = first-nowhere ∙ sym (passed-5 c)
+returns-4 c = first-nowhere ∙ sym (passed-3 c)
 
 pub factors-verdict-spec : {M : Type 1} → statement M
 factors-verdict-spec =
@@ -125,8 +89,4 @@ factors-verdict-spec =
     returns-2
     holds-for-some-requires-2
     returns-3
-    holds-for-some-requires-3
-    returns-4
-    two-equal-requires
-    returns-5
-    returns-6)
+    returns-4)

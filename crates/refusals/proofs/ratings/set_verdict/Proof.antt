@@ -1,35 +1,31 @@
--- `ratings::set_verdict` meets its contract: the terms decide, or else the factors, or else the rest.
+-- `ratings::set_verdict` meets its contract: the multiples decide, or else the rest.
 -- Assumes nothing.
-use mathlib.Core.Path.{sym, ap, _∙_}
-use mathlib.Core.List.{List, _++_}
+use mathlib.Core.Path.{sym, _∙_}
+use mathlib.Core.List.{List}
 use denote.Ref.{now}
 use borrow.Author.Needs.{needs}
-use Rattle.meaning.specs.Result.{Check, firstOf}
+use Rattle.meaning.specs.Result.{Check}
 use Rattle.meaning.specs.Conditions.{named}
 use Rattle.meaning.specs.Slices.{listsOf}
-use Rattle.refusals.specs.Verdicts.{termsTable, factorsTable, powersTable}
-use Rattle.refusals.proofs.Ways.{set-parts}
-use Rattle.refusals.proofs.Order.{refused-before, refused-second, accepted-both}
+use Rattle.refusals.specs.Verdicts.{multiplesTable, powersTable, setRest}
+use Rattle.refusals.proofs.Order.{refused-before, accepted-before}
 use Rattle.refusals.proofs.ratings.set_verdict.Statement.{statement}
 use Rattle.refusals.proofs.ratings.set_verdict.Tie as tie
 
-abbrev start : tie.After-terms-verdict → tie.Start
+abbrev start : tie.After-multiples-verdict → tie.Start
 start c = c .before .before .before
 
-abbrev terms : tie.Start → List Check
-terms s = termsTable (s .args .p) (now (s .args .terms))
+abbrev before : tie.Start → List Check
+before s = multiplesTable (s .args .p) (listsOf (now (s .args .multiples)))
 
-abbrev factors : tie.Start → List Check
-factors s = factorsTable (s .args .p) (listsOf (now (s .args .factors)))
-
-abbrev rest : tie.Start → List Check
-rest s =
-    powersTable (named (listsOf (now (s .args .factors))) (now (s .args .uppers))) (now (s .args .terms))
+abbrev after : tie.Start → List Check
+after s = powersTable (named (listsOf (now (s .args .multiples))) (now (s .args .uppers)))
+    (now (s .args .terms))
     (s .args .answer)
     (s .args .work)
 
-terms-verdict-requires : tie.Need-terms-verdict-requires
-terms-verdict-requires c κs = search needs
+multiples-verdict-requires : tie.Need-multiples-verdict-requires
+multiples-verdict-requires c κs = search needs
 
 enum-known-r : tie.Need-enum-known-r
 enum-known-r c = search needs
@@ -37,64 +33,32 @@ enum-known-r c = search needs
 enum-told : tie.Need-enum-told
 enum-told c = search needs
 
-factors-verdict-requires : tie.Need-factors-verdict-requires
-factors-verdict-requires c κs = search needs
-
-enum-known-r-2 : tie.Need-enum-known-r-2
-enum-known-r-2 c = search needs
-
-enum-told-2 : tie.Need-enum-told-2
-enum-told-2 c = search needs
-
 powers-verdict-requires : tie.Need-powers-verdict-requires
 powers-verdict-requires c κs = search needs
 
 returns : tie.Need-returns
+unfolding setRest
 returns c =
     let u = c .before .before .before in
     let s = start u in
-    refused-before (terms s) (factors s ++ rest s) (u .terms-verdict .ensures) (c .before .r .given .1)
-    ∙ sym (ap firstOf (set-parts _ _ _ _ _ _))
+    refused-before (before s) (after s) (u .multiples-verdict .ensures) (c .before .r .given .1)
 
 returns-2 : tie.Need-returns-2
+unfolding setRest
 returns-2 c =
-    let v = c .before .before .before in
-    let u = v .before .before .before in
-    let s = start u in
-    refused-second (terms s) (factors s) (rest s)
-    (u .terms-verdict .ensures)
-    (v .factors-verdict .ensures)
-    (v .before .enum-told .given .1)
-    (c .before .r2 .given .1)
-    ∙ sym (ap firstOf (set-parts _ _ _ _ _ _))
-
--- the rest decides
-returns-3 : tie.Need-returns-3
-returns-3 c =
     let t = c .before in
-    let v = t .before .before in
-    let u = v .before .before .before in
+    let u = t .before .before in
     let s = start u in
     c .powers-verdict .ensures
-    ∙ sym
-    (ap firstOf (set-parts _ _ _ _ _ _)
-    ∙ accepted-both (terms s) (factors s) (rest s)
-    (u .terms-verdict .ensures)
-    (v .factors-verdict .ensures)
-    (v .before .enum-told .given .1)
-    (t .enum-told2 .given .1))
+    ∙ sym (accepted-before (before s) (after s) (u .multiples-verdict .ensures) (t .enum-told .given .1))
 
 pub set-verdict-spec : {M : Type 1} → statement M
 set-verdict-spec =
     tie.close
     (tie.spec
-    terms-verdict-requires
+    multiples-verdict-requires
     enum-known-r
     enum-told
-    factors-verdict-requires
-    enum-known-r-2
-    enum-told-2
     powers-verdict-requires
     returns
-    returns-2
-    returns-3)
+    returns-2)

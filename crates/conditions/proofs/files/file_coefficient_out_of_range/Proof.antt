@@ -1,4 +1,4 @@
--- `files::file_not_monic` meets its contract.
+-- `files::file_coefficient_out_of_range` meets its contract.
 -- Assumes nothing.
 use native.Mathlib.Omega.{arith}
 use mathlib.Core.Path.{_∙_, sym, ap}
@@ -7,8 +7,8 @@ use borrow.Author.Needs.{needs}
 use Rattle.conditions.proofs.files.FileFactor.{file-without-coefficients, file-without-upper}
 use Rattle.conditions.proofs.files.FileFactor.{file-foreign}
 use Rattle.conditions.proofs.files.FileFactor.{file-upper}
-use Rattle.conditions.proofs.files.file_not_monic.Statement.{statement}
-use Rattle.conditions.proofs.files.file_not_monic.Tie as tie
+use Rattle.conditions.proofs.files.file_coefficient_out_of_range.Statement.{statement}
+use Rattle.conditions.proofs.files.file_coefficient_out_of_range.Tie as tie
 
 returns : tie.Need-returns
 returns c = file-without-coefficients _ _ (c .if1 .taken)
@@ -70,8 +70,8 @@ returns-4 c =
     ∙ file-upper _ _
     (sym (c .before .before .before .term-out-of-field2 .ensures) ∙ c .before .before .if3 .left)
 
-pub file-not-monic-spec : {M : Type 1} → statement M
-file-not-monic-spec =
+pub file-coefficient-out-of-range-spec : {M : Type 1} → statement M
+file-coefficient-out-of-range-spec =
     tie.close
     (tie.spec
     returns

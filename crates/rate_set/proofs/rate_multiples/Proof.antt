@@ -1,0 +1,126 @@
+-- `rate_multiples` meets its contract: the verdict refuses, or the search finds no powers, which is 17, or
+-- the powers that are found are written as a product. Assumes nothing.
+use mathlib.Core.Path.{sym}
+use borrow.Author.Needs.{needs}
+use Rattle.arith.proofs.Represented.{field-isField}
+use Rattle.meaning.proofs.Slices.{lists-length}
+use Rattle.rate_set.proofs.SetWay.{set-refused, set-lent, set-input, set-seventeen}
+use Rattle.rate_set.proofs.SetWay.{set-powers-input, set-rated}
+use Rattle.rate_set.proofs.rate_multiples.Statement.{statement}
+use Rattle.rate_set.proofs.rate_multiples.Tie as tie
+
+abbrev start : tie.After-set-verdict → tie.Start
+start v = v .before .before .before .before .before
+
+set-verdict-requires : tie.Need-set-verdict-requires
+set-verdict-requires c κs = search needs
+
+enum-known-r : tie.Need-enum-known-r
+enum-known-r c = search needs
+
+refused-requires : tie.Need-refused-requires
+refused-requires c κs = search needs
+
+enum-told : tie.Need-enum-told
+enum-told c = search needs
+
+set-powers-requires : tie.Need-set-powers-requires
+set-powers-requires c κs =
+    let a = c .before in
+    let v = a .before .before in
+    let s = start v in
+    let e = v .set-verdict .ensures in (
+      s .pre .0 .wellFormed,
+      (
+        set-lent _ _ _ _ _ _ (s .pre .1) e (a .enum-told .given .1) .1,
+        set-input _ _ _ _ _ _ (s .pre .1) e (a .enum-told .given .1) (s .pre .0 .isField),
+      ),
+    )
+
+slice-aggregate-write-product : tie.Need-slice-aggregate-write-product
+slice-aggregate-write-product c = search needs
+
+write-product-requires : tie.Need-write-product-requires
+write-product-requires c κs =
+    let t = c .before .before .before in
+    let y = t .before .before .before in
+    let a = y .before .before in
+    let v = a .before .before in
+    let s = start v in
+    let e = v .set-verdict .ensures in (
+      s .pre .0 .wellFormed,
+      (
+        set-lent _ _ _ _ _ _ (s .pre .1) e (a .enum-told .given .1) .0,
+        set-powers-input _ _ _ _ _ _ (s .pre .1) e (a .enum-told .given .1) (s .pre .0 .isField)
+            (field-isField (s .pre .0 .wellFormed)) (y .set-powers .ensures) (t .if1 .taken),
+      ),
+    )
+
+rated-requires : tie.Need-rated-requires
+rated-requires c κs = search needs
+
+refused-requires-2 : tie.Need-refused-requires-2
+refused-requires-2 c κs = search needs
+
+returns : tie.Need-returns
+returns c =
+    let r = c .before .before in
+    let v = r .before .before in
+    set-refused _ _ _ _ _ _ (start v .pre .1) (v .set-verdict .ensures) (r .r .given .1) (c .refused .ensures)
+
+same-length : tie.Need-same-length
+same-length c = search needs
+
+same-length-2 : tie.Need-same-length-2
+same-length-2 c = search needs
+
+returns-2 : tie.Need-returns-2
+returns-2 c =
+    let w = c .before .before .before in
+    let t = w .before .before .before .before in
+    let y = t .before .before .before in
+    let a = y .before .before in
+    let v = a .before .before in
+    let s = start v in
+    set-rated _ _ _ _ _ _ (s .pre .1) (v .set-verdict .ensures) (a .enum-told .given .1) (s .pre .0 .isField)
+    (field-isField (s .pre .0 .wellFormed)) (y .set-powers .ensures)
+    (t .if1 .taken)
+    (sym (lists-length _))
+    (w .write-product .ensures)
+    (c .rated .ensures)
+
+same-length-3 : tie.Need-same-length-3
+same-length-3 c = search needs
+
+returns-3 : tie.Need-returns-3
+returns-3 c =
+    let t = c .before in
+    let y = t .before .before .before in
+    let a = y .before .before in
+    let v = a .before .before in
+    let s = start v in
+    set-seventeen _ _ _ _ _ _ (s .pre .1) (v .set-verdict .ensures) (a .enum-told .given .1)
+    (s .pre .0 .isField)
+    (field-isField (s .pre .0 .wellFormed)) (y .set-powers .ensures)
+    (t .if1 .left)
+    (c .refused2 .ensures)
+
+pub rate-multiples-spec : {M : Type 1} → statement M
+rate-multiples-spec =
+    tie.close
+    (tie.spec
+    set-verdict-requires
+    enum-known-r
+    refused-requires
+    enum-told
+    set-powers-requires
+    slice-aggregate-write-product
+    write-product-requires
+    rated-requires
+    refused-requires-2
+    returns
+    same-length
+    same-length-2
+    returns-2
+    same-length-3
+    returns-3)
