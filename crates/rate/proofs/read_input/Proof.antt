@@ -1,6 +1,5 @@
--- `read_input` is safe and ends. The buffer keeps its length, what was read is at most that, and the measure
--- is
--- what is left of the buffer.
+-- `read_input` is safe and ends. The buffer keeps its length, and what was read is at most that.
+-- The measure is what is left of the buffer.
 -- Assumes nothing.
 use Prim.Native.Nat.{_-_, _≤_}
 use native.Mathlib.Omega.{arith}
