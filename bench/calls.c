@@ -7,7 +7,7 @@
 typedef struct {
     const job *job;
     answer found;
-    uint8_t work[8192];
+    uint8_t work[8192], profile[4 * 4096];
 } task;
 
 static void *prepare(const job *j) {
@@ -62,3 +62,20 @@ static void tell(void *task_, answer *a) {
 CONTESTANT(rater)
 CONTESTANT(plain)
 CONTESTANT(tuned)
+
+// ---- the profile, whose last entry has the figures that the free way answers
+
+static void *prepare_profile(const job *j) {
+    return j->way == FREE && j->count == 4096 && !j->compared ? prepare(j) : NULL;
+}
+
+static void run_profile(void *task_) {
+    task *t = task_;
+    const job *j = t->job;
+    const uint8_t *last = t->profile + 4 * (j->count - 1);
+    t->found.status = rater_profile(j->p, j->terms, j->count, t->profile, sizeof t->profile);
+    t->found.degree = last[1] + 256 * last[2];
+    t->found.unique = last[3];
+}
+
+const contestant profile = {"profile", prepare_profile, run_profile, tell, free};

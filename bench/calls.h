@@ -32,6 +32,7 @@
 extern "C" {
 #endif
 DECLARE_CALLS(rater)
+uint64_t rater_profile(uint64_t p, const uint8_t *terms, size_t count, uint8_t *profile, size_t bytes);
 uint64_t rater_continue_sequence(uint64_t p, const uint8_t *polynomial, size_t coefficients, const uint8_t *start,
                                  size_t count, uint8_t *buffer, size_t bytes, size_t place);
 DECLARE_CALLS(plain)

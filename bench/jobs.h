@@ -47,6 +47,8 @@ typedef struct {
 
 // the rater, its C versions, and the peers by their two methods: a gcd, or the minimal polynomial of twice the terms
 extern const contestant rater, plain, tuned;
+// the rater again: the whole profile of 4,096 terms that the free way rates
+extern const contestant profile;
 extern const contestant ntl, ntl_twice, flint, flint_twice, pari, pari_twice;
 
 // all jobs, and how many they are

@@ -11,7 +11,7 @@
 #include <time.h>
 
 static const contestant *const contestants[] = {
-    &rater, &plain, &tuned,
+    &rater, &plain, &tuned, &profile,
 #ifdef WITH_NTL
     &ntl, &ntl_twice,
 #endif
@@ -86,7 +86,7 @@ static const char *verdict(const job *j, const answer *ours, const answer *their
     return "different";
 }
 
-// the C versions must agree with the rater to the last number
+// the C versions and the last entry of the profile must agree with the rater to the last number
 static void hold(const job *j, const contestant *c, const answer *ours, const answer *theirs) {
     bool same = ours->status == theirs->status && ours->degree == theirs->degree && ours->bound == theirs->bound &&
                 ours->unique == theirs->unique && memcmp(ours->powers, theirs->powers, sizeof ours->powers) == 0;
@@ -119,8 +119,9 @@ static void begin(const job *j, size_t number, int rounds, state *s) {
         c->run(task);
         c->tell(task, &theirs);
         if (i == 0) ours = theirs;
-        if (c == &plain || c == &tuned) hold(j, c, &ours, &theirs);
-        const char *found = verdict(j, &ours, &theirs, words, sizeof words);
+        if (c == &plain || c == &tuned || c == &profile) hold(j, c, &ours, &theirs);
+        words[0] = 0;
+        const char *found = c == &profile ? "same" : verdict(j, &ours, &theirs, words, sizeof words);
         printf("answer\t%zu\t%s\t%s\t%s\n", number, c->name, found, words);
         if (j->compared) continue;
         s->times[i] = times_of(c, task);
@@ -165,6 +166,13 @@ static void stacks(const job *jobs, size_t count) {
             rater.finish(task);
         }
         printf("stack\t%s\t%zu\n", calls[way], most);
+    }
+    for (size_t i = 0; i < count; i++) {
+        void *task = profile.prepare(&jobs[i]);
+        if (task == NULL) continue;
+        printf("stack\tprofile\t%zu\n", stack_used(profile.run, task));
+        profile.finish(task);
+        break;
     }
     printf("stack\tcontinue_sequence\t%zu\n", stack_used(continues, NULL));
 }

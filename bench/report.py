@@ -38,6 +38,12 @@ class Job:
         both = [ours[k] / theirs[k] for k in theirs if k in ours]
         return statistics.median(both) if both else None
 
+    def profile_ratio(self):
+        """Time of the profile over the time of the free way on the same terms, in the same way."""
+        once, whole = self.rounds['rater'], self.rounds.get('profile', {})
+        both = [whole[k] / once[k] for k in whole if k in once]
+        return statistics.median(both) if both else None
+
 
 def read_passes():
     jobs, stacks = {}, {}
@@ -102,6 +108,8 @@ def main_table(jobs, routes):
         if any(p + ' twice' in j.rounds for p in PEERS):
             again = [significant(j.ratio(p + ' twice')) + (' ≠' if different(j, p + ' twice') else '') for p in PEERS]
             rows.append(['– the same, peers by twice the terms', '', '', ''] + again)
+        if 'profile' in j.rounds:
+            rows.append(['– the profile of these terms', microseconds(j.median('profile'))] + [''] * len(OTHERS))
     return table(['Job', 'µs', 'C plain', 'C tuned'] + PEERS, rows)
 
 
@@ -153,6 +161,9 @@ def limits(jobs):
         j = by_name(jobs, 'free way, %s, GF(2)' % kind)
         row(j.name + ', over C plain', j.ratio('plain'), 1)
     for j in jobs:
+        if 'profile' in j.rounds:
+            row('profile of ' + j.name.removeprefix('free way, ') + ', over the free way', j.profile_ratio(), 1.5)
+    for j in jobs:
         if j.way == 'irreducible':
             row(j.name + ', over C tuned', j.ratio('tuned'), 2)
     for j in jobs:
@@ -195,7 +206,7 @@ def growth(jobs):
 
 def memory(stacks):
     lent = {'rate_free': '12,289', 'rate_period': '12,289', 'rate_portion': '12,289', 'rate_set': '12,289',
-            'is_irreducible': 'none', 'continue_sequence': 'the part that is filled'}
+            'profile': 'four for each term', 'is_irreducible': 'none', 'continue_sequence': 'the part that is filled'}
     rows = [['`%s`' % call, lent[call], '{:,}'.format(n)] for call, n in stacks.items()]
     return table(['Call', 'bytes lent', 'bytes of stack'], rows)
 
@@ -458,6 +469,7 @@ round: **below 1 the rater is faster**. {agreement}
   hold all terms to that product. *By twice the terms*: the period is repeated, or the portion continued by a power
   series, to twice the degree, and the minimal polynomial is asked for. They are not asked for the powers of the factors,
   nor whether the factors are irreducible.
+- *The profile of these terms*: the rater's own `rater_profile`, which gives the figures of the free way after each term.
 
 ## Times
 

@@ -9,7 +9,7 @@ use common::random::Random;
 use common::rater::{self, Input, Rating, Way};
 use common::route::{self, Contents, Factor, Record};
 use common::sequence;
-use common::{expect, primes, run, Outcome, NO_PRIMES};
+use common::{expect, primes, run, Outcome, EXAMPLES, NO_PRIMES};
 use std::collections::BTreeMap;
 use std::io::{Seek, SeekFrom, Write};
 use std::os::unix::fs::FileExt;
@@ -338,8 +338,7 @@ fn changed(random: &mut Random, file: &mut Vec<u8>) {
 
 // Every shipped example, by what it prints, byte for byte.
 fn examples() -> Outcome {
-    let names = "abcdefghijklm";
-    for name in names.chars() {
+    for name in EXAMPLES {
         let read = |suffix: &str| {
             let path = format!("examples/{name}.{suffix}");
             std::fs::read(&path).map_err(|e| format!("{path}: {e}"))
@@ -347,10 +346,10 @@ fn examples() -> Outcome {
         let file = read("route")?;
         let lines = printed(&file)?;
         let shipped = String::from_utf8(read("lines")?).map_err(|e| e.to_string())?;
-        expect(&lines, &shipped, || format!("row {name}"))?;
+        expect(&lines, &shipped, || format!("the lines of {name}"))?;
         compare(&file, &lines)?;
     }
-    Ok(names.len() as u64)
+    Ok(EXAMPLES.len() as u64)
 }
 
 // Rates files with such contents, and sees to it that at least a quarter of those of each mode are rated.

@@ -3,7 +3,7 @@ mod common;
 
 use common::random::Random;
 use common::route::{self, Record};
-use common::{expect, Outcome};
+use common::{expect, Outcome, EXAMPLES};
 use std::io::Write;
 use std::process::{Command, Stdio};
 
@@ -33,7 +33,7 @@ fn well(verb: &str, input: &[u8]) -> Result<Vec<u8>, String> {
 }
 
 fn examples() -> Outcome {
-    for name in "abcdefghijklm".chars() {
+    for name in EXAMPLES {
         let read = |suffix: &str| {
             let path = format!("examples/{name}.{suffix}");
             std::fs::read(&path).map_err(|e| format!("{path}: {e}"))
@@ -50,7 +50,7 @@ fn examples() -> Outcome {
             .collect();
         expect(shown, statements, || format!("the text of {name}"))?;
     }
-    Ok(26)
+    Ok(2 * EXAMPLES.len() as u64)
 }
 
 fn random_record(random: &mut Random) -> Record {

@@ -81,6 +81,13 @@ mod exported {
             degree: *mut u64,
             unique: *mut u8,
         ) -> u64;
+        pub fn rater_profile(
+            p: u64,
+            terms: *const u8,
+            count: usize,
+            profile: *mut u8,
+            size: usize,
+        ) -> u64;
     }
 }
 
@@ -127,6 +134,19 @@ pub fn continue_sequence(
             buffer.as_mut_ptr(),
             buffer.len(),
             place,
+        )
+    })
+}
+
+// Writes the profile of the terms, four bytes for each.
+pub fn profile(p: u64, terms: &[u8], profile: &mut [u8]) -> Answer<()> {
+    answer(unsafe {
+        exported::rater_profile(
+            p,
+            terms.as_ptr(),
+            terms.len(),
+            profile.as_mut_ptr(),
+            profile.len(),
         )
     })
 }

@@ -25,6 +25,7 @@ pub mod Padding
 pub mod Coefficients
 pub mod MasseySteps
 pub mod MasseyAnswer
+pub mod Meters
 pub mod Cutting
 pub mod Accepted
 pub mod Records

@@ -11,6 +11,7 @@
 --   massey-chosen    == it fits wherever the free way answers `some`
 --   choice-exists    == some choice fits on every input
 --   massey-answer    == the answer of the free way is the polynomial of the model, under both words
+--   massey-reading   == a meter shows the degree of the model
 --
 -- No condition on the terms is needed: a number beyond the field stands for its element.
 -- Assumes nothing.
@@ -25,7 +26,7 @@ use native.Mathlib.Omega.{arith}
 use lib.ListN.{length, getD, take, drop, take-append-drop, List·getD-eq-default}
 use lib.Seq.{length-take-le}
 use lib.Dec.{T, eqb, eqb→eq, eqb-refl}
-use Rattle.meaning.specs.Search.{least}
+use Rattle.meaning.specs.Search.{least, mapOption}
 use Rattle.meaning.specs.Field.{Field, prime, primeInRange, areElements}
 use Rattle.meaning.specs.Polynomial.{degree, isMonicOver, plus, scale}
 use Rattle.meaning.specs.Sequence.{actAt, known}
@@ -33,6 +34,7 @@ use Rattle.meaning.specs.Result.{answered}
 use Rattle.meaning.specs.Conditions.{notPrime}
 use Rattle.meaning.specs.Free.{leastDegree, Fits, isUnique, Choice, ChosenFits, freeTable}
 use Rattle.meaning.specs.Free.{rateFree}
+use Rattle.meaning.specs.Meter.{freeFigures}
 use Rattle.meaning.proofs.Passes.{Passes}
 use Rattle.algebra.proofs.Ring.{Ring, inverse-unique, add-right-comm, neg-mul}
 use Rattle.algebra.proofs.Power.{power, power-add}
@@ -431,6 +433,19 @@ module _ (inverse : Field → ℕ → ℕ) (v : InvertsPrimes inverse) (p : ℕ)
       (massey-least I (inverse (prime p)) (v p q) ts)
       (massey-fits I (inverse (prime p)) (v p q) ts)
       (λ _. refl)
+
+  pub massey-reading :
+      T (primeInRange p)
+      → freeFigures (prime p) ts
+      ≡ some
+      (record {
+        degree = masseyDegree (prime p) (inverse (prime p)) ts;
+        unique = isUnique ts (masseyDegree (prime p) (inverse (prime p)) ts);
+      })
+  unfolding freeFigures mapOption
+  massey-reading q =
+      ap (mapOption (λ e. record { degree = e; unique = isUnique ts e }))
+      (massey-least (inRange-isField p q) (inverse (prime p)) (v p q) ts)
 
 -- Some choice fits on every input: that of the model, with inverses found by trying all numbers.
 tried : Field → ℕ → ℕ

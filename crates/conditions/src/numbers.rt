@@ -7,6 +7,7 @@ ghost use Rattle.meaning.specs.Field.{prime};
 ghost use Rattle.meaning.specs.Conditions.{notPrime};
 ghost use Rattle.meaning.specs.Conditions.{countOutOfRange, placeOutOfRange, factorCountOutOfRange};
 ghost use Rattle.meaning.specs.Conditions.{degreeOutOfRange, lentTooShort};
+ghost use Rattle.meaning.specs.Meter.{meterFull};
 
 // 6: p is not a prime from 2 to 251.
 pub fn not_prime(p: u64) -> bool
@@ -31,6 +32,13 @@ pub fn place_out_of_range(size: usize, place: usize) -> bool
         return true;
     }
     count_out_of_range(size - place)
+}
+
+// 18: a meter holds 4,096 terms.
+pub fn meter_full(n: usize) -> bool
+    ensures { λ r. ⌜ r ≡ meterFull n ⌝ }
+{
+    4096 <= n
 }
 
 // 9: no factor, or more than eight.

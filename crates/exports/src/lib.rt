@@ -1,10 +1,12 @@
 // The public calls for programs in other languages, on numbers and byte slices alone: each function is the
-// call of crate rater that it names, on every input. A call with refusals answers its status, which is 0
-// where it is accepted and else the number of the refusal. What it answers beside goes into lent numbers and
-// bytes. A refusal leaves all that was lent as it was, but for the first 8,192 work bytes, which the refusal
-// by 17 leaves zero. `rt staticlib exports` builds the library that has them all.
+// call of crate rater that it names, on every input, and `rater_profile` is those of the meter together. A
+// call with refusals answers its status, which is 0 where it is accepted and else the number of the refusal.
+// What it answers beside goes into lent numbers and bytes. A refusal leaves all that was lent as it was, but
+// for the first 8,192 work bytes, which the refusal by 17 leaves zero. `rt staticlib exports` builds the
+// library that has them all.
 pub mod continuation;
 pub mod free;
 pub mod one_factor;
+pub mod profile;
 pub mod questions;
 pub mod set;

@@ -4,18 +4,18 @@
 --   free-chosen      == the choice of the program fits, wherever the free way answers `some`
 --   free-accepted    == what is known where no refusal of the free way holds
 --   free-answered, free-lent == the answer of the free way, and the lent bytes after it
---   free-unique, free-several == the contract of the public call, by the two words
+--   free-told         == the contract of the public call, which tells the degree and its word
 --
 -- Assumes nothing.
 use Prim.Native.Nat.{ℕ, _*_, _≤_, _<_}
 use mathlib.Core.Path.{_≡_, sym, ap, subst, _∙_}
-use mathlib.Core.Bool.{Bool, true, false}
+use mathlib.Core.Bool.{false}
 use mathlib.Core.List.{List}
 use mathlib.Core.Option.{none}
 use native.Mathlib.Decide.{decLt}
 use native.Mathlib.Omega.{arith}
 use lib.ListN.{length}
-use lib.Dec.{T, ltb, lt→ltb}
+use lib.Dec.{T, ltb, leb, lt→ltb}
 use Rattle.meaning.specs.declared.FreeRating.{FreeRating}
 use Rattle.meaning.specs.Field.{prime, primeInRange}
 use Rattle.meaning.specs.Conditions.{lentTooShort}
@@ -28,7 +28,6 @@ use Rattle.meaning.proofs.Passes.{firstOf-passes}
 use Rattle.bridge.proofs.Searches.{false-T, or-false}
 use Rattle.bridge.proofs.Accepted.{prime-accepted, count-accepted}
 use Rattle.bridge.proofs.Interpretation.{inRange-isField}
-use Rattle.bridge.proofs.Fitting.{le-isUnique, gt-isUnique}
 use Rattle.bridge.proofs.MasseySteps.{masseyPolynomial}
 use Rattle.bridge.proofs.MasseyAnswer.{InvertsPrimes, massey-chosen, massey-answer}
 use Rattle.arith.specs.declared.field.GaloisField.{GaloisField}
@@ -94,27 +93,14 @@ module _ {p : ℕ} {field : GaloisField} {ts answer work : List ℕ} {L : ℕ} {
       subst (λ r. LentAfter r answer work answer′ work′) (sym free-answered)
       (record { answerBytes = shortest .answerBytes; workBytes = shortest .workBytes })
 
-  told : (u : Bool) → isUnique ts L ≡ u → figuresOf (rateFree freeChoice p ts (length answer) (length work))
-      ≡ answered (record { degree = L; unique = u })
-  unfolding figuresOf mapResult
-  told u i = rw (free-answered, i, figuresOf, mapResult)
-
-  pub free-unique :
-      2 * L ≤ length ts → FreeCall freeChoice p ts answer work (FreeRating.Unique L) answer′ work′
-  unfolding toldFree
-  free-unique l =
+  pub free-told :
+      {r : FreeRating}
+      → toldFree r ≡ answered (record { degree = L; unique = leb (2 * L) (length ts) })
+      → FreeCall freeChoice p ts answer work r answer′ work′
+  unfolding figuresOf mapResult isUnique
+  free-told t =
       record {
-        rating = sym (told true (le-isUnique ts L l));
-        chosen = free-chosen p ts;
-        lent = free-lent;
-      }
-
-  pub free-several :
-      length ts < 2 * L → FreeCall freeChoice p ts answer work (FreeRating.Several L) answer′ work′
-  unfolding toldFree
-  free-several l =
-      record {
-        rating = sym (told false (gt-isUnique ts L l));
+        rating = t ∙ sym (ap figuresOf free-answered);
         chosen = free-chosen p ts;
         lent = free-lent;
       }

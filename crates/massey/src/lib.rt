@@ -6,4 +6,5 @@
 mod shortest;
 pub mod step;
 
+pub use shortest::figures;
 pub use shortest::shortest_recurrence;

@@ -26,6 +26,8 @@ use Rattle.meaning.specs.Portion.{setAnswer, rateSet, factorTable, accep
 use Rattle.meaning.specs.Portion.{portionAnswer, ratePortion}
 use Rattle.meaning.specs.Free.{fitsDegree, leastDegree, isUnique, freePolynomial, freeRating, freeTable}
 use Rattle.meaning.specs.Free.{rateFree}
+use Rattle.meaning.specs.Meter.{freeFigures, startMeter, meterFull, termTable, takeTerm, meterReading}
+use Rattle.meaning.specs.Meter.{unlessRefused, profileEntry, readingEntry, profileOf}
 use Rattle.meaning.specs.Continuation.{continueTable, filled, continueSequence}
 use Rattle.meaning.specs.Irreducibility.{irreducibleTable, askIrreducible}
 use Rattle.meaning.specs.Route.{lookUp, bodyLengths, admitted, stopped, before, walk, bodies, appended}
@@ -103,6 +105,14 @@ unfoldable pub openFree : Unit {0}
 unfolding fitsDegree leastDegree isUnique freePolynomial freeRating freeTable rateFree
 openFree = tt
 
+unfoldable pub openMeter : Unit {0}
+unfolding freeFigures startMeter meterFull termTable takeTerm meterReading unlessRefused profileEntry
+openMeter = tt
+
+unfoldable pub openProfile : Unit {0}
+unfolding readingEntry profileOf
+openProfile = tt
+
 unfoldable pub openContinuation : Unit {0}
 unfolding continueTable filled continueSequence
 openContinuation = tt
@@ -153,7 +163,7 @@ unfolding openSequence-2 openResult openConditions-1 openConditions-2 openCondit
 opened-2 = tt
 
 unfoldable pub opened-3 : Unit {0}
-unfolding openPower openPeriod openPortion-1 openPortion-2 openFree
+unfolding openPower openPeriod openPortion-1 openPortion-2 openFree openMeter openProfile
 opened-3 = tt
 
 unfoldable pub opened-4 : Unit {0}

@@ -1,7 +1,7 @@
 -- What an answer tells determines it: no two answers tell the same. With the equations of the contracts,
 -- whatever meets a contract is one answer.
 --
---   refusalOf n   == the refusal with the number n, none for a number that is not 1 to 17
+--   refusalOf n   == the refusal with the number n, none for a number that is not 1 to 18
 --   refusal-number, refusal-found == the numbers of the list are those of the refusals
 --   …-determined  == two answers that tell the same are the same
 --   period-call-determined and its like == two runs of a call on the same input agree in the answer and in
@@ -20,6 +20,9 @@ use Rattle.meaning.specs.declared.PowerRating.{PowerRating}
 use Rattle.meaning.specs.declared.SetOutcome.{SetOutcome}
 use Rattle.meaning.specs.declared.SetRating.{SetRating}
 use Rattle.meaning.specs.declared.FreeRating.{FreeRating}
+use Rattle.meaning.specs.declared.Meter.{Meter}
+use Rattle.meaning.specs.declared.MeterStart.{MeterStart}
+use Rattle.meaning.specs.declared.MeterStep.{MeterStep}
 use Rattle.meaning.specs.declared.Filling.{Filling}
 use Rattle.meaning.specs.declared.FileOutcome.{FileOutcome}
 use Rattle.meaning.specs.declared.FileRating.{FileRating}
@@ -30,16 +33,18 @@ use Rattle.meaning.specs.declared.Refusal.the-variants.{CountOutOfRange,
 use Rattle.meaning.specs.declared.Refusal.the-variants.{DegreeOutOfRange, CoefficientOutOfRange}
 use Rattle.meaning.specs.declared.Refusal.the-variants.{Reducible}
 use Rattle.meaning.specs.declared.Refusal.the-variants.{EqualFactors, UpperPowers, TooFewTerms}
-use Rattle.meaning.specs.declared.Refusal.the-variants.{LentTooShort, NotAnnihilated}
+use Rattle.meaning.specs.declared.Refusal.the-variants.{LentTooShort, NotAnnihilated, MeterFull}
 use Rattle.meaning.specs.Search.{mapOption, holdsForAll}
 use Rattle.meaning.specs.Route.{lookUp}
 use Rattle.meaning.specs.Result.{Result, refused, answered, Rated}
 use Rattle.meaning.specs.Power.{PowerFigures}
 use Rattle.meaning.specs.Free.{FreeFigures, Choice}
+use Rattle.meaning.specs.Meter.{MeterModel, Holding}
 use Rattle.meaning.specs.Calls.{LentAfter, IrreducibleCall, PeriodCall, PortionCall, SetCall}
-use Rattle.meaning.specs.Calls.{FreeCall, ContinueCall, FileCall, RecordCall}
+use Rattle.meaning.specs.Calls.{FreeCall, StartCall, TermCall, ReadingCall, ContinueCall, FileCall}
+use Rattle.meaning.specs.Calls.{RecordCall}
 use Rattle.meaning.specs.Answers.{numberOf, toldIrreducible, toldFilling, toldPower, toldFree, SetTold}
-use Rattle.meaning.specs.Answers.{toldSet}
+use Rattle.meaning.specs.Answers.{toldStart, toldSet}
 use Rattle.meaning.specs.Answers.{FileTold, withPowers, withOne, withSome, toldFile, toldRecord}
 
 unfoldable pub refusals : List (ℕ × Refusal)
@@ -61,6 +66,7 @@ refusals =
     ∷ (15, TooFewTerms)
     ∷ (16, LentTooShort)
     ∷ (17, NotAnnihilated)
+    ∷ (18, MeterFull)
     ∷ []
 
 unfoldable pub refusalOf : ℕ → Option Refusal
@@ -85,6 +91,7 @@ refusal-number UpperPowers = refl
 refusal-number TooFewTerms = refl
 refusal-number LentTooShort = refl
 refusal-number NotAnnihilated = refl
+refusal-number MeterFull = refl
 
 some-same : {A : Type 0} (a b : A) → some a ≡ some b → a ≡ b
 some-same a b e = cc
@@ -271,6 +278,51 @@ pub free-call-determined :
     → (r ≡ s) × ((a ≡ b) × (w ≡ x))
 free-call-determined {r = r} {s = s} c d =
     (free-determined r s (c .rating ∙ sym (d .rating)), lent-determined (c .lent) (d .lent))
+
+start : Result Meter → Option MeterStart
+start (refused n) = refusing MeterStart.Refused n
+start (answered m) = some (MeterStart.Started m)
+
+start-told : (r : MeterStart) → start (toldStart r) ≡ some r
+unfolding start toldStart
+start-told (MeterStart.Started m) = refl
+start-told (MeterStart.Refused r) = refusing-number MeterStart.Refused r
+
+pub start-call-determined :
+    {model : MeterModel} {p : ℕ} {work w x : List ℕ} {r s : MeterStart}
+    → StartCall model p work r w
+    → StartCall model p work s x
+    → (r ≡ s) × (w ≡ x)
+start-call-determined {r = r} {s = s} c d = (
+  determined toldStart start start-told r s (c .starting ∙ sym (d .starting)),
+  c .workBytes ∙ sym (d .workBytes),
+)
+
+-- of a meter that holds terms
+pub term-call-determined :
+    {model : MeterModel} {p : ℕ} {ts : List ℕ} {m : Meter} {t : ℕ} {terms work a b w x : List ℕ}
+    {r s : MeterStep}
+    → Holding model p ts m terms work
+    → TermCall model m t terms work r a w
+    → TermCall model m t terms work s b x
+    → (r ≡ s) × ((a ≡ b) × (w ≡ x))
+term-call-determined {p = p} {ts = ts} {r = r} {s = s} h c d =
+    let y = c .taken p ts h in
+    let z = d .taken p ts h in
+    let readings = free-determined (r .reading) (s .reading) (y .reading ∙ sym (z .reading)) in
+    let meters = y .meter ∙ sym (z .meter) in (
+      λ i. record { reading = readings i; meter = meters i },
+      (y .termBytes ∙ sym (z .termBytes), y .workBytes ∙ sym (z .workBytes)),
+    )
+
+pub reading-call-determined :
+    {model : MeterModel} {p : ℕ} {ts terms work : List ℕ} {m : Meter} {r s : FreeRating}
+    → Holding model p ts m terms work
+    → ReadingCall model m r
+    → ReadingCall model m s
+    → r ≡ s
+reading-call-determined {p = p} {ts = ts} {terms = terms} {work = work} {r = r} {s = s} h c d =
+    free-determined r s (c .reading p ts terms work h ∙ sym (d .reading p ts terms work h))
 
 pub continue-call-determined :
     {p : ℕ} {g start buffer : List ℕ} {place : ℕ} {b c : List ℕ} {r s : Filling}

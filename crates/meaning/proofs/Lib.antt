@@ -8,6 +8,7 @@ pub mod Refusals
 pub mod Boundaries
 pub mod MultipleRows
 pub mod Orders
+pub mod MeterRows
 pub mod Lines
 pub mod Lent
 pub mod Determined

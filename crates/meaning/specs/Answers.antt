@@ -2,8 +2,8 @@
 -- an answer. The contracts and the theorems speak of the answers through these definitions alone.
 --
 --   numberOf r        == the number of the refusal in the list of paper 01
---   toldIrreducible, toldFilling, toldPower, toldFree, toldSet, toldFile, toldRecord == the result that an
---                          answer tells
+--   toldIrreducible, toldFilling, toldPower, toldFree, toldStart, toldSet, toldFile, toldRecord == the result
+--                          that an answer tells; of a start the meter itself
 --   SetTold, FileTold == what the answers of a set and of a file tell beside their eight powers; `count` is
 --                        the number of powers
 --   setFiguresTold, fileFiguresTold == what they should tell of the figures
@@ -21,11 +21,13 @@ use Rattle.meaning.specs.declared.Refusal.the-variants.{CountOutOfRange,
 use Rattle.meaning.specs.declared.Refusal.the-variants.{DegreeOutOfRange, CoefficientOutOfRange}
 use Rattle.meaning.specs.declared.Refusal.the-variants.{Reducible}
 use Rattle.meaning.specs.declared.Refusal.the-variants.{EqualFactors, UpperPowers, TooFewTerms}
-use Rattle.meaning.specs.declared.Refusal.the-variants.{LentTooShort, NotAnnihilated}
+use Rattle.meaning.specs.declared.Refusal.the-variants.{LentTooShort, NotAnnihilated, MeterFull}
 use Rattle.meaning.specs.declared.Irreducibility.{Irreducibility}
 use Rattle.meaning.specs.declared.PowerRating.{PowerRating}
 use Rattle.meaning.specs.declared.SetOutcome.{SetOutcome}
 use Rattle.meaning.specs.declared.FreeRating.{FreeRating}
+use Rattle.meaning.specs.declared.Meter.{Meter}
+use Rattle.meaning.specs.declared.MeterStart.{MeterStart}
 use Rattle.meaning.specs.declared.Filling.{Filling}
 use Rattle.meaning.specs.declared.FileOutcome.{FileOutcome}
 use Rattle.meaning.specs.declared.RecordOutcome.{RecordOutcome}
@@ -53,6 +55,7 @@ numberOf UpperPowers = 14
 numberOf TooFewTerms = 15
 numberOf LentTooShort = 16
 numberOf NotAnnihilated = 17
+numberOf MeterFull = 18
 
 unfoldable pub toldIrreducible : Irreducibility → Result Bool
 toldIrreducible Irreducibility.Irreducible = answered true
@@ -71,6 +74,10 @@ unfoldable pub toldFree : FreeRating → Result FreeFigures
 toldFree (FreeRating.Unique d) = answered (record { degree = d; unique = true })
 toldFree (FreeRating.Several d) = answered (record { degree = d; unique = false })
 toldFree (FreeRating.Refused r) = refused (numberOf r)
+
+unfoldable pub toldStart : MeterStart → Result Meter
+toldStart (MeterStart.Started m) = answered m
+toldStart (MeterStart.Refused r) = refused (numberOf r)
 
 pub record SetTold : Type 0 where
   pub degree : ℕ

@@ -1,26 +1,33 @@
 -- The contracts of the public calls, one record for each. A contract fixes the whole answer and every lent
--- byte afterwards, for all inputs: the lists are the contents of the slices as the call begins (answer, work,
--- buffer) and as it returns (answer′, work′, buffer′), and r is what it returns.
+-- byte afterwards, for all inputs, and those of a meter for all meters that hold terms: the lists are the
+-- contents of the slices as the call begins (answer, work, buffer) and as it returns (answer′, work′,
+-- buffer′), and r is what it returns.
 --
 --   LentAfter result …  == the lent answer and work bytes are left as the result says
 --   PrimeCall           == prime_in_range      IrreducibleCall == is_irreducible
 --   PeriodCall          == rate_period         PortionCall     == rate_portion
 --   SetCall             == rate_set            FreeCall        == rate_free
+--   StartCall           == start_meter         TermCall        == take_term (`TermTaken` for terms held)
+--   ReadingCall         == reading
 --   ContinueCall        == continue_sequence   FileCall        == rate_file
 --   RecordCall          == record (the route reader)                ProgramCall == what the program prints
 --
 -- `pick` is how the free way chooses a polynomial under `some`, where several may fit: it depends on p and
 -- the terms alone, and `chosen` says what holds of it. A contract names one such function of the program.
--- Everything else is an equation.
+-- `model` is how it keeps what a meter knows; the contracts of the meter name one too. Everything else is an
+-- equation.
 use Prim.Native.Nat.{ℕ}
 use mathlib.Core.Path.{_≡_}
 use mathlib.Core.Bool.{Bool}
-use mathlib.Core.List.{List, []}
-use lib.ListN.{length}
+use mathlib.Core.List.{List, [], _∷_, _++_}
+use lib.ListN.{length, set}
 use Rattle.meaning.specs.declared.Irreducibility.{Irreducibility}
 use Rattle.meaning.specs.declared.PowerRating.{PowerRating}
 use Rattle.meaning.specs.declared.SetRating.{SetRating}
 use Rattle.meaning.specs.declared.FreeRating.{FreeRating}
+use Rattle.meaning.specs.declared.Meter.{Meter}
+use Rattle.meaning.specs.declared.MeterStart.{MeterStart}
+use Rattle.meaning.specs.declared.MeterStep.{MeterStep}
 use Rattle.meaning.specs.declared.Filling.{Filling}
 use Rattle.meaning.specs.declared.FileRating.{FileRating}
 use Rattle.meaning.specs.declared.RecordOutcome.{RecordOutcome}
@@ -31,12 +38,13 @@ use Rattle.meaning.specs.Result.{workAfter}
 use Rattle.meaning.specs.Period.{ratePeriod}
 use Rattle.meaning.specs.Portion.{ratePortion, rateSet}
 use Rattle.meaning.specs.Free.{Choice, rateFree, ChosenFits}
+use Rattle.meaning.specs.Meter.{startMeter, takeTerm, meterReading, MeterModel, Holding, unlessRefused}
 use Rattle.meaning.specs.Continuation.{continueSequence}
 use Rattle.meaning.specs.Irreducibility.{askIrreducible}
 use Rattle.meaning.specs.Route.{RouteRecord, boxOf, readRecord}
 use Rattle.meaning.specs.File.{rateFile, FileChosenFits}
 use Rattle.meaning.specs.Print.{printed}
-use Rattle.meaning.specs.Answers.{toldIrreducible, toldFilling, toldPower, toldFree, toldSet}
+use Rattle.meaning.specs.Answers.{toldIrreducible, toldFilling, toldPower, toldFree, toldStart, toldSet}
 use Rattle.meaning.specs.Answers.{setFiguresTold, toldFile, fileFiguresTold, toldRecord, setPadded}
 use Rattle.meaning.specs.Answers.{filePadded}
 
@@ -73,6 +81,29 @@ pub record FreeCall (pick : Choice) (p : ℕ) (ts answer work : List ℕ) (r : F
   pub rating : toldFree r ≡ figuresOf (rateFree pick p ts (length answer) (length work))
   pub chosen : ChosenFits pick p ts
   pub lent : LentAfter (rateFree pick p ts (length answer) (length work)) answer work answer′ work′
+
+pub record StartCall (model : MeterModel) (p : ℕ) (work : List ℕ) (r : MeterStart) (work′ : List ℕ)
+    : Type 0 where
+  pub starting : toldStart r ≡ mapResult (λ _. (model .meter) p []) (startMeter p)
+  pub workBytes : work′ ≡ unlessRefused (startMeter p) work ((model .work) p [])
+
+pub record TermTaken (model : MeterModel) (p : ℕ) (ts : List ℕ) (m : Meter) (t : ℕ) (terms work : List ℕ)
+    (r : MeterStep) (terms′ work′ : List ℕ) : Type 0 where
+  pub reading : toldFree (r .reading) ≡ takeTerm p ts t
+  pub meter : r .meter ≡ unlessRefused (takeTerm p ts t) m ((model .meter) p (ts ++ (t ∷ [])))
+  pub termBytes : terms′ ≡ unlessRefused (takeTerm p ts t) terms (set terms (length ts) t)
+  pub workBytes : work′ ≡ unlessRefused (takeTerm p ts t) work ((model .work) p (ts ++ (t ∷ [])))
+
+pub record TermCall (model : MeterModel) (m : Meter) (t : ℕ) (terms work : List ℕ) (r : MeterStep)
+    (terms′ work′ : List ℕ) : Type 0 where
+  pub taken : (p : ℕ) (ts : List ℕ)
+      → Holding model p ts m terms work
+      → TermTaken model p ts m t terms work r terms′ work′
+
+pub record ReadingCall (model : MeterModel) (m : Meter) (r : FreeRating) : Type 0 where
+  pub reading : (p : ℕ) (ts terms work : List ℕ)
+      → Holding model p ts m terms work
+      → toldFree r ≡ meterReading p ts
 
 -- the buffer afterwards: unchanged by a refusal
 unfoldable pub bufferAfter : Result (List ℕ) → List ℕ → List ℕ

@@ -16,19 +16,22 @@
 --                         (`split`)
 --   wordNumber u       == the word as a number: 1 for `one`, 0 for `some`
 --   FreeExported pick … == `rater_rate_free`: the degree and the number of the word in the two lent numbers
+--   ProfileExported p ts … == `rater_profile`: the entries of the profile at the front of the lent bytes, as
+--                         many as these have room for, and the rest as it was
 --   Filled r …         == `rater_continue_sequence` with the result r
 --   yesAfter r n       == the lent number n afterwards: 1 for yes, 0 for no, and n as it was where refused
 --   Question r n s n′  == `rater_is_irreducible` with the result r answers the status s, and leaves n′ in the
 --                         lent number n
-use Prim.Native.Nat.{ℕ}
+use Prim.Native.Nat.{ℕ, _/_}
 use mathlib.Core.Path.{_≡_}
 use mathlib.Core.Bool.{Bool, true, false}
-use mathlib.Core.List.{List, _++_}
+use mathlib.Core.List.{List, [], _++_}
 use lib.ListN.{length, take, drop}
-use Rattle.meaning.specs.Result.{Result, refused, answered, Rated, figuresOf}
+use Rattle.meaning.specs.Result.{Result, refused, answered, Rated, figuresOf, written}
 use Rattle.meaning.specs.Power.{PowerFigures}
 use Rattle.meaning.specs.Portion.{SetFigures}
 use Rattle.meaning.specs.Free.{Choice, FreeFigures, rateFree, ChosenFits}
+use Rattle.meaning.specs.Meter.{startMeter, unlessRefused, profileOf}
 use Rattle.meaning.specs.Answers.{padded}
 use Rattle.meaning.specs.Calls.{LentAfter, bufferAfter}
 use Rattle.meaning.specs.FlatBytes.{bytesOfAll}
@@ -84,6 +87,12 @@ pub record FreeExported (pick : Choice) (p : ℕ) (ts answer work : List ℕ) (d
       unique′ ≡ numberAfter wordOf (figuresOf (rateFree pick p ts (length answer) (length work))) unique
   pub chosen : ChosenFits pick p ts
   pub lent : LentAfter (rateFree pick p ts (length answer) (length work)) answer work answer′ work′
+
+-- THE METER
+pub record ProfileExported (p : ℕ) (ts profile : List ℕ) (status : ℕ) (profile′ : List ℕ) : Type 0 where
+  pub told : status ≡ statusOf (startMeter p)
+  pub lent : profile′
+      ≡ unlessRefused (startMeter p) profile (written (profileOf p [] (take (length profile / 4) ts)) profile)
 
 -- THE CONTINUATION
 pub record Filled (result : Result (List ℕ)) (buffer : List ℕ) (status : ℕ) (buffer′ : List ℕ) : Type 0 where

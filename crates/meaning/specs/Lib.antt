@@ -8,6 +8,7 @@ pub mod Power
 pub mod Period
 pub mod Portion
 pub mod Free
+pub mod Meter
 pub mod Continuation
 pub mod Irreducibility
 pub mod Route

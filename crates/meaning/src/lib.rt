@@ -1,7 +1,7 @@
 // The answers of the public calls. There is no code here: the contracts and the theorems speak of these types
 // through the definitions of specs/Answers.antt, which give each case the number and the values of paper 01.
 
-// Why a call is turned down, in the order of the numbered list (1 to 17).
+// Why a call is turned down, in the order of the numbered list (1 to 18).
 pub enum Refusal {
     // 1: the file has more than 16,384 bytes
     FileTooLong,
@@ -38,6 +38,8 @@ pub enum Refusal {
     LentTooShort,
     // 17: nothing allowed annihilates the terms
     NotAnnihilated,
+    // 18: the meter already holds 4,096 terms
+    MeterFull,
 }
 
 // Whether a polynomial is irreducible.
@@ -71,6 +73,31 @@ pub enum FreeRating {
     Unique { degree: u64 },
     Several { degree: u64 },
     Refused(Refusal),
+}
+
+// A meter that shows the rating of a portion alone after each term: the prime that it was started for, how
+// many terms it holds, the least degree for these, and what the next step needs beside the polynomials in the
+// lent work bytes: how many coefficients the earlier one has, its discrepancy, and the half in which the
+// present one stands.
+pub struct Meter {
+    pub prime: u64,
+    pub held: usize,
+    pub degree: usize,
+    pub earlier: usize,
+    pub value: u8,
+    pub half: usize,
+}
+
+// Whether a meter was started.
+pub enum MeterStart {
+    Started(Meter),
+    Refused(Refusal),
+}
+
+// A meter after one term more, or as it was where the term is refused, and the reading or the refusal.
+pub struct MeterStep {
+    pub reading: FreeRating,
+    pub meter: Meter,
 }
 
 // Whether a buffer was filled with a continued sequence.

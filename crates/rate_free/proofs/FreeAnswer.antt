@@ -43,13 +43,6 @@ module _ (p : ℕ) (ts : List ℕ) (answer work : ℕ) {v : Verdict}
   pub free-allowed : FreeAccepted p ts answer work
   free-allowed = free-accepted p ts answer work free-open
 
--- the degree is at most the number of terms
-pub degree-bounded : {F : Field} {ts answer work : List ℕ} {L : ℕ} {answer′ work′ : List ℕ}
-    → ShortestRecurrence F ts answer work L answer′ work′
-    → L ≤ length ts
-degree-bounded {F} {ts} s =
-    subst (λ n. n ≤ length ts) (sym (s .degree)) (massey-sizes F (inverse F) ts (length ts) .short)
-
 module _ (p : ℕ) (ts answer work : List ℕ) {v : Verdict}
     (e : numberIn v ≡ firstOf (freeTable p ts (length answer) (length work))) where
   pub free-refused : {x : Refusal}

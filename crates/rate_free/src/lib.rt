@@ -1,5 +1,6 @@
 // The rating of known terms with no factor named.
 use arith::GaloisField;
+use massey::figures;
 use massey::shortest_recurrence;
 use meaning::FreeRating;
 use refusals::Verdict;
@@ -19,11 +20,7 @@ pub fn rate_free(p: u64, terms: &[u8], answer: &mut [u8], work: &mut [u8]) -> Fr
         Verdict::Accepted => {
             let field = GaloisField::of_prime(p);
             let l = shortest_recurrence(field, terms, answer, work);
-            if 2 * l <= terms.len() {
-                FreeRating::Unique { degree: l as u64 }
-            } else {
-                FreeRating::Several { degree: l as u64 }
-            }
+            figures(l, terms.len())
         }
     }
 }

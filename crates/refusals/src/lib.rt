@@ -1,5 +1,5 @@
 // The conditions of the numbered list of refusals in their order, one function for each call: the first that
-// holds, up to 16. Each answers for any numbers and slices of any length, and changes no lent byte.
+// holds, but for 17. Each answers for any numbers and slices of any length, and changes no lent byte.
 mod factors;
 pub mod numbering;
 pub mod ratings;
@@ -11,12 +11,14 @@ use conditions::lists::start_unlike_degree;
 use conditions::lists::term_out_of_field;
 use conditions::numbers::count_out_of_range;
 use conditions::numbers::lent_too_short;
+use conditions::numbers::meter_full;
 use conditions::numbers::not_prime;
 use conditions::numbers::place_out_of_range;
 use meaning::Refusal;
 ghost use mathlib.Core.Path.{_≡_};
 ghost use Rattle.meaning.specs.Result.{firstOf};
 ghost use Rattle.meaning.specs.Free.{freeTable};
+ghost use Rattle.meaning.specs.Meter.{termTable};
 ghost use Rattle.meaning.specs.Continuation.{continueTable};
 ghost use Rattle.meaning.specs.Irreducibility.{irreducibleTable};
 ghost use Rattle.refusals.specs.Verdicts.{numberIn, termsTable, lentTable};
@@ -61,6 +63,20 @@ pub fn free_verdict(p: u64, terms: &[u8], answer: usize, work: usize) -> Verdict
         Verdict::Refused(r) => Verdict::Refused(r),
         Verdict::Accepted => lent_verdict(answer, work),
     }
+}
+
+// A term for a meter that holds so many: 8, 18.
+pub fn term_verdict(p: u64, held: usize, term: u8) -> Verdict
+    ensures { λ r. ⌜ numberIn r ≡ firstOf (termTable p held term) ⌝ }
+{
+    let terms = [term];
+    if term_out_of_field(p, &terms) {
+        return Verdict::Refused(Refusal::TermOutOfField);
+    }
+    if meter_full(held) {
+        return Verdict::Refused(Refusal::MeterFull);
+    }
+    Verdict::Accepted
 }
 
 // The question whether a polynomial is irreducible: 6, 10, 11.

@@ -25,5 +25,6 @@ pub fn refusal_number(r: Refusal) -> u64
         Refusal::TooFewTerms => 15,
         Refusal::LentTooShort => 16,
         Refusal::NotAnnihilated => 17,
+        Refusal::MeterFull => 18,
     }
 }

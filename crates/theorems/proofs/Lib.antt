@@ -7,6 +7,7 @@ pub mod Files
 pub mod FileAnswers
 pub mod Program
 pub mod OtherLanguages
+pub mod Meters
 pub mod Promises
 pub mod Instance
 pub mod Examples

@@ -27,7 +27,7 @@ use Rattle.theorems.proofs.Ways.{period-promise, portion-promise, set-p
 use Rattle.theorems.proofs.Words.{continue-promise, irreducible-promise}
 
 -- THE STATUS
-status-told :
+pub status-told :
     {A : Type 0} (numbers : List ℕ) (told : Result A) (status : ℕ)
     → ¬ OneOf 0 numbers
     → Tells numbers told

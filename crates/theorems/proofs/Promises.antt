@@ -29,6 +29,7 @@ use Rattle.theorems.proofs.Files.{file-promise}
 use Rattle.theorems.proofs.Program.{record-promise, program-as-call, program-promise}
 use Rattle.theorems.proofs.OtherLanguages.{period-export, portion-export, set-export, free-export}
 use Rattle.theorems.proofs.OtherLanguages.{continue-export, irreducible-export}
+use Rattle.theorems.proofs.Meters.{start-answers, meter-promise, profile-export}
 
 repeat-bounded : RepeatPromise
 repeat-bounded p f r h m l i =
@@ -97,6 +98,7 @@ promises =
       file-answers = file-answers;
       record-answers = record-answers;
       program-answers = program-answers;
+      start-answers = start-answers;
       choice-exists = choice-exists;
       never-zero = never-zero;
       period = period-promise;
@@ -111,6 +113,7 @@ promises =
       multiples = multiples-promise;
       prime-words = prime-words;
       irreducible-words = irreducible-words;
+      meter = meter-promise;
       cut-anywhere = cut-anywhere;
       files = file-promise;
       records = record-promise;
@@ -122,4 +125,5 @@ promises =
       free-export = free-export;
       continue-export = continue-export;
       irreducible-export = irreducible-export;
+      profile-export = profile-export;
     }

@@ -90,7 +90,7 @@ no-zero numbers h = T-not (holdsForSome (eqb 0) numbers) h
 
 -- SOME ANSWER TELLS IT
 
--- the numbers are numbers of refusals, from 1 to 17
+-- the numbers are numbers of refusals
 unfoldable pub Listed : List ℕ → Type 0
 Listed numbers = T (holdsForAll (λ n. elim (isNone (refusalOf n)) [ true ↦ false | false ↦ true ]) numbers)
 

@@ -199,7 +199,7 @@ pub record AskingPrime (n : ℕ) : Type 0 where
 abbrev pub PrimeAnswers : Type 0
 PrimeAnswers = (n : ℕ) → AskingPrime n
 
-pub record Reading (file : List ℕ) (n : ℕ) : Type 0 where
+pub record ReadingFile (file : List ℕ) (n : ℕ) : Type 0 where
   pub tells : (r : RecordOutcome) (body : List ℕ)
       → RecordCall file n r body
       → Tells readerNumbers (toldRecord r)
@@ -210,7 +210,7 @@ pub record Reading (file : List ℕ) (n : ℕ) : Type 0 where
       → (r ≡ s) × (body ≡ body′)
 
 abbrev pub RecordAnswers : Type 0
-RecordAnswers = (file : List ℕ) (n : ℕ) → Reading file n
+RecordAnswers = (file : List ℕ) (n : ℕ) → ReadingFile file n
 
 pub record Printing (pick : Choice) (input : List ℕ) : Type 0 where
   pub some : (output : List ℕ) × ProgramCall pick input output

@@ -3,4 +3,5 @@ pub mod CutAnywhere
 pub mod Answering
 pub mod Files
 pub mod OtherLanguages
+pub mod Meters
 pub mod Promises

@@ -7,6 +7,7 @@
 --   CutAnywhere      == demand 3: the same polynomial wherever the stretch is cut
 --   Files            == route files, the reader, the program
 --   OtherLanguages   == the exported calls
+--   Meters           == the meter: demand 1 of its calls, what it shows, the exported profile
 --
 -- How to read the signs in these files:
 --   (a : A) → B      == for every a of A, B holds; A → B: where A holds, B does
@@ -33,6 +34,7 @@ use Rattle.theorems.specs.CutAnywhere.{CutAnywherePromise}
 use Rattle.theorems.specs.Files.{FilePromise, RecordPromise, ProgramAsCall, ProgramPromise}
 use Rattle.theorems.specs.OtherLanguages.{PeriodExport, PortionExport, SetExport, FreeExport}
 use Rattle.theorems.specs.OtherLanguages.{ContinueExport, IrreducibleExport}
+use Rattle.theorems.specs.Meters.{StartAnswers, MeterPromise, ProfileExport}
 
 pub record Promises : Type 0 where
   -- demand 1
@@ -46,6 +48,7 @@ pub record Promises : Type 0 where
   pub file-answers : FileAnswers
   pub record-answers : RecordAnswers
   pub program-answers : ProgramAnswers
+  pub start-answers : StartAnswers
   pub choice-exists : ChoiceExists
   pub never-zero : NeverZero
   -- demand 2
@@ -61,6 +64,8 @@ pub record Promises : Type 0 where
   pub multiples : MultiplesPromise
   pub prime-words : PrimeWords
   pub irreducible-words : IrreducibleWords
+  -- the meter, with demand 1 of a term
+  pub meter : MeterPromise
   -- demand 3
   pub cut-anywhere : CutAnywherePromise
   -- route files, the reader, the program
@@ -75,3 +80,4 @@ pub record Promises : Type 0 where
   pub free-export : FreeExport
   pub continue-export : ContinueExport
   pub irreducible-export : IrreducibleExport
+  pub profile-export : ProfileExport

@@ -3,7 +3,7 @@
 --   Trimming f n      == the coefficients of f from n on are 0: what the loop keeps
 --   trimming-start, trimming-next, trimming-found, trimming-end == at the start, one coefficient less, at the
 --                       last one that is not 0, where there is none
---   trimmed-…         == what is left of a part ys from the front of lent bytes, without the zeros at its end:
+--   trimmed-…         == what is left of a part ys from the front of lent bytes without the zeros at its end:
 --                       how long it is, that it can be lent, its coefficients and the last of them
 --
 -- Assumes nothing.

@@ -2,8 +2,8 @@
 -- Assumes nothing.
 use native.Mathlib.Omega.{arith}
 use borrow.Author.Needs.{needs}
-use Rattle.massey.proofs.FreeWay.{free-unique, free-several}
-use Rattle.rate_free.proofs.FreeAnswer.{free-open, free-allowed, degree-bounded, free-refused}
+use Rattle.massey.proofs.FreeWay.{free-told}
+use Rattle.rate_free.proofs.FreeAnswer.{free-open, free-allowed, free-refused}
 use Rattle.rate_free.proofs.rate_free.Statement.{statement}
 use Rattle.rate_free.proofs.rate_free.Tie as tie
 
@@ -27,12 +27,8 @@ shortest-recurrence-requires c κs =
     let h = free-allowed _ _ _ _ (a .before .before .free-verdict .ensures) (a .enum-told .given .1) in
     (f .of-prime .ensures .wellFormed, (record { terms = h .count; bytes = h .workRoom }, h .answerRoom))
 
-mul-if1 : tie.Need-mul-if1
-mul-if1 c =
-    let s = c .before .before .before .before in
-    let a = s .before .before .before .before in
-    let h = free-allowed _ _ _ _ (a .before .before .free-verdict .ensures) (a .enum-told .given .1) in
-    omega (arith, h .count, degree-bounded (s .shortest-recurrence .ensures))
+figures-requires : tie.Need-figures-requires
+figures-requires c κs = search needs
 
 returns : tie.Need-returns
 returns c =
@@ -49,26 +45,9 @@ returns-2 c =
     let s = c .before .before .before .before .before in
     let f = s .before .before .before in
     let a = f .before in
-    free-unique (f .of-prime .ensures)
+    free-told (f .of-prime .ensures)
     (free-open _ _ _ _ (a .before .before .free-verdict .ensures) (a .enum-told .given .1))
-    (s .shortest-recurrence .ensures)
-    (omega arith)
-
-same-length-3 : tie.Need-same-length-3
-same-length-3 c = search needs
-
-same-length-4 : tie.Need-same-length-4
-same-length-4 c = search needs
-
-returns-3 : tie.Need-returns-3
-returns-3 c =
-    let s = c .before .before .before .before .before in
-    let f = s .before .before .before in
-    let a = f .before in
-    free-several (f .of-prime .ensures)
-    (free-open _ _ _ _ (a .before .before .free-verdict .ensures) (a .enum-told .given .1))
-    (s .shortest-recurrence .ensures)
-    (omega arith)
+    (s .shortest-recurrence .ensures) (c .figures .ensures)
 
 pub rate-free-spec : {M : Type 1} → statement M
 rate-free-spec =
@@ -79,11 +58,8 @@ rate-free-spec =
     enum-told
     of-prime-requires
     shortest-recurrence-requires
-    mul-if1
+    figures-requires
     returns
     same-length
     same-length-2
-    returns-2
-    same-length-3
-    same-length-4
-    returns-3)
+    returns-2)

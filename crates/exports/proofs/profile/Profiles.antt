@@ -1,0 +1,197 @@
+-- A whole profile, by one entry after another.
+--
+--   profile-more     == the profile of one term more has one entry more
+--   held-more        == one term more is handed in
+--   Entered …        == the invariant: the first i terms were handed to the meter, their entries stand at the
+--                       front of the profile, and the rest of it is as it was
+--   entered-none, entered-more, entered-all == before the first term, after one more, after all
+--   profile-refused, profile-told == the exported call
+-- Assumes nothing.
+use Prim.Native.Nat.{ℕ, suc, _+_, _*_, _-_, _/_, _<_, _≤_, min}
+use mathlib.Core.Path.{_≡_, refl, sym, ap, ap₂, subst, _∙_}
+use mathlib.Core.List.{List, [], _∷_, _++_, append-assoc, append-nil}
+use native.Mathlib.Numerals.{add-one}
+use native.Mathlib.Decide.{decLt}
+use native.Mathlib.Omega.{arith}
+use lib.ListN.{length, getD, take, drop, length-append, length-take, length-drop, take-append-drop}
+use lib.Seq.{take-suc, take-all, take-at, drop-at, drop-drop}
+use Rattle.meaning.specs.declared.Refusal.{Refusal}
+use Rattle.meaning.specs.declared.Meter.{Meter}
+use Rattle.meaning.specs.declared.MeterStart.{MeterStart}
+use Rattle.meaning.specs.Result.{Result, refused, answered, mapResult, written}
+use Rattle.meaning.specs.Free.{FreeFigures}
+use Rattle.meaning.specs.Meter.{startMeter, termTable, takeTerm, meterReading, unlessRefused}
+use Rattle.meaning.specs.Meter.{profileEntry, readingEntry, profileOf}
+use Rattle.meaning.specs.Answers.{numberOf, toldStart}
+use Rattle.meaning.specs.Calls.{StartCall}
+use Rattle.meaning.specs.Exports.{statusOf, ProfileExported}
+use Rattle.bridge.proofs.Searches.{settle-answered, answered-same, map-answered, map-refused}
+use Rattle.bridge.proofs.Meters.{holding-none, reading-taken}
+use Rattle.meter.specs.Model.{meterModel}
+use Rattle.exports.specs.profile.Entries.{heldWith, heldAfter, entryOf, Ready, TermEntered}
+use Rattle.exports.specs.profile.Entries.{ProfileWritten}
+use Rattle.exports.proofs.profile.Entries.{ready-same}
+
+-- One term, and then the others
+module _ (p : ℕ) (held : List ℕ) (t : ℕ) where
+  shows-told : (a : FreeFigures) → takeTerm p held t ≡ answered a
+      → meterReading p (held ++ (t ∷ [])) ≡ answered a
+  unfolding takeTerm
+  shows-told a e =
+      sym (reading-taken meterModel p held t (settle-answered _ (termTable p (length held) t) e .0)) ∙ e
+
+  first-entry : (ts : List ℕ) (r : Result FreeFigures)
+      → ((a : FreeFigures) → r ≡ answered a → meterReading p (held ++ (t ∷ [])) ≡ answered a)
+      → elim r [
+        | refused n ↦ readingEntry n (meterReading p held) ++ profileOf p held ts
+        | answered a ↦ profileEntry 0 a ++ profileOf p (held ++ (t ∷ [])) ts
+      ]
+      ≡ readingEntry (statusOf r) (meterReading p (unlessRefused r held (held ++ (t ∷ []))))
+      ++ profileOf p (unlessRefused r held (held ++ (t ∷ []))) ts
+  unfolding readingEntry statusOf unlessRefused
+  first-entry ts (refused n) h = refl
+  first-entry ts (answered a) h =
+      ap (λ x. readingEntry 0 x ++ profileOf p (held ++ (t ∷ [])) ts) (sym (h a refl))
+
+  profile-cons : (ts : List ℕ)
+      → profileOf p held (t ∷ ts) ≡ entryOf p held t ++ profileOf p (heldWith p held t) ts
+  unfolding profileOf entryOf heldWith
+  profile-cons ts = first-entry ts (takeTerm p held t) shows-told
+
+module _ (p : ℕ) (t : ℕ) where
+  pub profile-more : (held ts : List ℕ)
+      → profileOf p held (ts ++ (t ∷ [])) ≡ profileOf p held ts ++ entryOf p (heldAfter p held ts) t
+  unfolding profileOf heldAfter
+  profile-more held [] = profile-cons p held t [] ∙ append-nil (entryOf p held t)
+  profile-more held (u ∷ ts) =
+      profile-cons p held u (ts ++ (t ∷ []))
+      ∙ ap (λ l. entryOf p held u ++ l) (profile-more (heldWith p held u) ts)
+      ∙ sym (append-assoc (entryOf p held u) _ _)
+      ∙ ap (λ l. l ++ entryOf p (heldAfter p held (u ∷ ts)) t) (sym (profile-cons p held u ts))
+
+  pub held-more : (held ts : List ℕ)
+      → heldAfter p held (ts ++ (t ∷ [])) ≡ heldWith p (heldAfter p held ts) t
+  unfolding heldAfter
+  held-more held [] = refl
+  held-more held (u ∷ ts) = held-more (heldWith p held u) ts
+
+-- All terms, one after another
+pub record Entered (m : Meter) (ts terms₀ work₀ profile₀ : List ℕ) (i : ℕ) (known : Meter)
+    (terms work profile : List ℕ) : Type 0 where
+  pub size : length profile ≡ length profile₀
+  pub ready : (p : ℕ) → Ready p [] m terms₀ work₀ → Ready p (heldAfter p [] (take i ts)) known terms work
+  pub front : (p : ℕ) → Ready p [] m terms₀ work₀
+      → take (4 * i) profile ≡ profileOf p [] (take i ts)
+  pub rest : drop (4 * i) profile ≡ drop (4 * i) profile₀
+
+module _ {m : Meter} (ts : List ℕ) {terms₀ work₀ profile₀ : List ℕ} where
+  pub entered-none : Entered m ts terms₀ work₀ profile₀ 0 m terms₀ work₀ profile₀
+  unfolding heldAfter profileOf
+  entered-none = record { size = refl; ready = λ p h. h; front = λ p h. refl; rest = refl }
+
+  module _ {i : ℕ} {known : Meter} {terms work profile : List ℕ}
+      (x : Entered m ts terms₀ work₀ profile₀ i known terms work profile) where
+    -- the entry of term i is written at its place
+    module _ {known′ : Meter} {terms′ work′ ys : List ℕ} (l : i < length ts) (k : 4 * i + 4 ≤ length profile)
+        (n : length ys ≡ 4) (e : TermEntered known (getD ts i 0) terms work known′ terms′ work′ ys) where
+      abbrev r : List ℕ
+      r = drop (4 * i + 4 - 4 * i) (drop (4 * i) profile)
+
+      abbrev profile′ : List ℕ
+      profile′ = take (4 * i) profile ++ (ys ++ r)
+
+      upto : take (i + 1) ts ≡ take i ts ++ (getD ts i 0 ∷ [])
+      upto = ap (λ j. take j ts) (add-one i) ∙ take-suc ts i 0 l
+
+      place : length (take (4 * i) profile ++ ys) ≡ 4 * (i + 1)
+      place = omega (arith, length-append (take (4 * i) profile) ys, length-take (4 * i) profile)
+
+      regrouped : profile′ ≡ (take (4 * i) profile ++ ys) ++ r
+      regrouped = sym (append-assoc (take (4 * i) profile) ys r)
+
+      pub entered-more : Entered m ts terms₀ work₀ profile₀ (i + 1) known′ terms′ work′ profile′
+      entered-more =
+          record {
+            size =
+                omega (
+                  arith,
+                  ap length regrouped,
+                  length-append (take (4 * i) profile ++ ys) r,
+                  place,
+                  length-drop (4 * i + 4 - 4 * i) (drop (4 * i) profile),
+                  length-drop (4 * i) profile,
+                  x .size,
+                );
+            ready = λ p h.
+                subst (λ held. Ready p held known′ terms′ work′)
+                (sym (ap (heldAfter p []) upto ∙ held-more p (getD ts i 0) [] (take i ts)))
+                (e .ready p _ (x .ready p h));
+            front = λ p h.
+                ap (take (4 * (i + 1))) regrouped
+                ∙ take-at (take (4 * i) profile ++ ys) r (4 * (i + 1)) place
+                ∙ ap₂ _++_ (x .front p h) (e .entry p _ (x .ready p h))
+                ∙ sym (ap (profileOf p []) upto ∙ profile-more p (getD ts i 0) [] (take i ts));
+            rest =
+                let j : 4 * i + 4 - 4 * i ≡ 4 = omega arith in
+                let k : 4 * i + 4 ≡ 4 * (i + 1) = omega arith in
+                ap (drop (4 * (i + 1))) regrouped
+                ∙ drop-at (take (4 * i) profile ++ ys) r (4 * (i + 1)) place
+                ∙ ap₂ drop j (x .rest)
+                ∙ drop-drop 4 (4 * i) profile₀
+                ∙ ap (λ n. drop n profile₀) k;
+          }
+
+    -- all terms for which there is room
+    module _ (e : i ≡ min (length ts) (length profile₀ / 4)) where
+      all-terms : take i ts ≡ take (length profile₀ / 4) ts
+      all-terms = elim (decLt (length ts) (length profile₀ / 4)) [
+        | yes l ↦ take-all i ts (omega arith) ∙ sym (take-all (length profile₀ / 4) ts (omega arith))
+        | no l ↦ let j : i ≡ length profile₀ / 4 = omega arith in ap (λ n. take n ts) j
+      ]
+
+      pub entered-all : ProfileWritten m ts terms₀ work₀ profile₀ profile
+      unfolding written
+      entered-all =
+          record {
+            entries = λ p h.
+                let n : 4 * i ≡ length (profileOf p [] (take i ts))
+                = omega (arith, length-take (4 * i) profile, ap length (x .front p h), x .size) in
+                sym (take-append-drop (4 * i) profile)
+                ∙ ap₂ _++_ (x .front p h) (x .rest ∙ ap (λ k. drop k profile₀) n)
+                ∙ ap (λ l. written (profileOf p [] l) profile₀) all-terms;
+          }
+
+-- The exported call
+abbrev profiled : ℕ → List ℕ → List ℕ → List ℕ
+profiled p ts profile = written (profileOf p [] (take (length profile / 4) ts)) profile
+
+module _ {p : ℕ} {ts profile work work′ : List ℕ} {a : MeterStart}
+    (c : StartCall meterModel p work a work′) where
+  pub profile-refused : {x : Refusal} {k : ℕ}
+      → a ≡ MeterStart.Refused x
+      → k ≡ numberOf x
+      → ProfileExported p ts profile k profile
+  unfolding toldStart statusOf unlessRefused
+  profile-refused q i =
+      let e = map-refused _ (startMeter p) (sym (c .starting) ∙ ap toldStart q) in
+      record {
+        told = i ∙ sym (ap statusOf e);
+        lent = sym (ap (λ r. unlessRefused r profile (profiled p ts profile)) e);
+      }
+
+  pub profile-told : {m : Meter} (terms : List ℕ) {profile′ : List ℕ}
+      → length terms ≡ 4096
+      → a ≡ MeterStart.Started m
+      → ProfileWritten m ts terms work′ profile profile′
+      → ProfileExported p ts profile 0 profile′
+  unfolding toldStart statusOf unlessRefused
+  profile-told terms n q w =
+      let (_, e, f) = map-answered _ (startMeter p) (sym (c .starting) ∙ ap toldStart q) in
+      let h = ready-same (record { holding = holding-none meterModel p terms e; size = n }) (sym f) refl
+      (c .workBytes ∙ ap (λ r. unlessRefused r work ((meterModel .work) p [])) e) in
+      record {
+        told = sym (ap statusOf e);
+        lent =
+            w .entries p h
+            ∙ sym (ap (λ r. unlessRefused r profile (profiled p ts profile)) e);
+      }

@@ -1,0 +1,413 @@
+-- The meter shows what the free way gives, from the contracts alone.
+--
+--   free-gives       == the figures of accepted terms are those of the free way
+--   run-holds        == a meter after a run holds the terms taken
+--   start-answers, meter-promise, profile-export == the promises
+-- Assumes nothing.
+use Prim.Native.Nat.{ℕ, zero, suc, _+_, _*_, _/_, _≤_, _<_}
+use mathlib.Core.Path.{_≡_, refl, sym, ap, subst, subst₃, _∙_}
+use mathlib.Core.Logic.{inl, inr}
+use mathlib.Core.Bool.{true, false}
+use mathlib.Core.List.{List, [], _∷_, _++_, append-assoc}
+use mathlib.Core.Option.{Option, none, some, Option·some-injective}
+use native.Mathlib.Omega.{arith}
+use lib.ListN.{length, take, drop, set, length-set, length-append, length-take, length-drop}
+use lib.Seq.{drop-drop, take-take, drop-append-le, take-append-le}
+use lib.Dec.{T, leb→le}
+use Rattle.meaning.specs.declared.FreeRating.{FreeRating}
+use Rattle.meaning.specs.declared.Meter.{Meter}
+use Rattle.meaning.specs.declared.MeterStart.{MeterStart}
+use Rattle.meaning.specs.declared.MeterStep.{MeterStep}
+use Rattle.meaning.specs.Search.{holdsForAll, holdsForSome, isNone}
+use Rattle.meaning.specs.Conditions.{notPrime, termOutOfField}
+use Rattle.meaning.specs.Route.{lookUp}
+use Rattle.meaning.specs.Result.{Check, Result, refused, answered, figuresOf, mapResult, settle, firstOf}
+use Rattle.meaning.specs.Result.{valueOf, written}
+use Rattle.meaning.specs.Free.{Choice, FreeFigures, leastDegree, isUnique, freeTable, rateFree}
+use Rattle.meaning.specs.Meter.{MeterModel, Holding, freeFigures, startMeter, termTable, takeTerm}
+use Rattle.meaning.specs.Meter.{meterReading}
+use Rattle.meaning.specs.Meter.{unlessRefused, meterFull, profileEntry, profileOf}
+use Rattle.meaning.specs.Answers.{toldFree, toldStart}
+use Rattle.meaning.specs.Calls.{FreeCall, StartCall, TermCall, TermTaken, ReadingCall}
+use Rattle.meaning.proofs.Determined.{refusals, refusalOf, start-call-determined, term-call-determined}
+use Rattle.meaning.proofs.Determined.{reading-call-determined}
+use Rattle.meaning.proofs.Tables.{settle-none}
+use Rattle.meaning.proofs.Passes.{Passes, _&_, nothing}
+use Rattle.meaning.proofs.MeterRows.{reading-first}
+use Rattle.bridge.proofs.Searches.{settle-answered, never-answered, answered-same, refused-same}
+use Rattle.bridge.proofs.Searches.{some-mapOption, mapOption-some, map-refused, answered-settle}
+use Rattle.bridge.proofs.Searches.{T-not-false, T-false}
+use Rattle.bridge.proofs.Polynomials.{elements-nil, elements-cons, elements-uncons}
+use Rattle.bridge.proofs.Continuations.{take-elements}
+use Rattle.bridge.proofs.Interpretation.{inRange-isField}
+use Rattle.bridge.proofs.Accepted.{AcceptedTerms, accepts-free, prime-accepted, terms-accepted}
+use Rattle.bridge.proofs.Fitting.{free-rated, leastDegree-some}
+use Rattle.bridge.proofs.Meters.{holding-none, holding-more, reading-taken}
+use Rattle.meaning.specs.Field.{primeInRange, areElements}
+use Rattle.theorems.specs.Answering.{freeNumbers, OneOf, Tells}
+use Rattle.theorems.specs.Ratings.{GF}
+use Rattle.theorems.specs.Meters.{startNumbers, termNumbers, StartAnswers, Run, begun, taken, passed}
+use Rattle.theorems.specs.Meters.{FreeGives, MeterRight, MeterPromise, ProfileExport}
+use Rattle.theorems.proofs.Telling.{settle-tells, map-tells, no-zero, Listed, meets}
+use Rattle.theorems.proofs.Answering.{free-tells}
+use Rattle.theorems.proofs.OtherLanguages.{status-told}
+
+-- THE FREE WAY ON ACCEPTED TERMS
+passing-refused : {A : Type 0} (v : Unit {0} → Option A) (table : List Check) {n : ℕ}
+    → Passes table
+    → settle table v ≡ refused n
+    → n ≡ 0
+unfolding valueOf
+passing-refused {A} v table {n} h e = value (v tt) (sym (settle-none table v (h .noneHolds)) ∙ e)
+  where
+    value : (o : Option A) → valueOf o ≡ refused n → n ≡ 0
+    value none f = sym (refused-same f)
+    value (some b) f = never-answered (sym f)
+
+-- the figures that the definition gives
+figures-least : (p : ℕ) (ts : List ℕ) (a : FreeFigures) → freeFigures (GF p) ts ≡ some a
+    → (leastDegree (GF p) ts ≡ some (a .degree)) × (a .unique ≡ isUnique ts (a .degree))
+unfolding freeFigures
+figures-least p ts a e =
+    let (L, l, q) = some-mapOption _ (leastDegree (GF p) ts) e in (
+      subst (λ b. leastDegree (GF p) ts ≡ some (b .degree)) q l,
+      subst (λ b. b .unique ≡ isUnique ts (b .degree)) q refl,
+    )
+
+module _ (p : ℕ) (ts : List ℕ) (a : FreeFigures) (q : T (primeInRange p)) (t : AcceptedTerms p ts)
+    (e : freeFigures (GF p) ts ≡ some a) where
+  free-gives : FreeGives p ts a
+  unfolding figuresOf mapResult rateFree holdsForSome
+  free-gives pick answer work r answer′ work′ l c =
+      c .rating ∙ go (free-tells pick p ts (length answer) (length work))
+    where
+      go : Tells freeNumbers (rateFree pick p ts (length answer) (length work))
+          → figuresOf (rateFree pick p ts (length answer) (length work)) ≡ answered a
+      go (inl (b, f)) =
+          let (_, d, u) = free-rated p ts (length answer) (length work) pick f in
+          let (d′, u′) = figures-least p ts a e in
+          let same = Option·some-injective _ _ (sym d ∙ d′) in
+          let words = u ∙ ap (isUnique ts) same ∙ sym u′ in
+          ap figuresOf f ∙ (λ i. answered (record { degree = same i; unique = words i }))
+      go (inr (n, f, m)) =
+          absurd
+          (no-zero freeNumbers tt
+          (subst (λ k. OneOf k freeNumbers)
+          (passing-refused _ (freeTable p ts (length answer) (length work))
+          (accepts-free p ts (length answer) (length work) q t l) f)
+          m))
+
+-- A RUN
+module _ (model : MeterModel) (p : ℕ) where
+  pub record Held (ts : List ℕ) (m : Meter) (terms work : List ℕ) : Type 0 where
+    pub size : length terms ≡ 4096
+    pub holding : Holding model p ts m terms work
+
+  -- the table of a term passes where it is answered
+  term-passes : (ts : List ℕ) (t : ℕ) {a : FreeFigures} → takeTerm p ts t ≡ answered a
+      → Passes (termTable p (length ts) t) × (freeFigures (GF p) (ts ++ (t ∷ [])) ≡ some a)
+  unfolding takeTerm
+  term-passes ts t e = settle-answered _ (termTable p (length ts) t) e
+
+  -- what was lent, after an answer and after a refusal
+  answered-new : {A B : Type 0} {r : Result A} {a : A} (old new : B) → r ≡ answered a
+      → unlessRefused r old new ≡ new
+  unfolding unlessRefused
+  answered-new old new e = ap (λ r. unlessRefused r old new) e
+
+  refused-old : {A B : Type 0} {r : Result A} {n : ℕ} (old new : B) → r ≡ refused n
+      → unlessRefused r old new ≡ old
+  unfolding unlessRefused
+  refused-old old new e = ap (λ r. unlessRefused r old new) e
+
+  started : {m : Meter} → answered m ≡ mapResult (λ _. (model .meter) p []) (startMeter p)
+      → (startMeter p ≡ answered tt) × (m ≡ (model .meter) p [])
+  unfolding mapResult
+  started {m} e = go (startMeter p) refl e
+    where
+      go : (r : Result (Unit {0})) → startMeter p ≡ r → answered m ≡ mapResult (λ _. (model .meter) p []) r
+          → (startMeter p ≡ answered tt) × (m ≡ (model .meter) p [])
+      go (refused n) f e = never-answered (sym e)
+      go (answered u) f e = (f, answered-same e)
+
+  same-holding : {ts : List ℕ} {m m′ : Meter} {terms terms′ work work′ : List ℕ}
+      → Held ts m terms work
+      → m′ ≡ m
+      → terms′ ≡ terms
+      → work′ ≡ work
+      → Held ts m′ terms′ work′
+  same-holding {ts} x e f g =
+      subst₃ (Held ts) (sym e) (sym f) (sym g) x
+
+  pub run-holds : {ts : List ℕ} {m : Meter} {terms work : List ℕ} → Run model p ts m terms work
+      → Held ts m terms work
+  unfolding toldStart
+  run-holds (begun {m} {terms} {work} {work′} size c) =
+      let (e, f) = started (c .starting) in
+      same-holding (record { size = size; holding = holding-none model p terms e }) f refl
+      (c .workBytes ∙ answered-new work ((model .work) p []) e)
+  run-holds (taken {ts} {m} {t} {terms} {work} x c a e) =
+      let h = run-holds x in
+      let y = c .taken p ts (h .holding) in
+      let f = sym (y .reading) ∙ e in
+      let (q, _) = term-passes ts t f in
+      same-holding
+      (record {
+        size = length-set terms (length ts) t ∙ h .size;
+        holding = holding-more model p (h .holding) t (h .size) q;
+      })
+      (y .meter ∙ answered-new m _ f)
+      (y .termBytes ∙ answered-new terms _ f)
+      (y .workBytes ∙ answered-new work _ f)
+  run-holds (passed {ts} {m} {t} {terms} {work} x c n e) =
+      let h = run-holds x in
+      let y = c .taken p ts (h .holding) in
+      let f = sym (y .reading) ∙ e in
+      same-holding h (y .meter ∙ refused-old m _ f) (y .termBytes ∙ refused-old terms _ f)
+      (y .workBytes ∙ refused-old work _ f)
+
+  -- WHAT A METER SHOWS AFTER A RUN
+  module _ {ts : List ℕ} {m : Meter} {terms work : List ℕ} (h : Holding model p ts m terms work) where
+    isPrime : T (primeInRange p)
+    isPrime = prime-accepted p (h .fieldExists)
+
+    figures-exist : (us : List ℕ) → (a : FreeFigures) × (freeFigures (GF p) us ≡ some a)
+    unfolding freeFigures
+    figures-exist us =
+        let (L, e) = leastDegree-some (inRange-isField p isPrime) us in (_, mapOption-some _ e)
+
+    reading-figures : (r : FreeRating) → ReadingCall model m r → toldFree r ≡ valueOf (freeFigures (GF p) ts)
+    unfolding meterReading firstOf
+    reading-figures r c = c .reading p ts terms work h ∙ settle-none [] _ refl
+
+    accepted : 1 ≤ length ts → AcceptedTerms p ts
+    accepted l =
+        record { atLeastOne = l; notMany = h .count; inField = terms-accepted p ts (h .termsInField) }
+
+    pub holding-shows : (r : FreeRating) → ReadingCall model m r → (a : FreeFigures)
+        × (toldFree r ≡ answered a)
+    unfolding valueOf
+    holding-shows r c =
+        let (a, e) = figures-exist ts in (a, reading-figures r c ∙ ap valueOf e)
+
+    pub holding-free : 1 ≤ length ts → (r : FreeRating) (a : FreeFigures) → ReadingCall model m r
+        → toldFree r ≡ answered a
+        → FreeGives p ts a
+    unfolding valueOf
+    holding-free l r a c e =
+        let (b, f) = figures-exist ts in
+        let same = answered-same (sym (reading-figures r c ∙ ap valueOf f) ∙ e) in
+        free-gives p ts a isPrime (accepted l) (f ∙ ap {B = Option FreeFigures} some same)
+
+    pub holding-first : ts ≡ [] → (r : FreeRating) → ReadingCall model m r
+        → toldFree r ≡ answered (record { degree = 0; unique = true })
+    holding-first e r c = c .reading p ts terms work h ∙ ap (meterReading p) e ∙ reading-first p
+
+    pub holding-tells : (t : ℕ) → Tells termNumbers (takeTerm p ts t)
+    unfolding takeTerm termTable
+    holding-tells t = settle-tells _ (termTable p (length ts) t) (λ _. figures-exist (ts ++ (t ∷ [])))
+
+pub meter-promise : MeterPromise
+meter-promise model p ts m terms work x =
+    let y = run-holds model p x in
+    let h = y .holding in
+    record {
+      shows = holding-shows model p h;
+      at-first = holding-first model p h;
+      free-way = holding-free model p h;
+      tells =
+          λ t r terms′ work′ c.
+          subst (Tells termNumbers) (sym (c .taken p ts h .reading)) (holding-tells model p h t);
+      term-told =
+          λ t r terms′ work′ c a e.
+          let f = sym (c .taken p ts h .reading) ∙ e in
+          let (q, g) = term-passes model p ts t f in
+          let z = holding-more model p h t (y .size) q in
+          free-gives p (ts ++ (t ∷ [])) a (prime-accepted p (h .fieldExists))
+          (record {
+            atLeastOne = omega (arith, length-append ts (t ∷ []));
+            notMany = z .count;
+            inField = terms-accepted p (ts ++ (t ∷ [])) (z .termsInField);
+          })
+          g;
+      unchanged =
+          λ t r terms′ work′ c n e.
+          let w = c .taken p ts h in
+          let f = sym (w .reading) ∙ e in (
+            w .meter ∙ refused-old model p m _ f,
+            w .termBytes ∙ refused-old model p terms _ f,
+            w .workBytes ∙ refused-old model p work _ f,
+          );
+      one-reading = λ r s c d. reading-call-determined h c d;
+      one = λ t r s _ _ _ _ c d. term-call-determined h c d;
+    }
+
+-- A START
+start-listed : Listed startNumbers
+unfolding Listed refusalOf refusals lookUp holdsForAll isNone
+start-listed = tt
+
+pub start-told : (p : ℕ) → Tells startNumbers (startMeter p)
+unfolding startMeter
+start-told p = settle-tells _ ((6, λ _. notPrime p) ∷ []) (λ _. (tt, refl))
+
+pub start-answers : StartAnswers
+unfolding toldStart mapResult
+start-answers model p work =
+    record {
+      tells = λ r work′ c. map-tells startNumbers _ (startMeter p) (c .starting) (start-told p);
+      work-kept =
+          λ r work′ c n e.
+          c .workBytes
+          ∙ refused-old model p work _ (map-refused _ (startMeter p) (sym (c .starting) ∙ e));
+      some =
+          let (r, e) =
+          meets toldStart MeterStart.Started MeterStart.Refused (λ a. refl) (λ z. refl) startNumbers
+          start-listed
+          (mapResult (λ _. (model .meter) p []) (startMeter p))
+          (map-tells startNumbers (λ _. (model .meter) p []) (startMeter p) refl (start-told p)) in (
+            r,
+            unlessRefused (startMeter p) work ((model .work) p []),
+            record
+                { starting = e; workBytes = refl },
+          );
+      one = λ r s _ _ c d. start-call-determined c d;
+    }
+
+-- THE WHOLE PROFILE of accepted terms
+pub record Profiled (p : ℕ) (held ts : List ℕ) : Type 0 where
+  pub size : length (profileOf p held ts) ≡ 4 * length ts
+  pub entry : (i : ℕ)
+      → i < length ts
+      → (a : FreeFigures)
+      × (freeFigures (GF p) (held ++ take (suc i) ts) ≡ some a)
+      × (take 4 (drop (4 * i) (profileOf p held ts)) ≡ profileEntry 0 a)
+
+profile-answered : (p : ℕ) (held : List ℕ) (t : ℕ) (ts : List ℕ) (a : FreeFigures)
+    → takeTerm p held t ≡ answered a
+    → profileOf p held (t ∷ ts) ≡ profileEntry 0 a ++ profileOf p (held ++ (t ∷ [])) ts
+unfolding profileOf
+profile-answered p held t ts a e = rw (e, profileOf)
+
+-- a term that is taken
+module _ (p : ℕ) (q : T (primeInRange p)) where
+  term-answered : (held : List ℕ) (t : ℕ) → t < GF p .size → length held < 4096
+      → (a : FreeFigures)
+      × (freeFigures (GF p) (held ++ (t ∷ [])) ≡ some a)
+      × (takeTerm p held t ≡ answered a)
+  unfolding freeFigures takeTerm termTable termOutOfField meterFull
+  term-answered held t l room =
+      let (L, e) = leastDegree-some (inRange-isField p q) (held ++ (t ∷ [])) in
+      let f = mapOption-some {B = FreeFigures}
+      (λ e. record { degree = e; unique = isUnique (held ++ (t ∷ [])) e }) e in
+      let passes =
+      T-not-false (areElements (GF p) (t ∷ [])) (elements-cons (GF p) [] l (elements-nil (GF p)))
+      & T-false (λ z. omega (arith, leb→le 4096 (length held) z))
+      & nothing in
+      (_, f, answered-settle _ (termTable p (length held) t) passes f)
+
+  profiled-none : (held : List ℕ) → Profiled p held []
+  unfolding profileOf
+  profiled-none held = record { size = refl; entry = λ i l. absurd (omega arith) }
+
+  profiled-more : (held : List ℕ) (t : ℕ) (ts : List ℕ) → t < GF p .size → length held < 4096
+      → Profiled p (held ++ (t ∷ [])) ts
+      → Profiled p held (t ∷ ts)
+  unfolding profileEntry
+  profiled-more held t ts l room x =
+      let (a, f, e) = term-answered held t l room in
+      let rest = profileOf p (held ++ (t ∷ [])) ts in
+      let made : profileOf p held (t ∷ ts) ≡ profileEntry 0 a ++ rest = profile-answered p held t ts a e in
+      record {
+        size = ap length made ∙ length-append (profileEntry 0 a) rest ∙ ap (λ n. 4 + n) (x .size)
+            ∙ omega arith;
+        entry = λ i b. go a f made i b;
+      }
+    where
+      go : (a : FreeFigures)
+          → freeFigures (GF p) (held ++ (t ∷ [])) ≡ some a
+          → profileOf p held (t ∷ ts) ≡ profileEntry 0 a ++ profileOf p (held ++ (t ∷ [])) ts
+          → (i : ℕ)
+          → i < length (t ∷ ts)
+          → (a : FreeFigures)
+          × (freeFigures (GF p) (held ++ take (suc i) (t ∷ ts)) ≡ some a)
+          × (take 4 (drop (4 * i) (profileOf p held (t ∷ ts))) ≡ profileEntry 0 a)
+      go a f made zero b = (a, f, ap (λ l. take 4 l) made)
+      go a f made (suc i) b =
+          let (c, g, e) = x .entry i (omega arith) in
+          let all = profileEntry 0 a ++ profileOf p (held ++ (t ∷ [])) ts in
+          let n : 4 * suc i ≡ 4 + 4 * i = omega arith in (
+            c,
+            ap (freeFigures (GF p)) (sym (append-assoc held (t ∷ []) (take (suc i) ts))) ∙ g,
+            ap (λ l. take 4 (drop (4 * suc i) l)) made
+                ∙ ap (λ n. take 4 (drop n all)) n
+                ∙ ap (take 4) (sym (drop-drop (4 * i) 4 all))
+                ∙ e,
+          )
+
+  profiled : (held ts : List ℕ) → T (areElements (GF p) ts) → length held + length ts ≤ 4096
+      → Profiled p held ts
+  profiled held [] h l = profiled-none held
+  profiled held (t ∷ ts) h l =
+      let (k, m) = elements-uncons (GF p) t ts h in
+      profiled-more held t ts k (omega arith)
+      (profiled (held ++ (t ∷ [])) ts m (omega (arith, length-append held (t ∷ []))))
+
+module _ (p : ℕ) (ts profile : List ℕ) (q : T (primeInRange p)) (h : T (areElements (GF p) ts))
+    (l : length ts ≤ 4096) where
+  abbrev shown : List ℕ
+  shown = take (length profile / 4) ts
+
+  abbrev body : List ℕ
+  body = profileOf p [] shown
+
+  shown-profiled : Profiled p [] shown
+  shown-profiled =
+      profiled p q [] shown (take-elements (GF p) (length profile / 4) ts h)
+      (omega (arith, length-take (length profile / 4) ts))
+
+  entry-within : (i : ℕ) → i < length ts → 4 * suc i ≤ length profile
+      → (a : FreeFigures)
+      × FreeGives p (take (suc i) ts) a
+      × (take 4 (drop (4 * i) (body ++ drop (length body) profile)) ≡ profileEntry 0 a)
+  entry-within i b room =
+      let n : suc i ≤ length profile / 4 = omega arith in
+      let k : i < length shown = omega (arith, length-take (length profile / 4) ts) in
+      let (a, f, e) = shown-profiled .entry i k in
+      let same : take (suc i) shown ≡ take (suc i) ts = take-take (suc i) (length profile / 4) ts n in
+      let size = shown-profiled .size in (
+        a,
+        free-gives p (take (suc i) ts) a q
+            (record {
+              atLeastOne = omega (arith, length-take (suc i) ts);
+              notMany = omega (arith, length-take (suc i) ts);
+              inField = take-elements (GF p) (suc i) ts h;
+            })
+            (ap (freeFigures (GF p)) (sym same) ∙ f),
+        ap (take 4) (drop-append-le (4 * i) body (drop (length body) profile) (omega arith))
+            ∙ take-append-le 4 (drop (4 * i) body) (drop (length body) profile)
+            (omega (arith, length-drop (4 * i) body))
+            ∙ e,
+      )
+
+pub profile-export : ProfileExport
+unfolding unlessRefused written holdsForSome startMeter
+profile-export p ts profile status profile′ x =
+    let s = status-told startNumbers (startMeter p) status (no-zero startNumbers tt) (start-told p)
+    (x .told) in
+    record {
+      status-told = s;
+      answers = start-told p;
+      kept = λ n e. x .lent ∙ ap left e;
+      entries = λ z h l i b room.
+          let (u, e) = s .zero z in
+          let (k, _) = settle-answered _ ((6, λ _. notPrime p) ∷ []) e in
+          let (a, g, w) = entry-within p ts profile (prime-accepted p (k .fieldExists)) h l i b room in (
+            a,
+            g,
+            ap (λ l. take 4 (drop (4 * i) l)) (x .lent ∙ ap left e) ∙ w,
+          );
+    }
+  where
+    left : Result (Unit {0}) → List ℕ
+    left r = unlessRefused r profile (written (profileOf p [] (take (length profile / 4) ts)) profile)

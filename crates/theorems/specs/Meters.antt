@@ -1,0 +1,144 @@
+-- The meter, as statements about the contracts of its calls, for every way `model` to keep what it knows. The
+-- signs are those of Promises.
+--
+--   startNumbers, termNumbers == the numbers by which a start and a term are refused
+--   Run model p ts m terms work == the meter m was started for p and has taken the accepted terms ts, refused
+--                       ones between them: by the contracts of the calls alone, from an accepted start on
+--   StartAnswers     == demand 1 of a start
+--   FreeGives p ts a == whatever rates the terms ts by the free way, with enough lent bytes, tells a
+--   MeterRight …     == what a meter after a run shows, and what it tells of another term
+--   MeterPromise     == so it is after every run
+--   ProfileExport    == the same of the whole profile, as the call for other languages leaves it
+use Prim.Native.Nat.{ℕ, suc, _+_, _*_, _≤_, _<_}
+use mathlib.Core.Path.{_≡_}
+use mathlib.Core.Bool.{true}
+use mathlib.Core.List.{List, [], _∷_, _++_}
+use lib.ListN.{length, take, drop}
+use lib.Dec.{T}
+use Rattle.meaning.specs.declared.FreeRating.{FreeRating}
+use Rattle.meaning.specs.declared.Meter.{Meter}
+use Rattle.meaning.specs.declared.MeterStart.{MeterStart}
+use Rattle.meaning.specs.declared.MeterStep.{MeterStep}
+use Rattle.meaning.specs.Field.{areElements}
+use Rattle.meaning.specs.Result.{refused, answered}
+use Rattle.meaning.specs.Conditions.{acceptedLent}
+use Rattle.meaning.specs.Free.{Choice, FreeFigures}
+use Rattle.meaning.specs.Meter.{MeterModel, startMeter, profileEntry}
+use Rattle.meaning.specs.Answers.{toldFree, toldStart}
+use Rattle.meaning.specs.Calls.{FreeCall, StartCall, TermCall, ReadingCall}
+use Rattle.meaning.specs.Exports.{ProfileExported}
+use Rattle.theorems.specs.Answering.{Tells}
+use Rattle.theorems.specs.Ratings.{GF}
+use Rattle.theorems.specs.OtherLanguages.{StatusTold}
+
+abbrev pub startNumbers : List ℕ
+startNumbers = 6 ∷ []
+
+abbrev pub termNumbers : List ℕ
+termNumbers = 8 ∷ 18 ∷ []
+
+-- A START
+
+pub record Starting (model : MeterModel) (p : ℕ) (work : List ℕ) : Type 0 where
+  pub tells : (r : MeterStart) (work′ : List ℕ) → StartCall model p work r work′
+      → Tells startNumbers (toldStart r)
+  pub work-kept : (r : MeterStart) (work′ : List ℕ)
+      → StartCall model p work r work′
+      → (n : ℕ)
+      → toldStart r ≡ refused n
+      → work′ ≡ work
+  pub some : (r : MeterStart) × (work′ : List ℕ) × StartCall model p work r work′
+  pub one : (r s : MeterStart) (work′ work″ : List ℕ)
+      → StartCall model p work r work′
+      → StartCall model p work s work″
+      → (r ≡ s) × (work′ ≡ work″)
+
+abbrev pub StartAnswers : Type 0
+StartAnswers = (model : MeterModel) (p : ℕ) (work : List ℕ) → Starting model p work
+
+-- A RUN: an accepted start, with 4,096 lent bytes for the terms; then terms, some taken and some refused.
+-- Each call gets the meter and the bytes that the call before it left.
+
+pub data Run (model : MeterModel) (p : ℕ) : List ℕ → Meter → List ℕ → List ℕ → Type 0 where
+  begun : {m : Meter} {terms work work′ : List ℕ}
+      → length terms ≡ 4096
+      → StartCall model p work (MeterStart.Started m) work′
+      → Run model p [] m terms work′
+  taken : {ts : List ℕ} {m : Meter} {t : ℕ} {terms work : List ℕ} {r : MeterStep} {terms′ work′ : List ℕ}
+      → Run model p ts m terms work
+      → TermCall model m t terms work r terms′ work′
+      → (a : FreeFigures)
+      → toldFree (r .reading) ≡ answered a
+      → Run model p (ts ++ (t ∷ [])) (r .meter) terms′ work′
+  passed : {ts : List ℕ} {m : Meter} {t : ℕ} {terms work : List ℕ} {r : MeterStep} {terms′ work′ : List ℕ}
+      → Run model p ts m terms work
+      → TermCall model m t terms work r terms′ work′
+      → (n : ℕ)
+      → toldFree (r .reading) ≡ refused n
+      → Run model p ts (r .meter) terms′ work′
+
+-- THE PROMISE
+
+abbrev pub FreeGives : ℕ → List ℕ → FreeFigures → Type 0
+FreeGives p ts a =
+    (pick : Choice) (answer work : List ℕ) (r : FreeRating) (answer′ work′ : List ℕ)
+    → T (acceptedLent (length answer) (length work))
+    → FreeCall pick p ts answer work r answer′ work′
+    → toldFree r ≡ answered a
+
+-- The meter shows figures: before the first term 0 and `one`, and else those of the free way for the terms
+-- taken. Another term is told with the free way's figures for all of them, or refused by 8 or 18. Refused, it
+-- leaves the meter and its lent bytes as they were.
+pub record MeterRight (model : MeterModel) (p : ℕ) (ts : List ℕ) (m : Meter) (terms work : List ℕ)
+    : Type 0 where
+  pub shows : (r : FreeRating) → ReadingCall model m r → (a : FreeFigures) × (toldFree r ≡ answered a)
+  pub at-first : ts ≡ [] → (r : FreeRating) → ReadingCall model m r
+      → toldFree r ≡ answered (record { degree = 0; unique = true })
+  pub free-way : 1 ≤ length ts → (r : FreeRating) (a : FreeFigures) → ReadingCall model m r
+      → toldFree r ≡ answered a
+      → FreeGives p ts a
+  pub tells : (t : ℕ) (r : MeterStep) (terms′ work′ : List ℕ) → TermCall model m t terms work r terms′ work′
+      → Tells termNumbers (toldFree (r .reading))
+  pub term-told : (t : ℕ) (r : MeterStep) (terms′ work′ : List ℕ)
+      → TermCall model m t terms work r terms′ work′
+      → (a : FreeFigures)
+      → toldFree (r .reading) ≡ answered a
+      → FreeGives p (ts ++ (t ∷ [])) a
+  pub unchanged : (t : ℕ) (r : MeterStep) (terms′ work′ : List ℕ)
+      → TermCall model m t terms work r terms′ work′
+      → (n : ℕ)
+      → toldFree (r .reading) ≡ refused n
+      → (r .meter ≡ m) × (terms′ ≡ terms) × (work′ ≡ work)
+  pub one-reading : (r s : FreeRating) → ReadingCall model m r → ReadingCall model m s → r ≡ s
+  pub one : (t : ℕ) (r s : MeterStep) (terms′ terms″ work′ work″ : List ℕ)
+      → TermCall model m t terms work r terms′ work′
+      → TermCall model m t terms work s terms″ work″
+      → (r ≡ s) × ((terms′ ≡ terms″) × (work′ ≡ work″))
+
+abbrev pub MeterPromise : Type 0
+MeterPromise =
+    (model : MeterModel) (p : ℕ) (ts : List ℕ) (m : Meter) (terms work : List ℕ)
+    → Run model p ts m terms work
+    → MeterRight model p ts m terms work
+
+-- OTHER LANGUAGES: where all terms are elements and they are at most 4,096, each entry that there is room for
+-- has the figures of the free way for the terms up to it
+
+pub record ProfileRight (p : ℕ) (ts profile : List ℕ) (status : ℕ) (profile′ : List ℕ) : Type 0 where
+  pub status-told : StatusTold (startMeter p) status
+  pub answers : Tells startNumbers (startMeter p)
+  pub kept : (n : ℕ) → startMeter p ≡ refused n → profile′ ≡ profile
+  pub entries : status ≡ 0
+      → T (areElements (GF p) ts)
+      → length ts ≤ 4096
+      → (i : ℕ)
+      → i < length ts
+      → 4 * suc i ≤ length profile
+      → (a : FreeFigures) × FreeGives p (take (suc i) ts) a
+      × (take 4 (drop (4 * i) profile′) ≡ profileEntry 0 a)
+
+abbrev pub ProfileExport : Type 0
+ProfileExport =
+    (p : ℕ) (ts profile : List ℕ) (status : ℕ) (profile′ : List ℕ)
+    → ProfileExported p ts profile status profile′
+    → ProfileRight p ts profile status profile′

@@ -1,0 +1,293 @@
+// tools/profile: the shipped example, files against the second rater, a line where a file has no profile,
+// arguments and outputs, and no C compiler.
+mod common;
+
+use common::random::Random;
+use common::route::{self, Contents, Factor, Record};
+use common::{expect, primes, rater, sequence, Outcome};
+use std::fs;
+use std::io::Write;
+use std::os::unix::fs::symlink;
+use std::path::Path;
+use std::process::{Command, Stdio};
+
+const TOOL: &str = "tools/profile";
+const EXAMPLE: &str = "examples/profile.route";
+const SHARED: &str = "target/staticlib/libexports.so";
+const BUILT: &str = "target/tests";
+const RANDOM_FILES: u64 = 20;
+
+// How the tool ended: its status, and what it wrote to its two outputs.
+type Ended = (Option<i32>, String, String);
+
+fn ended(command: &mut Command, input: &[u8]) -> Result<Ended, String> {
+    let mut child = command
+        .stdin(Stdio::piped())
+        .stdout(Stdio::piped())
+        .stderr(Stdio::piped())
+        .spawn()
+        .map_err(|e| format!("{TOOL}: {e}"))?;
+    let _ = child.stdin.take().unwrap().write_all(input);
+    let output = child.wait_with_output().map_err(|e| e.to_string())?;
+    let text = |bytes: &[u8]| String::from_utf8_lossy(bytes).into_owned();
+    Ok((
+        output.status.code(),
+        text(&output.stdout),
+        text(&output.stderr),
+    ))
+}
+
+fn tool(arguments: &[&str], input: &[u8]) -> Result<Ended, String> {
+    ended(Command::new(TOOL).args(arguments), input)
+}
+
+// Nothing printed, the status, and one line that begins and ends so.
+fn stops(found: Ended, status: i32, begin: &str, end: &str) -> Result<(), String> {
+    let (code, output, said) = found;
+    let one =
+        said.lines().count() == 1 && said.starts_with(begin) && said.trim_end().ends_with(end);
+    expect(
+        (code, output.as_str(), one),
+        (Some(status), "", true),
+        || format!("{begin}..{end}: {said}"),
+    )
+}
+
+// The rows of the columns without their header, each as words.
+fn rows(columns: &str) -> Vec<Vec<String>> {
+    let words = |line: &str| line.split_whitespace().map(String::from).collect();
+    columns.lines().skip(1).map(words).collect()
+}
+
+// The rows that the second rater gives, from each beginning of the terms.
+fn expected(p: u64, terms: &[u8]) -> Vec<Vec<String>> {
+    let known = sequence::of_bytes(terms);
+    let row = |m: usize| {
+        let rating = rater::free_rating(p, &known[..m]);
+        let degree = rating.polynomial.len() - 1;
+        let word = if rating.unique == Some(true) {
+            "one"
+        } else {
+            "some"
+        };
+        [m, terms[m - 1] as usize, degree]
+            .iter()
+            .map(|n| n.to_string())
+            .chain([word.to_string()])
+            .collect()
+    };
+    (1..=terms.len()).map(row).collect()
+}
+
+fn file_of(c: &Contents) -> Vec<u8> {
+    let mut records = vec![
+        Record::of(1, &[0, 0, 0, 7]),
+        Record::of(2, &[c.p]),
+        Record::of(3, &[c.mode]),
+    ];
+    records.extend(c.factors.iter().map(|f| Record::of(4, &f.body())));
+    let blocks = c.terms.chunks_exact(64);
+    let singles = blocks.remainder();
+    records.extend(blocks.map(|block| Record::of(5, block)));
+    records.extend(singles.iter().map(|&term| Record::of(6, &[term])));
+    records.push(Record::of(8, &[]));
+    route::file_of(&records)
+}
+
+// The example: its first lines, where L jumps, all its rows, and the picture of the README.
+fn example() -> Outcome {
+    let (code, columns, said) = tool(&[EXAMPLE], &[])?;
+    expect((code, said.as_str()), (Some(0), ""), || said.clone())?;
+    expect(
+        columns.lines().take(2).collect::<Vec<_>>(),
+        vec![" m  term   L  word", " 1     0   0  one"],
+        || "the first lines".into(),
+    )?;
+    let found = rows(&columns);
+    let jumps: Vec<(&str, &str)> = found
+        .windows(2)
+        .filter(|w| w[0][2] != w[1][2])
+        .map(|w| (w[1][0].as_str(), w[1][2].as_str()))
+        .collect();
+    let known = "2:2 6:4 12:8 18:10 33:23 47:24 49:25 53:28 58:30 61:31 63:32";
+    let known: Vec<(&str, &str)> = known
+        .split(' ')
+        .map(|jump| jump.split_once(':').unwrap())
+        .collect();
+    expect(jumps, known, || "the jumps".into())?;
+    let file = fs::read(EXAMPLE).map_err(|e| e.to_string())?;
+    let held = route::contents(&file).map_err(|n| format!("refused {n}"))?;
+    expect(&found, &expected(held.p as u64, &held.terms), || {
+        "the rows".into()
+    })?;
+    expect(
+        tool(&[], &file)?,
+        (Some(0), columns.clone(), String::new()),
+        || "standard input".into(),
+    )?;
+    let out = format!("{BUILT}/profile.svg");
+    let drawn = tool(&["--svg", &out, EXAMPLE], &[])?;
+    expect(drawn, (Some(0), columns, String::new()), || {
+        "with a picture".into()
+    })?;
+    let read = |path: &str| fs::read_to_string(path).map_err(|e| format!("{path}: {e}"));
+    expect(read(&out)?, read("docs/profile.svg")?, || {
+        "the picture".into()
+    })?;
+    Ok(5)
+}
+
+// Files of all modes, whatever their factors: the terms alone decide.
+fn against_the_second_rater() -> Outcome {
+    let mut random = Random::of_seed(1);
+    let primes = primes();
+    for i in 0..RANDOM_FILES {
+        let p = random.one_of(&primes);
+        let mode = 1 + (i % 3) as u8;
+        let factors = match mode {
+            1 => vec![Factor::of_polynomial(&[0, 0, 1], 0)],
+            2 => vec![Factor::of_polynomial(&[1, 1], 1)],
+            _ => vec![],
+        };
+        let count = random.between(1, 200) as usize;
+        let mut terms = random.elements(p, count);
+        if random.below(3) == 0 {
+            terms[..count / 2].fill(0);
+        }
+        let held = Contents {
+            p: p as u8,
+            mode,
+            factors,
+            terms,
+        };
+        let (code, columns, said) = tool(&[], &file_of(&held))?;
+        expect((code, said.as_str()), (Some(0), ""), || format!("{held:?}"))?;
+        expect(rows(&columns), expected(p, &held.terms), || {
+            format!("{held:?}")
+        })?;
+    }
+    let held = Contents {
+        p: 251,
+        mode: 3,
+        factors: vec![],
+        terms: random.elements(251, 4096),
+    };
+    let (code, columns, said) = tool(&[], &file_of(&held))?;
+    expect((code, said.as_str()), (Some(0), ""), || {
+        "4,096 terms".into()
+    })?;
+    expect(rows(&columns).len(), 4096, || "4,096 terms".into())?;
+    Ok(RANDOM_FILES + 1)
+}
+
+// A file for each of 1 to 8.
+fn no_profile() -> Outcome {
+    let good = Contents {
+        p: 5,
+        mode: 3,
+        factors: vec![],
+        terms: vec![0, 1, 4],
+    };
+    let file = file_of(&good);
+    let with = |change: &dyn Fn(&mut Contents)| {
+        let mut changed = good.clone();
+        change(&mut changed);
+        file_of(&changed)
+    };
+    let cases = [
+        (1, [file.clone(), vec![0; route::MOST_BYTES]].concat()),
+        (2, [&file[..file.len() - 1], &[9]].concat()),
+        (3, file[..file.len() - 1].to_vec()),
+        (3, vec![]),
+        (4, [&file[..], &[8]].concat()),
+        (5, with(&|c| c.mode = 4)),
+        (6, with(&|c| c.p = 6)),
+        (7, with(&|c| c.terms.clear())),
+        (7, with(&|c| c.terms.resize(4097, 0))),
+        (8, with(&|c| c.terms[1] = 5)),
+    ];
+    for (number, file) in &cases {
+        let begin = format!("profile: standard input has no profile: refused by {number}, ");
+        stops(tool(&[], file)?, 4, &begin, "")?;
+    }
+    Ok(cases.len() as u64)
+}
+
+fn arguments() -> Outcome {
+    let (code, help, said) = tool(&["--help"], &[])?;
+    expect((code, said.as_str()), (Some(0), ""), || "--help".into())?;
+    expect(help.contains("tools/profile FILE"), true, || help)?;
+    let asks = "tools/profile --help says how it is called";
+    stops(tool(&["--svgs", EXAMPLE], &[])?, 2, "profile: ", asks)?;
+    stops(tool(&[EXAMPLE, "--svg"], &[])?, 2, "profile: ", asks)?;
+    stops(tool(&[EXAMPLE, EXAMPLE], &[])?, 2, "profile: ", asks)?;
+    stops(
+        tool(&["examples/none"], &[])?,
+        2,
+        "profile: there is no file examples/none",
+        "",
+    )?;
+    stops(tool(&["examples"], &[])?, 3, "profile: examples: ", "")?;
+    stops(
+        tool(&[EXAMPLE, "--svg", "examples"], &[])?,
+        3,
+        "profile: examples: ",
+        "",
+    )?;
+    let full = fs::File::create("/dev/full").map_err(|e| e.to_string())?;
+    let lost = Command::new(TOOL)
+        .arg(EXAMPLE)
+        .stdout(full)
+        .output()
+        .map_err(|e| e.to_string())?;
+    let said = String::from_utf8_lossy(&lost.stderr).into_owned();
+    expect(lost.status.code(), Some(3), || said.clone())?;
+    expect(said.starts_with("profile: standard output: "), true, || {
+        said
+    })?;
+    Ok(8)
+}
+
+// A folder with a link to every command on the path but cc.
+fn path_without_cc() -> std::io::Result<String> {
+    let folder = format!("{BUILT}/without_cc");
+    if Path::new(&folder).exists() {
+        fs::remove_dir_all(&folder)?;
+    }
+    fs::create_dir_all(&folder)?;
+    for place in std::env::split_paths(&std::env::var_os("PATH").unwrap_or_default()) {
+        for entry in fs::read_dir(place).into_iter().flatten().flatten() {
+            if entry.file_name() != "cc" {
+                let _ = symlink(entry.path(), Path::new(&folder).join(entry.file_name()));
+            }
+        }
+    }
+    fs::canonicalize(folder).map(|path| path.display().to_string())
+}
+
+// Without the shared object and without cc there is a line; with cc it is made, and then cc is not needed.
+fn no_compiler() -> Outcome {
+    let path = path_without_cc().map_err(|e| e.to_string())?;
+    let without = || ended(Command::new(TOOL).arg(EXAMPLE).env("PATH", &path), &[]);
+    fs::remove_file(SHARED).map_err(|e| format!("{SHARED}: {e}"))?;
+    stops(without()?, 2, "library: cc is not on the path", "")?;
+    let made = tool(&[EXAMPLE], &[])?;
+    expect(made.0, Some(0), || made.2.clone())?;
+    expect(without()?, made, || {
+        "without cc, with the shared object".into()
+    })?;
+    Ok(3)
+}
+
+fn main() {
+    common::run(
+        "profile",
+        &[
+            ("the example", example),
+            ("against the second rater", against_the_second_rater),
+            ("files without a profile", no_profile),
+            ("arguments", arguments),
+            ("no C compiler", no_compiler),
+        ],
+    )
+}
