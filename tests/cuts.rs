@@ -165,7 +165,8 @@ fn periods() -> Outcome {
                 let place = random.between(0, 6000 - n as u64) as usize;
                 let period = &sequence.terms[place..place + n];
                 let rating = power_rating(p, &sequence.factors[0], r);
-                let input = inputs::period(p, &sequence.factors[0], period);
+                let given = inputs::multiples(&mut random, p, &sequence.factors);
+                let input = inputs::period(p, &given[0], period);
                 answers(&input, &Ok(rating))?;
                 cases += 1;
             }

@@ -194,6 +194,16 @@ fn no_profile() -> Outcome {
         change(&mut changed);
         file_of(&changed)
     };
+    let reasons = [
+        "16,384 bytes",
+        "1 to 8",
+        "the end record",
+        "out of place",
+        "do not suit it",
+        "a prime from 2 to 251",
+        "no terms, or more than 4,096",
+        "p or more",
+    ];
     let cases = [
         (1, [file.clone(), vec![0; route::MOST_BYTES]].concat()),
         (2, [&file[..file.len() - 1], &[9]].concat()),
@@ -206,9 +216,9 @@ fn no_profile() -> Outcome {
         (7, with(&|c| c.terms.resize(4097, 0))),
         (8, with(&|c| c.terms[1] = 5)),
     ];
-    for (number, file) in &cases {
+    for &(number, ref file) in &cases {
         let begin = format!("profile: standard input has no profile: refused by {number}, ");
-        stops(tool(&[], file)?, 4, &begin, "")?;
+        stops(tool(&[], file)?, 4, &begin, reasons[number - 1])?;
     }
     Ok(cases.len() as u64)
 }
