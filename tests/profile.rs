@@ -4,12 +4,11 @@ mod common;
 
 use common::random::Random;
 use common::route::{self, Contents, Factor, Record};
-use common::{expect, primes, rater, sequence, Outcome};
+use common::{expect, output_of, primes, rater, sequence, Outcome};
 use std::fs;
-use std::io::Write;
 use std::os::unix::fs::symlink;
 use std::path::Path;
-use std::process::{Command, Stdio};
+use std::process::Command;
 
 const TOOL: &str = "tools/profile";
 const EXAMPLE: &str = "examples/profile.route";
@@ -21,14 +20,7 @@ const RANDOM_FILES: u64 = 20;
 type Ended = (Option<i32>, String, String);
 
 fn ended(command: &mut Command, input: &[u8]) -> Result<Ended, String> {
-    let mut child = command
-        .stdin(Stdio::piped())
-        .stdout(Stdio::piped())
-        .stderr(Stdio::piped())
-        .spawn()
-        .map_err(|e| format!("{TOOL}: {e}"))?;
-    let _ = child.stdin.take().unwrap().write_all(input);
-    let output = child.wait_with_output().map_err(|e| e.to_string())?;
+    let output = output_of(command, input)?;
     let text = |bytes: &[u8]| String::from_utf8_lossy(bytes).into_owned();
     Ok((
         output.status.code(),

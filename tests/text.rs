@@ -3,24 +3,15 @@ mod common;
 
 use common::random::Random;
 use common::route::{self, Record};
-use common::{expect, Outcome, EXAMPLES};
-use std::io::Write;
-use std::process::{Command, Stdio};
+use common::{expect, output_of, Outcome, EXAMPLES};
+use std::process::Command;
 
 const TOOL: &str = "tools/route";
 const RANDOM_FILES: u64 = 20;
 
 // What the tool does with an input: whether it ends well, and what it writes to its two outputs.
 fn tool(verb: &str, input: &[u8]) -> Result<(bool, Vec<u8>, String), String> {
-    let mut child = Command::new(TOOL)
-        .arg(verb)
-        .stdin(Stdio::piped())
-        .stdout(Stdio::piped())
-        .stderr(Stdio::piped())
-        .spawn()
-        .map_err(|e| format!("{TOOL}: {e}"))?;
-    let _ = child.stdin.take().unwrap().write_all(input);
-    let output = child.wait_with_output().map_err(|e| e.to_string())?;
+    let output = output_of(Command::new(TOOL).arg(verb), input)?;
     let errors = String::from_utf8_lossy(&output.stderr).into_owned();
     Ok((output.status.success(), output.stdout, errors))
 }
