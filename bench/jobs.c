@@ -110,6 +110,15 @@ static void free_register(const char *family, uint32_t p, size_t n, size_t degre
              grouped(degree), p);
 }
 
+// Several polynomials fit: the last term of a register is changed.
+static void free_changed(const char *family, uint32_t p, size_t n, size_t degree) {
+    free_register(family, p, n, degree);
+    job *j = &list[listed - 1];
+    j->terms[n - 1] = (j->terms[n - 1] + 1) % p;
+    snprintf(j->name, sizeof j->name, "free way, %s terms of a register of degree %s, the last changed, GF(%u)",
+             grouped(n), grouped(degree), p);
+}
+
 static void free_digits(const char *terms) {
     job *j = add("few terms", FREE, 2);
     j->compared = true;
@@ -256,6 +265,9 @@ static void fill(void) {
     free_digits("01");
     free_digits("001");
     free_digits("1000");
+    free_changed("free way, several fit, GF(2)", 2, 4096, 1024);
+    free_changed("free way, several fit, GF(3)", 3, 4096, 1024);
+    free_changed("free way, several fit, GF(251)", 251, 4096, 1024);
 }
 
 const job *all_jobs(size_t *count) {

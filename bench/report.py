@@ -481,7 +481,8 @@ round: **below 1 the rater is faster**. {agreement}
 
 ### Where a peer answers differently
 
-Each answer was compared with the rater's. Under `some`, another polynomial of the same degree that fits is no difference.
+Each answer was compared with the rater's. The peers do not promise the first polynomial under
+`some`: another of the same degree that fits is not counted.
 What is asked of the peers here finds the shortest recurrence only where twice its degree is at most the number of terms.
 The inputs come from fixed seeds (`bench/jobs.c`); `target/bench/jobs` with the words of the last column prints one.
 

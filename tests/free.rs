@@ -1,9 +1,10 @@
-// rate_free: known answers, all short portions against all polynomials, long ones against the Berlekamp-Massey
-// algorithm in its textbook form, and every refusal.
+// rate_free: known answers, all short portions against all polynomials, longer ones against Gaussian elimination, the
+// longest against the Berlekamp-Massey algorithm in its textbook form, and every refusal.
 mod common;
 
 use common::inputs::{self, all_terms, factors, registers, uppers};
 use common::lent::{agrees, answers};
+use common::massey::first_by_elimination;
 use common::poly::{self, degree, Poly};
 use common::random::Random;
 use common::rater::{free_rating, Input, Rating, Way};
@@ -31,7 +32,8 @@ fn fitting(p: u64, terms: &[u64]) -> Vec<Poly> {
     all.find(|fitting: &Vec<Poly>| !fitting.is_empty()).unwrap()
 }
 
-// All portions up to a length. Under `one` the polynomial is the only one, under `some` there are others.
+// All portions up to a length. Under `one` the polynomial is the only one, under `some` there are others, and it is the
+// first of them: `monics` has them in the order of the request.
 fn all_short() -> Outcome {
     let mut cases = 0;
     for (p, longest) in [(2, 13), (3, 8), (5, 6), (7, 5), (13, 4), (251, 1)] {
@@ -45,16 +47,70 @@ fn all_short() -> Outcome {
                 bound: None,
                 unique: Some(unique),
             };
-            expect(
-                degree(&free_rating(p, &terms).polynomial),
-                degree(&fitting[0]),
-                || format!("the second rater, p {p}, {terms:?}"),
-            )?;
+            expect(&free_rating(p, &terms).polynomial, &fitting[0], || {
+                format!("the second rater, p {p}, {terms:?}")
+            })?;
             answers(&inputs::free(p, &terms), &Ok(rating))?;
             cases += 1;
         }
     }
     Ok(cases)
+}
+
+// The second rater against Gaussian elimination, and with it the call.
+fn eliminated(p: u64, terms: &[u64]) -> Result<(), String> {
+    let polynomial = free_rating(p, terms).polynomial;
+    let found = first_by_elimination(p, terms, degree(&polynomial));
+    expect(&polynomial, &found, || {
+        format!("the second rater, p {p}, {} terms", terms.len())
+    })?;
+    agrees(&inputs::free(p, terms))
+}
+
+// The same where several polynomials fit.
+fn several(p: u64, terms: &[u64]) -> Result<(), String> {
+    expect(free_rating(p, terms).unique, Some(false), || {
+        format!("p {p}, {} terms", terms.len())
+    })?;
+    eliminated(p, terms)
+}
+
+// Portions of a register of less than half as large a degree, with a changed last term, which several polynomials fit: of
+// many lengths and degrees, and long ones.
+fn first_of_several() -> Outcome {
+    const EACH: u64 = 20;
+    let mut random = Random::of_seed(38);
+    let mut cases = 0;
+    for p in primes() {
+        for _ in 0..EACH {
+            let n = random.between(2, 200) as usize;
+            let d = random.below(n.div_ceil(2) as u64) as usize;
+            several(p, &changed_register(&mut random, p, d, n))?;
+            eliminated(p, &inputs::terms(&mut random, p, n))?;
+            cases += 2;
+        }
+    }
+    for p in [2, 3, 61, 251] {
+        for (d, n) in [(0, 1500), (20, 1500), (300, 1200), (400, 900)] {
+            several(p, &changed_register(&mut random, p, d, n))?;
+            cases += 1;
+        }
+    }
+    for p in primes() {
+        let terms = changed_register(&mut random, p, 1024, 4096);
+        agrees(&inputs::free(p, &terms))?;
+        cases += 1;
+    }
+    Ok(cases)
+}
+
+// n terms of a register of degree d, the last of them changed.
+fn changed_register(random: &mut Random, p: u64, d: usize, n: usize) -> Terms {
+    let f = inputs::terms(random, p, d).into_iter().chain([1]);
+    let start = inputs::terms(random, p, d);
+    let mut terms = continued(p, &Vec::from_iter(f), &start, n);
+    terms[n - 1] = (terms[n - 1] + random.between(1, p - 1)) % p;
+    terms
 }
 
 // A random length up to `longest`, often a short one.
@@ -201,6 +257,7 @@ fn main() {
         &[
             ("known answers", known_answers),
             ("all short portions", all_short),
+            ("the first of several", first_of_several),
             ("known polynomials", known_polynomials),
             ("registers", any_register),
             ("noise", noise),

@@ -1,6 +1,6 @@
 // The rating program on route files: the shipped examples, files of all modes, files damaged in every way, and input that
 // comes in pieces or not at all. What it prints is compared byte by byte with a rater that goes by the words of the
-// request; under `some` the printed polynomial has to fit.
+// request.
 mod common;
 
 use common::inputs;
@@ -107,28 +107,6 @@ fn case(file: &[u8]) -> String {
     format!("a file of {} bytes, {hex}", file.len())
 }
 
-// Whether the last line is a polynomial that fits: monic, of the degree, annihilating the terms.
-fn fits(line: &str, p: u64, degree: usize, terms: &[u8]) -> bool {
-    let Some(words) = line
-        .strip_prefix("poly ")
-        .and_then(|l| l.strip_suffix('\n'))
-    else {
-        return false;
-    };
-    let Ok(g) = words
-        .split(' ')
-        .map(str::parse)
-        .collect::<Result<Vec<u8>, _>>()
-    else {
-        return false;
-    };
-    g.len() == degree + 1
-        && g[degree] == 1
-        && g.iter().all(|&c| (c as u64) < p)
-        && line == route::poly_line(&g)
-        && sequence::annihilates(p, &poly::of_bytes(&g), &sequence::of_bytes(terms))
-}
-
 // Compares what is printed for a file with the words of the request. Answers the number of the refusal, or 0.
 fn compare(file: &[u8], lines: &str) -> Result<u64, String> {
     let rated = route::contents(file).and_then(|c| Ok((rater::rate(&input_of(&c))?, c)));
@@ -142,15 +120,6 @@ fn compare(file: &[u8], lines: &str) -> Result<u64, String> {
     let degree = rating.polynomial.len() - 1;
     let result = route::result_line(file, degree, c.terms.len(), &label(&rating));
     let before = format!("{}{result}", route::HEADER);
-    if rating.unique == Some(false) {
-        return match lines.strip_prefix(before.as_str()) {
-            Some(line) if fits(line, c.p as u64, degree, &c.terms) => Ok(0),
-            _ => Err(format!(
-                "{}: {lines:?}, expected {before:?} and a polynomial that fits",
-                case(file)
-            )),
-        };
-    }
     let poly = route::poly_line(&poly::to_bytes(&rating.polynomial));
     expect(lines, &(before + &poly), || case(file))?;
     Ok(0)

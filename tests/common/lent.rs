@@ -4,7 +4,6 @@ use super::calls::{self, Told};
 use super::poly;
 use super::random::Random;
 use super::rater::{self, Factor, Input, Rating, Way};
-use super::sequence::{self, annihilates};
 use super::{expect, list};
 use std::sync::LazyLock;
 
@@ -67,11 +66,7 @@ pub fn answers_by(
     let (mut answer_after, mut work_after) = (Lent::of(input.answer), Lent::of(input.work));
     if let Ok(rating) = expected {
         let size = rating.polynomial.len();
-        let mut polynomial = poly::to_bytes(&rating.polynomial);
-        if rating.unique == Some(false) {
-            polynomial = answer.bytes()[..size].to_vec();
-            fits(input, &polynomial)?;
-        }
+        let polynomial = poly::to_bytes(&rating.polynomial);
         expect(&answer.bytes()[..size], &polynomial[..], || case(input))?;
         answer_after.bytes()[..size].copy_from_slice(&polynomial);
     }
@@ -102,25 +97,6 @@ fn telling(way: Way, expected: &Result<Rating, u64>) -> Told {
     told.bound = rating.bound.unwrap_or(told.bound);
     told.unique = rating.unique.map_or(told.unique, |one| one as u8);
     told
-}
-
-// A polynomial that may be returned under `some`: monic over the field, and it annihilates the known terms.
-fn fits(input: &Input, polynomial: &[u8]) -> Result<(), String> {
-    let (f, terms) = (
-        sequence::of_bytes(polynomial),
-        sequence::of_bytes(&input.terms),
-    );
-    let over_the_field = f.iter().all(|&c| c < input.p);
-    let monic = f.last() == Some(&1);
-    if over_the_field && monic && annihilates(input.p, &f, &terms) {
-        Ok(())
-    } else {
-        Err(format!(
-            "{}: {} does not fit",
-            case(input),
-            list(polynomial)
-        ))
-    }
 }
 
 fn case(input: &Input) -> String {

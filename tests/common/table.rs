@@ -68,22 +68,18 @@ pub fn set_rating(words: &[&str]) -> Result<Rating, u64> {
     })
 }
 
-// The same for the free way: degree and word, under `one` also the polynomial.
+// The same for the free way: degree, word and polynomial.
 pub fn free_rating(words: &[&str]) -> Result<Rating, u64> {
-    let (degree, unique, polynomial) = match words {
-        [degree, "one", polynomial] => (degree, true, Some(polynomial)),
-        [degree, "some"] => (degree, false, None),
-        _ => return Err(refusal(words)),
+    let [degree, word @ ("one" | "some"), polynomial] = words else {
+        return Err(refusal(words));
     };
-    let degree: usize = degree.parse().unwrap();
-    let polynomial =
-        polynomial.map_or(poly::monic(2, degree, 0), |f| sequence::of_bytes(&bytes(f)));
-    assert_eq!(poly::degree(&polynomial), degree);
+    let polynomial = sequence::of_bytes(&bytes(polynomial));
+    assert_eq!(poly::degree(&polynomial), degree.parse().unwrap());
     Ok(Rating {
         powers: vec![],
         polynomial,
         bound: None,
-        unique: Some(unique),
+        unique: Some(*word == "one"),
     })
 }
 

@@ -21,6 +21,7 @@ pub mod Annihilator
 pub mod Cut
 pub mod Massey
 pub mod MasseyStep
+pub mod FirstFit
 pub mod Spread
 pub mod Frobenius
 pub mod Derivative

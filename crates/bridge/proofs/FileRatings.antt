@@ -12,7 +12,7 @@
 use Prim.Native.Nat.{ℕ, zero, suc, _<_, _≤_}
 use native.Mathlib.Omega.{arith}
 use mathlib.Core.Path.{_≡_, refl, sym, ap, subst, _∙_}
-use mathlib.Core.Bool.{Bool, true, false, not, true≢false}
+use mathlib.Core.Bool.{Bool, false, not}
 use mathlib.Core.List.{List, [], _∷_, map}
 use mathlib.Core.Option.{Option, none, some}
 use lib.Dec.{eqb, eqb→eq}
@@ -24,21 +24,19 @@ use Rattle.meaning.specs.Conditions.{named}
 use Rattle.meaning.specs.Power.{PowerFigures, powerRating, repeatBound}
 use Rattle.meaning.specs.Period.{periodPower, periodTable, periodAnswer}
 use Rattle.meaning.specs.Portion.{SetFigures, factorsOf, setPowers, setRating, setTable, setAnswer}
-use Rattle.meaning.specs.Free.{Choice, FreeFigures, Fits, isUnique, freeTable, rateFree, leastDegree}
-use Rattle.meaning.specs.Free.{ChosenFits}
+use Rattle.meaning.specs.Free.{FreeFigures, Fits, rateFree}
 use Rattle.meaning.specs.Route.{RouteRecord, Mode, periodMode, setMode, freeMode, modeOf, byteOf, bodies}
 use Rattle.meaning.specs.Route.{suits, modeUnsuited, records, factorUpper}
 use Rattle.meaning.specs.File.{WrittenFactor, fileFactor, polynomialOf, termsOf, powers, FileFigures}
 use Rattle.meaning.specs.File.{fileAnswer, ofPeriod, ofSet, ofFree, freeLabel, rateMode, rateRecords}
-use Rattle.meaning.specs.File.{rateFile, FileChosenFits}
-use Rattle.meaning.proofs.Passes.{Passes}
+use Rattle.meaning.specs.File.{rateFile}
 use Rattle.bridge.proofs.Searches.{settle-answered, map-answered, some-bind, some-mapOption, not-false}
 use Rattle.bridge.proofs.Searches.{T-and, never-answered}
 use Rattle.bridge.proofs.Interpretation.{inRange-isField}
 use Rattle.bridge.proofs.Polynomials.{degree-length, monic-nonempty}
 use Rattle.bridge.proofs.Products.{power-nonempty, product-nonempty, Nonempties, factorsOf-named}
 use Rattle.bridge.proofs.Products.{factorAt-factorsOf, length-factorsOf, length-named}
-use Rattle.bridge.proofs.Fitting.{free-rated, free-answer, leastDegree-least}
+use Rattle.bridge.proofs.Fitting.{free-rated}
 use Rattle.bridge.proofs.Accepted.{prime-accepted}
 use Rattle.bridge.proofs.Records.{records-suited}
 
@@ -96,45 +94,12 @@ set-size p ten eleven l ts answer work n e =
 fits-size : (p : ℕ) {ts : List ℕ} {L : ℕ} {g : Polynomial} → Fits (prime p) ts L g → length g ≡ suc L
 fits-size p {g = g} x = degree-length g (monic-nonempty (prime p) g (x .monic)) ∙ ap suc (x .ofDegree)
 
--- the polynomial of the free way fits: under `one` it is the only one, under `some` it is the choice
+-- the polynomial of the free way fits
 pub free-size :
-    (pick : Choice) (p : ℕ) (ts : List ℕ) (answer work : ℕ)
-    → ChosenFits pick p ts
-    → {b : Rated FreeFigures}
-    → rateFree pick p ts answer work ≡ answered b
+    (p : ℕ) (ts : List ℕ) (answer work : ℕ) {b : Rated FreeFigures}
+    → rateFree p ts answer work ≡ answered b
     → length (b .polynomial) ≡ suc (b .figures .degree)
-unfolding freeTable
-free-size pick p ts answer work chosen {b} e =
-    let (h, l, _) = free-rated p ts answer work pick e in
-    go h l (isUnique ts (b .figures .degree)) refl
-  where
-    L : ℕ
-    L = b .figures .degree
-
-    by-fitting :
-        (g : Polynomial)
-        → Passes (freeTable p ts answer work)
-        → leastDegree (prime p) ts ≡ some L
-        → Fits (prime p) ts L g
-        → (isUnique ts L ≡ false → pick p ts ≡ g)
-        → length (b .polynomial) ≡ suc L
-    by-fitting g h l x c =
-        let q = sym e ∙ free-answer p ts answer work pick h l x c in
-        let s : b .polynomial ≡ g = cc in
-        ap length s ∙ fits-size p x
-
-    go :
-        Passes (freeTable p ts answer work)
-        → leastDegree (prime p) ts ≡ some L
-        → (u : Bool)
-        → isUnique ts L ≡ u
-        → length (b .polynomial) ≡ suc L
-    go h l true u =
-        let least = leastDegree-least (inRange-isField p (prime-accepted p (h .fieldExists))) l in
-        by-fitting (least .fitting) h l (least .fits) (λ z. absurd (true≢false (sym u ∙ z)))
-    go h l false u =
-        by-fitting (pick p ts) h l (chosen (h .fieldExists) (h .countInRange) (h .termsInField) L l u)
-        (λ _. refl)
+free-size p ts answer work e = let (_, _, _, x) = free-rated p ts answer work e in fits-size p (x .fits)
 
 -- THE MODES
 pub period-map :
@@ -178,24 +143,23 @@ pairs-nonempty (f ∷ fs) zero l = polynomial-nonempty f
 pairs-nonempty (f ∷ fs) (suc i) l = pairs-nonempty fs i (omega arith)
 
 mode-size :
-    (pick : Choice) (m : Mode) (p : ℕ) (fs : List WrittenFactor) (ts : List ℕ) (answer work : ℕ)
+    (m : Mode) (p : ℕ) (fs : List WrittenFactor) (ts : List ℕ) (answer work : ℕ)
     → (m ≡ periodMode → 1 ≤ length fs)
-    → (m ≡ freeMode → ChosenFits pick p ts)
     → {a : Rated FileFigures}
-    → rateMode pick m p fs ts answer work ≡ answered a
+    → rateMode m p fs ts answer work ≡ answered a
     → Whole a
 unfolding rateMode fileAnswer
-mode-size pick periodMode p fs ts answer work one chosen e =
+mode-size periodMode p fs ts answer work one e =
     whole-of _ _ (period-map (length ts) _)
     (λ b q.
     period-size p _ _ (getD (map polynomialOf fs) 0 []) ts answer work (first-nonempty fs (one refl)) q)
     e
-mode-size pick setMode p fs ts answer work one chosen e =
+mode-size setMode p fs ts answer work one e =
     whole-of _ _ (set-map (length ts) _)
     (λ b q. set-size p _ _ (map (λ f. (polynomialOf f, f .upper)) fs) ts answer work (pairs-nonempty fs) q)
     e
-mode-size pick freeMode p fs ts answer work one chosen e =
-    whole-of _ _ (free-map (length ts) _) (λ b q. free-size pick p ts answer work (chosen refl) q) e
+mode-size freeMode p fs ts answer work one e =
+    whole-of _ _ (free-map (length ts) _) (λ b q. free-size p ts answer work q) e
 
 -- THE FILE
 -- an accepted file in the period mode has one factor
@@ -213,41 +177,40 @@ exactly-one rs m u =
 
 -- what the records of a rated file hold
 pub known-mode :
-    (pick : Choice) (rs : List RouteRecord) (answer work : ℕ) {m : Mode}
+    (rs : List RouteRecord) (answer work : ℕ) {m : Mode}
     → modeOf (byteOf 3 rs) ≡ some m
-    → rateRecords pick rs answer work
-    ≡ rateMode pick m (byteOf 2 rs) (map fileFactor (bodies 4 rs)) (termsOf rs) answer work
+    → rateRecords rs answer work
+    ≡ rateMode m (byteOf 2 rs) (map fileFactor (bodies 4 rs)) (termsOf rs) answer work
 unfolding rateRecords
-known-mode pick rs answer work e = rw (e, rateRecords)
+known-mode rs answer work e = rw (e, rateRecords)
 
 pub unknown-mode :
-    (pick : Choice) (rs : List RouteRecord) (answer work : ℕ)
+    (rs : List RouteRecord) (answer work : ℕ)
     → modeOf (byteOf 3 rs) ≡ none
-    → rateRecords pick rs answer work ≡ refused 5
+    → rateRecords rs answer work ≡ refused 5
 unfolding rateRecords
-unknown-mode pick rs answer work e = rw (e, rateRecords)
+unknown-mode rs answer work e = rw (e, rateRecords)
 
 pub accepted-file :
-    (pick : Choice) (file : List ℕ) (answer work : ℕ) {rs : List RouteRecord}
+    (file : List ℕ) (answer work : ℕ) {rs : List RouteRecord}
     → records file ≡ answered rs
-    → rateFile pick file answer work ≡ rateRecords pick rs answer work
+    → rateFile file answer work ≡ rateRecords rs answer work
 unfolding rateFile
-accepted-file pick file answer work e = rw (e, rateFile)
+accepted-file file answer work e = rw (e, rateFile)
 
 pub refused-file :
-    (pick : Choice) (file : List ℕ) (answer work : ℕ) {n : ℕ}
+    (file : List ℕ) (answer work : ℕ) {n : ℕ}
     → records file ≡ refused n
-    → rateFile pick file answer work ≡ refused n
+    → rateFile file answer work ≡ refused n
 unfolding rateFile
-refused-file pick file answer work e = rw (e, rateFile)
+refused-file file answer work e = rw (e, rateFile)
 
 pub file-size :
-    (pick : Choice) (file : List ℕ) (answer work : ℕ)
-    → FileChosenFits pick file
+    (file : List ℕ) (answer work : ℕ)
     → {a : Rated FileFigures}
-    → rateFile pick file answer work ≡ answered a
+    → rateFile file answer work ≡ answered a
     → length (a .polynomial) ≡ suc (a .figures .degree)
-file-size pick file answer work chosen {a} e = by-records (records file) refl
+file-size file answer work {a} e = by-records (records file) refl
   where
     by-mode :
         (rs : List RouteRecord)
@@ -256,15 +219,14 @@ file-size pick file answer work chosen {a} e = by-records (records file) refl
         → modeOf (byteOf 3 rs) ≡ o
         → Whole a
     by-mode rs r none u =
-        never-answered (sym (accepted-file pick file answer work r ∙ unknown-mode pick rs answer work u) ∙ e)
+        never-answered (sym (accepted-file file answer work r ∙ unknown-mode rs answer work u) ∙ e)
     by-mode rs r (some m) u =
-        mode-size pick m (byteOf 2 rs) (map fileFactor (bodies 4 rs)) (termsOf rs) answer work
+        mode-size m (byteOf 2 rs) (map fileFactor (bodies 4 rs)) (termsOf rs) answer work
         (λ s.
         let one = exactly-one rs (u ∙ ap some s) (records-suited file r) in
         omega (arith, one, length-map (bodies 4 rs) fileFactor))
-        (λ s. chosen rs r (u ∙ ap some s))
-        (sym (accepted-file pick file answer work r ∙ known-mode pick rs answer work u) ∙ e)
+        (sym (accepted-file file answer work r ∙ known-mode rs answer work u) ∙ e)
 
     by-records : (x : Result (List RouteRecord)) → records file ≡ x → Whole a
-    by-records (refused n) r = never-answered (sym (refused-file pick file answer work r) ∙ e)
+    by-records (refused n) r = never-answered (sym (refused-file file answer work r) ∙ e)
     by-records (answered rs) r = by-mode rs r (modeOf (byteOf 3 rs)) refl

@@ -10,10 +10,12 @@
 --   least-fit, fit-least == the words are those of `LeastFit` of `algebra`
 --   fits-only      == where twice the least degree is at most the number of terms, only one list fits with it
 --   isUnique-le, le-isUnique, gt-isUnique == the word `one` in words
---   polynomial-one, polynomial-some == the polynomial of the free way: under `one` the list that fits, under
---                     `some` the choice
+--   FirstFit F ts e g == g fits with degree e, and precedes every other polynomial that does
+--   only-first     == where only one list fits it is the first
+--   first-polynomial, polynomial-first == the polynomial of the free way is that of the words `FirstFit`;
+--                     `polynomial-some` says that there is one where some list fits
 --   free-prime     == p is a prime where the table of the free way passes it
---   free-answer    == the answer of the free way, from the least degree and a list that fits with it
+--   free-answer    == the answer of the free way, from the least degree and the first list that fits with it
 --   free-rated     == what an answer of the free way says
 --   stretch-fits, stretch-least == where a list with a constant term other than 0 annihilates an endless
 --                     sequence: on every stretch of at least twice the degree of its minimal polynomial that
@@ -23,29 +25,28 @@
 -- Assumes nothing.
 use Prim.Native.Nat.{ℕ, _*_, _≤_, _<_}
 use mathlib.Core.Path.{_≡_, refl, sym, ap, subst, _∙_}
-use mathlib.Core.Logic.{_≢_}
+use mathlib.Core.Logic.{_⊎_, inl, inr, _≢_}
 use mathlib.Core.Bool.{Bool, true, false}
-use mathlib.Core.List.{List, _∷_, List·Memᴰ, List·Memᴰ·head, List·Memᴰ·tail}
-use mathlib.Core.Option.{Option, some}
+use mathlib.Core.List.{List, List·Memᴰ, List-discrete}
+use mathlib.Core.Option.{some}
 use native.Mathlib.Nat as ℕ
-use native.Mathlib.Decide.{decLt}
+use native.Mathlib.Decide.{decLt, ℕ-discrete}
 use native.Mathlib.Omega.{arith}
 use lib.ListN.{length, getD}
 use lib.Dec.{T, leb→le, le→leb}
-use Rattle.meaning.specs.Search.{firstThat}
 use Rattle.meaning.specs.Field.{Field, prime, primeInRange, areElements}
 use Rattle.meaning.specs.Polynomial.{Polynomial, degree, isMonicOver, monics}
 use Rattle.meaning.specs.Sequence.{Sequence, known, annihilatesKnown, cut, AnnihilatesEndless}
 use Rattle.meaning.specs.Sequence.{MinimalPolynomial}
 use Rattle.meaning.specs.Result.{Result, answered, Rated}
-use Rattle.meaning.specs.Free.{fitsDegree, leastDegree, Fits, IsLeastDegree, isUnique, FreeFigures, Choice}
-use Rattle.meaning.specs.Free.{freePolynomial, freeRating, freeTable, rateFree}
+use Rattle.meaning.specs.Free.{fitsDegree, leastDegree, Fits, IsLeastDegree, isUnique, FreeFigures}
+use Rattle.meaning.specs.Free.{Precedes, freePolynomial, freeRating, freeTable, rateFree}
 use Rattle.meaning.proofs.Passes.{Passes}
 use Rattle.algebra.proofs.Polynomial.{coefficient}
 use Rattle.algebra.proofs.Action.{Agree}
 use Rattle.algebra.proofs.Cut.{cut as algebra-cut, coprime-x}
 use Rattle.algebra.proofs.Massey.{Fits as AlgebraFits, LeastFit, least-fit-unique, stretch-least-fit}
-use Rattle.bridge.proofs.Searches.{T-true, true-T, T-false, false-T, T-decided}
+use Rattle.bridge.proofs.Searches.{T-true, true-T, T-false}
 use Rattle.bridge.proofs.Searches.{least-some, least-found, least-exists, bind-some, some-bind}
 use Rattle.bridge.proofs.Searches.{mapOption-some, some-mapOption, answered-settle, settle-answered}
 use Rattle.bridge.proofs.Interpretation.{IsField, inRange-isField, element-nonzero}
@@ -53,6 +54,7 @@ use Rattle.bridge.proofs.Polynomials.{Poly, poly, coefficient-poly, get
 use Rattle.bridge.proofs.Polynomials.{monic-equal}
 use Rattle.bridge.proofs.Monics.{monicAt, monicAt-monic, degree-monicAt, some-monics, monics-some}
 use Rattle.bridge.proofs.Monics.{monic-monics, monics-monic}
+use Rattle.bridge.proofs.Precedence.{monics-sorted, first-found, found-first, firstThat-some}
 use Rattle.bridge.proofs.Actions.{sequence, known-fits, fits-known, places-known, length-cut}
 use Rattle.bridge.proofs.Actions.{known-cut, endless-kills, endless-known}
 use Rattle.bridge.proofs.Minimal.{minimal-algebra}
@@ -218,57 +220,68 @@ pub gt-isUnique : (ts : List ℕ) (e : ℕ) → length ts < 2 * e → isUnique t
 unfolding isUnique
 gt-isUnique ts e l = T-false (λ h. omega (arith, leb→le (2 * e) (length ts) h))
 
--- The first element that passes
-firstThat-head : {A : Type 0} (t : A → Bool) (a : A) (l : List A) → T (t a) → firstThat t (a ∷ l) ≡ some a
-unfolding firstThat
-firstThat-head t a l h = rw (T-true {b = t a} h, firstThat)
+-- The first that fits
+pub record FirstFit (F : Field) (ts : List ℕ) (e : ℕ) (g : Polynomial) : Type 0 where
+  pub fits : Fits F ts e g
+  pub first : (h : Polynomial) → Fits F ts e h → h ≢ g → Precedes g h
 
-firstThat-tail :
-    {A : Type 0} (t : A → Bool) (a : A) (l : List A) → ¬ T (t a) → firstThat t (a ∷ l) ≡ firstThat t l
-unfolding firstThat
-firstThat-tail t a l h = rw (T-false {b = t a} h, firstThat)
+module _ {F : Field} (I : IsField F) where
+  pub only-first :
+      {ts : List ℕ} {L : ℕ} {g : Polynomial}
+      → IsLeastDegree F ts L
+      → 2 * L ≤ length ts
+      → Fits F ts L g
+      → FirstFit F ts L g
+  only-first x l y = record { fits = y; first = λ h z n. absurd (n (fits-only I x l z y)) }
 
--- where one member alone passes, it is found
-pub firstThat-only :
-    {A : Type 0} (t : A → Bool) (l : List A) (a : A)
-    → List·Memᴰ a l
-    → T (t a)
-    → ((b : A) → List·Memᴰ b l → T (t b) → b ≡ a)
-    → firstThat t l ≡ some a
-firstThat-only {A} t (b ∷ l) a m p only = go m (firstThat-only t l a) (T-decided (t b))
-  where
-    go :
-        List·Memᴰ a (b ∷ l)
-        → (List·Memᴰ a l → T (t a) → ((c : A) → List·Memᴰ c l → T (t c) → c ≡ a) → firstThat t l ≡ some a)
-        → Dec (T (t b))
-        → firstThat t (b ∷ l) ≡ some a
-    go _ rest (yes h) = firstThat-head t b l h ∙ ap {B = Option A} some (only b (List·Memᴰ·head refl) h)
-    go (List·Memᴰ·head e) rest (no h) = absurd (h (subst (λ c. T (t c)) e p))
-    go (List·Memᴰ·tail n) rest (no h) =
-        firstThat-tail t b l h ∙ rest n p (λ c k q. only c (List·Memᴰ·tail k) q)
+  pub first-polynomial :
+      {ts : List ℕ} {L : ℕ} {g : Polynomial} → FirstFit F ts L g → freePolynomial F ts L ≡ some g
+  unfolding freePolynomial
+  first-polynomial {ts} {L} {g} x =
+      first-found (λ h. annihilatesKnown F h ts) (monics F L) g (monics-sorted F L)
+      (record {
+        member = monic-monics F L g (x .fits .monic) (x .fits .ofDegree);
+        passes = x .fits .annihilates;
+        first = λ h m a. later h m a (List-discrete ℕ-discrete h g);
+      })
+    where
+      later :
+          (h : Polynomial)
+          → List·Memᴰ h (monics F L)
+          → T (annihilatesKnown F h ts)
+          → Dec (h ≡ g)
+          → (h ≡ g) ⊎ Precedes g h
+      later h m a (yes e) = inl e
+      later h m a (no n) =
+          let (o, d) = monics-monic I L m in
+          inr (x .first h (record { monic = o; ofDegree = d; annihilates = a }) n)
 
--- The polynomial of the free way
-pub polynomial-one :
-    (p : ℕ) (I : IsField (prime p)) (pick : Choice) {ts : List ℕ} {L : ℕ} {g : Polynomial}
-    → IsLeastDegree (prime p) ts L
-    → isUnique ts L ≡ true
-    → Fits (prime p) ts L g
-    → freePolynomial pick p ts L ≡ some g
-unfolding freePolynomial
-polynomial-one p I pick {ts} {L} {g} x u y =
-    rw (u, freePolynomial)
-    (firstThat-only (λ g. annihilatesKnown (prime p) g ts) (monics (prime p) L) g
-    (monic-monics (prime p) L g (y .monic) (y .ofDegree))
-    (y .annihilates)
-    (λ h m a. let (o, d) = monics-monic I L m in
-    fits-only I x (isUnique-le ts L u) (record { monic = o; ofDegree = d; annihilates = a }) y))
+  pub polynomial-first :
+      {ts : List ℕ} {L : ℕ} {g : Polynomial} → freePolynomial F ts L ≡ some g → FirstFit F ts L g
+  unfolding freePolynomial
+  polynomial-first {ts} {L} {g} e =
+      let x = found-first (λ h. annihilatesKnown F h ts) (monics F L) (monics-sorted F L) e in
+      let (o, d) = monics-monic I L (x .member) in
+      record {
+        fits = record { monic = o; ofDegree = d; annihilates = x .passes };
+        first =
+            λ h y n.
+            another h n (x .first h (monic-monics F L h (y .monic) (y .ofDegree)) (y .annihilates));
+      }
+    where
+      another : (h : Polynomial) → h ≢ g → (h ≡ g) ⊎ Precedes g h → Precedes g h
+      another h n (inl q) = absurd (n q)
+      another h n (inr z) = z
 
-pub polynomial-some :
-    (pick : Choice) (p : ℕ) (ts : List ℕ) (L : ℕ)
-    → isUnique ts L ≡ false
-    → freePolynomial pick p ts L ≡ some (pick p ts)
-unfolding freePolynomial
-polynomial-some pick p ts L u = rw (u, freePolynomial)
+  pub polynomial-some :
+      {ts : List ℕ} {L : ℕ} {g : Polynomial}
+      → Fits F ts L g
+      → (h : Polynomial) × (freePolynomial F ts L ≡ some h)
+  unfolding freePolynomial
+  polynomial-some {ts} {L} {g} x =
+      firstThat-some (λ h. annihilatesKnown F h ts) (monics F L) g
+      (monic-monics F L g (x .monic) (x .ofDegree))
+      (x .annihilates)
 
 -- The answer of the free way
 module _ (p : ℕ) (ts : List ℕ) (answer work : ℕ) where
@@ -277,39 +290,35 @@ module _ (p : ℕ) (ts : List ℕ) (answer work : ℕ) where
   free-prime h = prime-accepted p (h .fieldExists)
 
   pub free-answer :
-      (pick : Choice) {L : ℕ} {g : Polynomial}
+      {L : ℕ} {g : Polynomial}
       → Passes (freeTable p ts answer work)
       → leastDegree (prime p) ts ≡ some L
-      → Fits (prime p) ts L g
-      → (isUnique ts L ≡ false → pick p ts ≡ g)
-      → rateFree pick p ts answer work
+      → FirstFit (prime p) ts L g
+      → rateFree p ts answer work
       ≡ answered (record { figures = record { degree = L; unique = isUnique ts L }; polynomial = g })
   unfolding rateFree freeRating
-  free-answer pick {L} {g} h e x c =
+  free-answer h e x =
       answered-settle _ (freeTable p ts answer work) h
-      (bind-some (freeRating pick p ts) e ∙ mapOption-some _ (chosen (isUnique ts L) refl))
-    where
-      I : IsField (prime p)
-      I = inRange-isField p (free-prime h)
-
-      chosen : (u : Bool) → isUnique ts L ≡ u → freePolynomial pick p ts L ≡ some g
-      chosen true u = polynomial-one p I pick (leastDegree-least I e) u x
-      chosen false u = polynomial-some pick p ts L u ∙ ap {B = Option Polynomial} some (c u)
+      (bind-some (freeRating (prime p) ts) e
+      ∙ mapOption-some _ (first-polynomial (inRange-isField p (free-prime h)) x))
 
   pub free-rated :
-      (pick : Choice) {b : Rated FreeFigures}
-      → rateFree pick p ts answer work ≡ answered b
+      {b : Rated FreeFigures}
+      → rateFree p ts answer work ≡ answered b
       → Passes (freeTable p ts answer work)
       × (leastDegree (prime p) ts ≡ some (b .figures .degree))
       × (b .figures .unique ≡ isUnique ts (b .figures .degree))
+      × FirstFit (prime p) ts (b .figures .degree) (b .polynomial)
   unfolding rateFree freeRating
-  free-rated pick e =
+  free-rated e =
       let (h, v) = settle-answered _ (freeTable p ts answer work) e in
-      let (L, l, u) = some-bind (leastDegree (prime p) ts) (freeRating pick p ts) v in
-      let (_, _, q) = some-mapOption _ (freePolynomial pick p ts L) u in (
+      let (L, l, u) = some-bind (leastDegree (prime p) ts) (freeRating (prime p) ts) v in
+      let (g, o, q) = some-mapOption _ (freePolynomial (prime p) ts L) u in
+      let x = polynomial-first (inRange-isField p (free-prime h)) o in (
         h,
         subst (λ b. leastDegree (prime p) ts ≡ some (b .figures .degree)) q l,
         subst (λ b. b .figures .unique ≡ isUnique ts (b .figures .degree)) q refl,
+        subst (λ b. FirstFit (prime p) ts (b .figures .degree) (b .polynomial)) q x,
       )
 
 -- Stretches of an endless sequence
@@ -355,14 +364,14 @@ pub stretch-answer :
     → MinimalPolynomial (prime p) g s
     → (k m : ℕ)
     → 2 * degree g ≤ m
-    → (answer work : ℕ) (pick : Choice)
+    → (answer work : ℕ)
     → Passes (freeTable p (cut s k m) answer work)
-    → rateFree pick p (cut s k m) answer work
+    → rateFree p (cut s k m) answer work
     ≡ answered (record { figures = record { degree = degree g; unique = true }; polynomial = g })
-stretch-answer p f g s h o z x k m l answer work pick a =
-    free-answer p (cut s k m) answer work pick a (least-leastDegree I least)
-    (stretch-fits (prime p) g s k m (x .monic) (x .annihilates))
-    (λ u. absurd (false-T u (true-T unique)))
+stretch-answer p f g s h o z x k m l answer work a =
+    free-answer p (cut s k m) answer work a (least-leastDegree I least)
+    (only-first I least (omega (arith, length-cut s k m))
+    (stretch-fits (prime p) g s k m (x .monic) (x .annihilates)))
     ∙ ap rating unique
   where
     I : IsField (prime p)

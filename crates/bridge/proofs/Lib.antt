@@ -16,6 +16,7 @@ pub mod Bits
 pub mod Continuations
 pub mod Minimal
 pub mod KnownActions
+pub mod Precedence
 pub mod Fitting
 pub mod PowerSearch
 pub mod Portions
@@ -25,6 +26,7 @@ pub mod Padding
 pub mod Coefficients
 pub mod MasseySteps
 pub mod MasseyAnswer
+pub mod MasseyFirst
 pub mod Meters
 pub mod Cutting
 pub mod Accepted

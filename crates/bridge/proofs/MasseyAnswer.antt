@@ -1,4 +1,5 @@
--- The Berlekamp-Massey model finds the least degree and a polynomial that fits, and so answers the free way.
+-- The Berlekamp-Massey model finds the least degree and a polynomial that fits. (MasseyFirst has the first of
+-- those that fit, which answers the free way.)
 --
 --   Inverts F inverse == the function gives each element of F other than 0 its inverse
 --   MasseyRight I ts n x == the state x is right after n terms: its lower coefficients are elements of the
@@ -7,10 +8,6 @@
 --   massey-elements  == the lower coefficients are elements of the field
 --   massey-fits, massey-least == after all terms the polynomial fits them, and its degree is the least one
 --   InvertsPrimes inverse == the function inverts in GF(p) for every prime in range
---   masseyChoice inverse == the choice of the free way: the polynomial of the model
---   massey-chosen    == it fits wherever the free way answers `some`
---   choice-exists    == some choice fits on every input
---   massey-answer    == the answer of the free way is the polynomial of the model, under both words
 --   massey-reading   == a meter shows the degree of the model
 --
 -- No condition on the terms is needed: a number beyond the field stands for its element.
@@ -19,23 +16,18 @@ use Prim.Native.Nat.{ℕ, zero, suc, _+_, _*_, _-_, _≤_, _<_}
 use mathlib.Core.Path.{_≡_, refl, sym, ap, ap₂, subst, subst₂, subst₃, _∙_}
 use mathlib.Core.Logic.{_≢_}
 use mathlib.Core.List.{List, [], _∷_, _++_}
-use mathlib.Core.Option.{Option, none, some, Option·some-injective}
+use mathlib.Core.Option.{some}
 use native.Mathlib.Decide.{decLt, ℕ-discrete}
-use native.Mathlib.Nat.{le-of-lt}
 use native.Mathlib.Omega.{arith}
 use lib.ListN.{length, getD, take, drop, take-append-drop, List·getD-eq-default}
 use lib.Seq.{length-take-le}
-use lib.Dec.{T, eqb, eqb→eq, eqb-refl}
-use Rattle.meaning.specs.Search.{least, mapOption}
+use lib.Dec.{T}
+use Rattle.meaning.specs.Search.{mapOption}
 use Rattle.meaning.specs.Field.{Field, prime, primeInRange, areElements}
 use Rattle.meaning.specs.Polynomial.{degree, isMonicOver, plus, scale}
 use Rattle.meaning.specs.Sequence.{actAt, known}
-use Rattle.meaning.specs.Result.{answered}
-use Rattle.meaning.specs.Conditions.{notPrime}
-use Rattle.meaning.specs.Free.{leastDegree, Fits, isUnique, Choice, ChosenFits, freeTable}
-use Rattle.meaning.specs.Free.{rateFree}
+use Rattle.meaning.specs.Free.{leastDegree, Fits, isUnique}
 use Rattle.meaning.specs.Meter.{freeFigures}
-use Rattle.meaning.proofs.Passes.{Passes}
 use Rattle.algebra.proofs.Ring.{Ring, inverse-unique, add-right-comm, neg-mul}
 use Rattle.algebra.proofs.Power.{power, power-add}
 use Rattle.algebra.proofs.Solver.{solve, _:=_, _:+_, _:*_, :-_}
@@ -44,11 +36,8 @@ use Rattle.algebra.proofs.Action.{act, act-add, act-one, act-x-power-mul}
 use Rattle.algebra.proofs.MasseyStep.{shift, State, start, step-same}
 use Rattle.algebra.proofs.MasseyStep.{discrepancy as algebra-discrepancy}
 use Rattle.algebra.proofs.MasseyStep.{step-kept as algebra-kept, step-changed as algebra-changed}
-use Rattle.bridge.proofs.Searches.{not-false, least-none, least-some}
 use Rattle.bridge.proofs.Interpretation.{IsField, inRange-isField, element-add, element-mul}
-use Rattle.bridge.proofs.Interpretation.{element-negative, element-nonzero, reciprocal}
-use Rattle.bridge.proofs.Interpretation.{reciprocal-below}
-use Rattle.bridge.proofs.Interpretation.{number-mul-reciprocal}
+use Rattle.bridge.proofs.Interpretation.{element-negative, element-nonzero}
 use Rattle.bridge.proofs.Interpretation.{add-below, mul-below, size-two}
 use Rattle.bridge.proofs.Polynomials.{Poly, polyRing, poly, poly-nil, poly-one, poly-plus}
 use Rattle.bridge.proofs.Polynomials.{poly-scale, coefficient-poly, length-scale, elements-nil}
@@ -56,8 +45,7 @@ use Rattle.bridge.proofs.Polynomials.{elements-getD, getD-elements, pol
 use Rattle.bridge.proofs.Polynomials.{length-degree, leading-length, leading-monic}
 use Rattle.bridge.proofs.Actions.{sequence, element-act}
 use Rattle.bridge.proofs.Actions.{known-getD}
-use Rattle.bridge.proofs.Fitting.{algebra-fits, fit-least, least-leastDegree, free-prime}
-use Rattle.bridge.proofs.Fitting.{free-answer}
+use Rattle.bridge.proofs.Fitting.{algebra-fits, fit-least, least-leastDegree}
 use Rattle.bridge.proofs.Padding.{pad, getD-pad, length-pad, pad-split}
 use Rattle.bridge.proofs.MasseySteps.{MasseyState, polynomialOf, discrepancy, correction, kept}
 use Rattle.bridge.proofs.MasseySteps.{changed, correctionAt, keptState, changedState, masseyStep}
@@ -78,7 +66,7 @@ module _ {F : Field} (I : IsField F) where
   infixl 60 _⊞_
   infixl 70 _⊠_
   infix 80 ⊟_
-  abbrev x^ : ℕ → Poly I
+  abbrev pub x^ : ℕ → Poly I
   x^ n = power (polyRing I) (X ring (field .discrete)) n
 
   -- zeros after a list change nothing
@@ -95,25 +83,25 @@ module _ {F : Field} (I : IsField F) where
 
   -- f + c·x^s·g and x^s·f + c·g, below the leading 1 and with it
   module _ (c s : ℕ) (f g : List ℕ) where
-    abbrev C : Poly I
-    C = constant ring (field .discrete) (element c)
+    abbrev pub scalar : Poly I
+    scalar = constant ring (field .discrete) (element c)
 
-    poly-sum : (a b : List ℕ) → poly I (plus F a (scale F c b)) ≡ poly I a ⊞ C ⊠ poly I b
+    poly-sum : (a b : List ℕ) → poly I (plus F a (scale F c b)) ≡ poly I a ⊞ scalar ⊠ poly I b
     poly-sum a b = poly-plus I a (scale F c b) ∙ ap (_⊞_ (poly I a)) (poly-scale I c b)
 
     poly-kept :
         s ≤ length f
         → length g ≤ length f - s
-        → poly I (kept F c s f g) ≡ poly I f ⊞ x^ s ⊠ (C ⊠ poly I g)
+        → poly I (kept F c s f g) ≡ poly I f ⊞ x^ s ⊠ (scalar ⊠ poly I g)
     unfolding kept
     poly-kept l h =
         poly-append I (take s f) (plus F (drop s f) (scale F c (pad (length f - s) g)))
         ∙ ap₂ (λ n u. poly I (take s f) ⊞ x^ n ⊠ u) (length-take-le s f l)
         (poly-sum (drop s f) (pad (length f - s) g)
-        ∙ ap (λ u. poly I (drop s f) ⊞ C ⊠ u) (poly-pad (length f - s) g h))
+        ∙ ap (λ u. poly I (drop s f) ⊞ scalar ⊠ u) (poly-pad (length f - s) g h))
         ∙ solve (polyRing I) 5 (λ a x b c g. a :+ x :* (b :+ c :* g) := a :+ x :* b :+ x :* (c :* g)) refl
-        (poly I (take s f)) (x^ s) (poly I (drop s f)) C (poly I g)
-        ∙ ap (λ u. u ⊞ x^ s ⊠ (C ⊠ poly I g)) (sym whole)
+        (poly I (take s f)) (x^ s) (poly I (drop s f)) scalar (poly I g)
+        ∙ ap (λ u. u ⊞ x^ s ⊠ (scalar ⊠ poly I g)) (sym whole)
       where
         whole : poly I f ≡ poly I (take s f) ⊞ x^ s ⊠ poly I (drop s f)
         whole =
@@ -122,7 +110,7 @@ module _ {F : Field} (I : IsField F) where
             ∙ ap (λ n. poly I (take s f) ⊞ x^ n ⊠ poly I (drop s f)) (length-take-le s f l)
 
     poly-changed :
-        length g ≤ s + length f → poly I (changed F c s f g) ≡ x^ s ⊠ poly I f ⊞ C ⊠ poly I g
+        length g ≤ s + length f → poly I (changed F c s f g) ≡ x^ s ⊠ poly I f ⊞ scalar ⊠ poly I g
     unfolding changed
     poly-changed h =
         poly-append I (scale F c (pad s g)) (plus F f (scale F c (pad (length f) (drop s g))))
@@ -131,8 +119,8 @@ module _ {F : Field} (I : IsField F) where
         (poly-sum f (pad (length f) (drop s g))))
         ∙ solve (polyRing I) 5 (λ a x f c b. c :* a :+ x :* (f :+ c :* b) := x :* f :+ c :* (a :+ x :* b))
         refl
-        (poly I (pad s g)) (x^ s) (poly I f) C (poly I (pad (length f) (drop s g)))
-        ∙ ap (λ u. x^ s ⊠ poly I f ⊞ C ⊠ u) (sym whole)
+        (poly I (pad s g)) (x^ s) (poly I f) scalar (poly I (pad (length f) (drop s g)))
+        ∙ ap (λ u. x^ s ⊠ poly I f ⊞ scalar ⊠ u) (sym whole)
       where
         whole : poly I g ≡ poly I (pad s g) ⊞ x^ s ⊠ poly I (pad (length f) (drop s g))
         whole =
@@ -142,26 +130,26 @@ module _ {F : Field} (I : IsField F) where
             ∙ ap (λ n. poly I (pad s g) ⊞ x^ n ⊠ poly I (pad (length f) (drop s g))) (length-pad s g)
 
     -- with the leading 1
-    lead-kept :
+    pub lead-kept :
         s ≤ length f
         → length g ≤ length f - s
-        → poly I (kept F c s f g ++ (1 ∷ [])) ≡ poly I (f ++ (1 ∷ [])) ⊞ x^ s ⊠ (C ⊠ poly I g)
+        → poly I (kept F c s f g ++ (1 ∷ [])) ≡ poly I (f ++ (1 ∷ [])) ⊞ x^ s ⊠ (scalar ⊠ poly I g)
     lead-kept l h =
         poly-append I (kept F c s f g) (1 ∷ [])
         ∙ ap₂ (λ u n. u ⊞ x^ n ⊠ poly I (1 ∷ [])) (poly-kept l h) (length-kept F c s f g l)
-        ∙ add-right-comm (polyRing I) (poly I f) (x^ s ⊠ (C ⊠ poly I g)) (x^ (length f) ⊠ poly I (1 ∷ []))
-        ∙ ap (λ u. u ⊞ x^ s ⊠ (C ⊠ poly I g)) (sym (poly-append I f (1 ∷ [])))
+        ∙ add-right-comm (polyRing I) (poly I f) (x^ s ⊠ (scalar ⊠ poly I g)) (x^ (length f) ⊠ poly I (1 ∷ []))
+        ∙ ap (λ u. u ⊞ x^ s ⊠ (scalar ⊠ poly I g)) (sym (poly-append I f (1 ∷ [])))
 
     lead-changed :
         length g ≤ s + length f
-        → poly I (changed F c s f g ++ (1 ∷ [])) ≡ x^ s ⊠ poly I (f ++ (1 ∷ [])) ⊞ C ⊠ poly I g
+        → poly I (changed F c s f g ++ (1 ∷ [])) ≡ x^ s ⊠ poly I (f ++ (1 ∷ [])) ⊞ scalar ⊠ poly I g
     lead-changed h =
         poly-append I (changed F c s f g) (1 ∷ [])
         ∙ ap₂ (λ u n. u ⊞ n ⊠ poly I (1 ∷ [])) (poly-changed h)
         (ap x^ (length-changed F c s f g) ∙ power-add (polyRing I) (X ring (field .discrete)) s (length f))
         ∙ solve (polyRing I) 5 (λ x f g y u. x :* f :+ g :+ x :* y :* u := x :* (f :+ y :* u) :+ g) refl
-        (x^ s) (poly I f) (C ⊠ poly I g) (x^ (length f)) (poly I (1 ∷ []))
-        ∙ ap (λ u. x^ s ⊠ u ⊞ C ⊠ poly I g) (sym (poly-append I f (1 ∷ [])))
+        (x^ s) (poly I f) (scalar ⊠ poly I g) (x^ (length f)) (poly I (1 ∷ []))
+        ∙ ap (λ u. x^ s ⊠ u ⊞ scalar ⊠ poly I g) (sym (poly-append I f (1 ∷ [])))
 
   -- The discrepancy and the factor −d/b
   open Ring ring using (0#, 1#, _⊕_, _⊗_, ⊖_)
@@ -396,44 +384,11 @@ module _ {F : Field} (I : IsField F) (inverse : ℕ → ℕ) (v : Inverts F inve
   pub massey-least : leastDegree F ts ≡ some (masseyDegree F inverse ts)
   massey-least = least-leastDegree I (fit-least I ts (massey-right (length ts) .state .shortest))
 
--- The free way
+-- The figures of the free way
 abbrev pub InvertsPrimes : (Field → ℕ → ℕ) → Type 0
 InvertsPrimes inverse = (p : ℕ) → T (primeInRange p) → Inverts (prime p) (inverse (prime p))
 
-unfoldable pub masseyChoice : (Field → ℕ → ℕ) → Choice
-masseyChoice inverse p ts = masseyPolynomial (prime p) (inverse (prime p)) ts
-
 module _ (inverse : Field → ℕ → ℕ) (v : InvertsPrimes inverse) (p : ℕ) (ts : List ℕ) where
-  pub massey-chosen : ChosenFits (masseyChoice inverse) p ts
-  unfolding masseyChoice notPrime
-  massey-chosen h _ _ e l _ =
-      let q = not-false (primeInRange p) h in
-      let I = inRange-isField p q in
-      subst (λ n. Fits (prime p) ts n (masseyChoice inverse p ts))
-      (Option·some-injective _ e (sym (massey-least I (inverse (prime p)) (v p q) ts) ∙ l))
-      (massey-fits I (inverse (prime p)) (v p q) ts)
-
-  pub massey-answer :
-      (answer work : ℕ)
-      → Passes (freeTable p ts answer work)
-      → rateFree (masseyChoice inverse) p ts answer work
-      ≡ answered
-      (record {
-        figures = record {
-          degree = masseyDegree (prime p) (inverse (prime p)) ts;
-          unique = isUnique ts (masseyDegree (prime p) (inverse (prime p)) ts);
-        };
-        polynomial = masseyPolynomial (prime p) (inverse (prime p)) ts;
-      })
-  unfolding masseyChoice
-  massey-answer answer work h =
-      let q = free-prime p ts answer work h in
-      let I = inRange-isField p q in
-      free-answer p ts answer work (masseyChoice inverse) h
-      (massey-least I (inverse (prime p)) (v p q) ts)
-      (massey-fits I (inverse (prime p)) (v p q) ts)
-      (λ _. refl)
-
   pub massey-reading :
       T (primeInRange p)
       → freeFigures (prime p) ts
@@ -446,27 +401,3 @@ module _ (inverse : Field → ℕ → ℕ) (v : InvertsPrimes inverse) (p : ℕ)
   massey-reading q =
       ap (mapOption (λ e. record { degree = e; unique = isUnique ts e }))
       (massey-least (inRange-isField p q) (inverse (prime p)) (v p q) ts)
-
--- Some choice fits on every input: that of the model, with inverses found by trying all numbers.
-tried : Field → ℕ → ℕ
-tried F a = elim (least (F .size) (λ b. eqb ((F .mul) a b) 1)) [ none ↦ 0 | some b ↦ b ]
-
-tried-inverts : InvertsPrimes tried
-unfolding tried
-tried-inverts p q a l h = go (least (prime p .size) (λ b. eqb ((prime p .mul) a b) 1)) refl
-  where
-    go :
-        (o : Option ℕ)
-        → least (prime p .size) (λ b. eqb ((prime p .mul) a b) 1) ≡ o
-        → (prime p .mul) a (elim o [ none ↦ 0 | some b ↦ b ]) ≡ 1
-    go none e =
-        let I = inRange-isField p q in
-        absurd
-        (least-none (prime p .size) (λ b. eqb ((prime p .mul) a b) 1) e (reciprocal I a)
-        (le-of-lt (reciprocal-below I a))
-        (subst (λ n. T (eqb n 1)) (sym (number-mul-reciprocal I l h)) (eqb-refl 1)))
-    go (some b) e =
-        eqb→eq _ _ (least-some (prime p .size) (λ b. eqb ((prime p .mul) a b) 1) e .1 .holds)
-
-pub choice-exists : (pick : Choice) × ((p : ℕ) (ts : List ℕ) → ChosenFits pick p ts)
-choice-exists = (masseyChoice tried, λ p ts. massey-chosen tried tried-inverts p ts)

@@ -1,7 +1,6 @@
 // The free way for programs in other languages.
 use meaning::FreeRating;
 use refusals::numbering::refusal_number;
-ghost use Rattle.massey.specs.Shortest.{freeChoice};
 ghost use Rattle.meaning.specs.Exports.{FreeExported};
 
 // Rates known terms with no factor named: leaves the degree, and 1 for the word `one` or 0 for `some`.
@@ -14,7 +13,7 @@ pub extern "C" fn rater_rate_free(
     degree: &mut u64,
     unique: &mut u8,
 ) -> u64
-    ensures { λ r. ⌜ FreeExported freeChoice p (now (terms .entry)) (now (answer .entry)) (now (work .entry))
+    ensures { λ r. ⌜ FreeExported p (now (terms .entry)) (now (answer .entry)) (now (work .entry))
         (now (degree .entry)) (now (unique .entry)) r (now (answer .exit)) (now (work .exit))
         (now (degree .exit)) (now (unique .exit)) ⌝ }
 {

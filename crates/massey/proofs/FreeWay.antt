@@ -1,13 +1,12 @@
 -- The shortest recurrence is the answer of the free way.
 --
 --   inverts-primes   == the inverse of `arith` inverts in GF(p) for every prime in range
---   free-chosen      == the choice of the program fits, wherever the free way answers `some`
 --   free-accepted    == what is known where no refusal of the free way holds
 --   free-answered, free-lent == the answer of the free way, and the lent bytes after it
 --   free-told         == the contract of the public call, which tells the degree and its word
 --
 -- Assumes nothing.
-use Prim.Native.Nat.{ℕ, _*_, _≤_, _<_}
+use Prim.Native.Nat.{ℕ, _*_, _≤_}
 use mathlib.Core.Path.{_≡_, sym, ap, subst, _∙_}
 use mathlib.Core.Bool.{false}
 use mathlib.Core.List.{List}
@@ -21,26 +20,23 @@ use Rattle.meaning.specs.Field.{prime, primeInRange}
 use Rattle.meaning.specs.Conditions.{lentTooShort}
 use Rattle.meaning.specs.Result.{Result, answered, firstOf, mapResult, Rated, figuresOf, answerAfter}
 use Rattle.meaning.specs.Result.{workAfter}
-use Rattle.meaning.specs.Free.{isUnique, FreeFigures, ChosenFits, freeTable, rateFree}
+use Rattle.meaning.specs.Free.{isUnique, FreeFigures, freeTable, rateFree}
 use Rattle.meaning.specs.Answers.{toldFree}
 use Rattle.meaning.specs.Calls.{LentAfter, FreeCall}
 use Rattle.meaning.proofs.Passes.{firstOf-passes}
 use Rattle.bridge.proofs.Searches.{false-T, or-false}
 use Rattle.bridge.proofs.Accepted.{prime-accepted, count-accepted}
 use Rattle.bridge.proofs.Interpretation.{inRange-isField}
-use Rattle.bridge.proofs.MasseySteps.{masseyPolynomial}
-use Rattle.bridge.proofs.MasseyAnswer.{InvertsPrimes, massey-chosen, massey-answer}
+use Rattle.bridge.proofs.MasseyAnswer.{InvertsPrimes}
+use Rattle.bridge.proofs.MasseyFirst.{masseyFirst, massey-answer}
 use Rattle.arith.specs.declared.field.GaloisField.{GaloisField}
 use Rattle.arith.specs.Represented.{fieldOf, FieldOfPrime}
 use Rattle.arith.specs.Inverse.{inverse}
 use Rattle.arith.proofs.Inverse.{inverse-product}
-use Rattle.massey.specs.Shortest.{ShortestRecurrence, freeChoice}
+use Rattle.massey.specs.Shortest.{ShortestRecurrence}
 
 pub inverts-primes : InvertsPrimes inverse
 inverts-primes p q a l h = inverse-product (inRange-isField p q) l h
-
-pub free-chosen : (p : ℕ) (ts : List ℕ) → ChosenFits freeChoice p ts
-free-chosen = massey-chosen inverse inverts-primes
 
 -- What the refusals of the free way have let pass
 pub record FreeAccepted (p : ℕ) (ts : List ℕ) (answer work : ℕ) : Type 0 where
@@ -77,17 +73,17 @@ module _ {p : ℕ} {field : GaloisField} {ts answer work : List ℕ} {L : ℕ} {
       answered
       (record {
         figures = record { degree = d; unique = isUnique ts d };
-        polynomial = masseyPolynomial (prime p) (inverse (prime p)) ts;
+        polynomial = masseyFirst (prime p) (inverse (prime p)) ts;
       })
 
-  pub free-answered : rateFree freeChoice p ts (length answer) (length work) ≡ ratingOf L
+  pub free-answered : rateFree p ts (length answer) (length work) ≡ ratingOf L
   free-answered =
       massey-answer inverse inverts-primes p ts (length answer) (length work)
       (firstOf-passes (freeTable p ts (length answer) (length work)) e)
       ∙ ap ratingOf (sym (shortest .degree))
 
   pub free-lent :
-      LentAfter (rateFree freeChoice p ts (length answer) (length work)) answer work answer′ work′
+      LentAfter (rateFree p ts (length answer) (length work)) answer work answer′ work′
   unfolding answerAfter workAfter
   free-lent =
       subst (λ r. LentAfter r answer work answer′ work′) (sym free-answered)
@@ -96,11 +92,7 @@ module _ {p : ℕ} {field : GaloisField} {ts answer work : List ℕ} {L : ℕ} {
   pub free-told :
       {r : FreeRating}
       → toldFree r ≡ answered (record { degree = L; unique = leb (2 * L) (length ts) })
-      → FreeCall freeChoice p ts answer work r answer′ work′
+      → FreeCall p ts answer work r answer′ work′
   unfolding figuresOf mapResult isUnique
   free-told t =
-      record {
-        rating = t ∙ sym (ap figuresOf free-answered);
-        chosen = free-chosen p ts;
-        lent = free-lent;
-      }
+      record { rating = t ∙ sym (ap figuresOf free-answered); lent = free-lent }

@@ -1,3 +1,4 @@
 pub mod Lent
 pub mod Passing
 pub mod FreeWay
+pub mod Reducing

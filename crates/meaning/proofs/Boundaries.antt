@@ -19,7 +19,7 @@ use Rattle.meaning.specs.Irreducibility.{askIrreducible}
 use Rattle.meaning.specs.Route.{boxOf}
 use Rattle.meaning.specs.File.{rateFile}
 use Rattle.meaning.proofs.Computed.{computed}
-use Rattle.meaning.proofs.Rows.{numberIn, box, field, mode, factor, term, end, x+1, x²+x+1, anyChoice}
+use Rattle.meaning.proofs.Rows.{numberIn, box, field, mode, factor, term, end, x+1, x²+x+1}
 
 -- a list of degree d whose leading coefficient is 0: it meets 11 where 10 lets its degree pass
 abbrev ofDegree : ℕ → Polynomial
@@ -35,7 +35,7 @@ abbrev continued : Polynomial → List ℕ → ℕ → ℕ → Option ℕ
 continued g start place size = numberIn (continueSequence 2 g start place (replicate size 0))
 
 abbrev ofFile : List ℕ → Option ℕ
-ofFile file = numberIn (rateFile anyChoice file 4097 8192)
+ofFile file = numberIn (rateFile file 4097 8192)
 
 -- a file whose header names the field GF(2) and the mode m
 abbrev headed : ℕ → List ℕ → List ℕ
@@ -74,8 +74,8 @@ pub record Boundaries : Type 0 where
   pub largestTerm : period 251 (250 ∷ []) ≡ some 17
   pub termEqual : period 251 (251 ∷ []) ≡ some 8
   pub lastTermEqual : period 251 (250 ∷ 251 ∷ []) ≡ some 8
-  pub freeTermBelow : numberIn (rateFree anyChoice 3 (2 ∷ []) 4097 8192) ≡ none
-  pub freeTermEqual : numberIn (rateFree anyChoice 3 (3 ∷ []) 4097 8192) ≡ some 8
+  pub freeTermBelow : numberIn (rateFree 3 (2 ∷ []) 4097 8192) ≡ none
+  pub freeTermEqual : numberIn (rateFree 3 (3 ∷ []) 4097 8192) ≡ some 8
   -- 9: one to eight factors; that their number passes shows in reaching 10
   pub noFactor : numberIn (rateSet 2 [] [] (0 ∷ []) 4097 8192) ≡ some 9
   pub eightFactors : numberIn (rateSet 2 (replicate 8 (1 ∷ [])) [] (0 ∷ []) 4097 8192) ≡ some 10
@@ -131,13 +131,13 @@ pub record Boundaries : Type 0 where
   pub xOneMore : numberIn (ratePortion 2 (0 ∷ 1 ∷ []) 2 (1 ∷ 1 ∷ 1 ∷ []) 4097 8192) ≡ some 17
   pub secondFurtherTerm : numberIn (ratePortion 2 x+1 1 (1 ∷ 1 ∷ 0 ∷ []) 4097 8192) ≡ some 17
   -- free way: `one` where 2L is at most m, `some` beyond; on zeros the degree is 0; the degree may be m
-  pub oneAtTwice : figuresOf (rateFree anyChoice 2 (1 ∷ 0 ∷ []) 4097 8192)
+  pub oneAtTwice : figuresOf (rateFree 2 (1 ∷ 0 ∷ []) 4097 8192)
       ≡ answered (record { degree = 1; unique = true })
-  pub someAtTwiceLessOne : figuresOf (rateFree anyChoice 2 (1 ∷ []) 4097 8192)
+  pub someAtTwiceLessOne : figuresOf (rateFree 2 (1 ∷ []) 4097 8192)
       ≡ answered (record { degree = 1; unique = false })
-  pub freeZeros : figuresOf (rateFree anyChoice 5 (0 ∷ 0 ∷ 0 ∷ []) 4097 8192)
+  pub freeZeros : figuresOf (rateFree 5 (0 ∷ 0 ∷ 0 ∷ []) 4097 8192)
       ≡ answered (record { degree = 0; unique = true })
-  pub degreeAsTerms : figuresOf (rateFree anyChoice 2 (0 ∷ 0 ∷ 1 ∷ []) 4097 8192)
+  pub degreeAsTerms : figuresOf (rateFree 2 (0 ∷ 0 ∷ 1 ∷ []) 4097 8192)
       ≡ answered (record { degree = 3; unique = false })
   -- continuation: 1 to 4,096 places to fill, a degree up to 4,096, as many starting terms as the degree
   pub placeAtEnd : continued x+1 (1 ∷ []) 3 3 ≡ some 7

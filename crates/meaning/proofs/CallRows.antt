@@ -4,10 +4,9 @@
 --   CallRows  == the table of answers that meet their contracts      call-rows  == every row holds
 -- Assumes nothing.
 use Prim.Native.Nat.{ℕ}
-use mathlib.Core.Path.{_≡_, refl, ap, subst, _∙_}
-use mathlib.Core.Bool.{Bool, true, false, true≢false}
+use mathlib.Core.Path.{_≡_, refl}
+use mathlib.Core.Bool.{true, false}
 use mathlib.Core.List.{List, [], _∷_, _++_}
-use mathlib.Core.Option.{Option, none, some}
 use lib.ListN.{replicate}
 use lib.Dec.{eqb}
 use borrow.Author.Tests.{eqb-false}
@@ -19,11 +18,6 @@ use Rattle.meaning.specs.declared.FreeRating.{FreeRating}
 use Rattle.meaning.specs.declared.Filling.{Filling}
 use Rattle.meaning.specs.declared.FileOutcome.{FileOutcome}
 use Rattle.meaning.specs.declared.RecordOutcome.{RecordOutcome}
-use Rattle.meaning.specs.Result.{Result, refused, answered}
-use Rattle.meaning.specs.Free.{Choice, isUnique, Fits, ChosenFits}
-use Rattle.meaning.specs.Field.{prime}
-use Rattle.meaning.specs.Route.{RouteRecord, Mode, periodMode, setMode, freeMode, modeOf, byteOf}
-use Rattle.meaning.specs.File.{termsOf, FileChosenFits}
 use Rattle.meaning.specs.Calls.{PrimeCall, IrreducibleCall, PeriodCall, PortionCall, SetCall, FreeCall}
 use Rattle.meaning.specs.Calls.{ContinueCall, FileCall, RecordCall, ProgramCall}
 use Rattle.meaning.specs.Print.{text}
@@ -39,10 +33,6 @@ work = replicate 8194 9
 
 abbrev pub cleared : List ℕ
 cleared = replicate 8192 0 ++ (9 ∷ 9 ∷ [])
-
--- x², a polynomial of row I
-abbrev pub square : Choice
-square p ts = 0 ∷ 0 ∷ 1 ∷ []
 
 -- the rows A, B, H and I as files
 abbrev pub fileA : List ℕ
@@ -94,15 +84,15 @@ pub record CallRows : Type 0 where
       (record { outcome = SetOutcome.Refused Refusal.FactorCount; powers = eightZeros })
       answer
       work
-  pub freeH : FreeCall square 2 (1 ∷ 0 ∷ []) answer work
+  pub freeH : FreeCall 2 (1 ∷ 0 ∷ []) answer work
       (FreeRating.Unique 1)
       (0 ∷ 1 ∷ replicate 4097 7)
       cleared
-  pub freeI : FreeCall square 2 (0 ∷ 1 ∷ []) answer work
+  pub freeI : FreeCall 2 (0 ∷ 1 ∷ []) answer work
       (FreeRating.Several 2)
       (0 ∷ 0 ∷ 1 ∷ replicate 4096 7)
       cleared
-  pub freeSixteen : FreeCall square 2 (0 ∷ 1 ∷ []) answer []
+  pub freeSixteen : FreeCall 2 (0 ∷ 1 ∷ []) answer []
       (FreeRating.Refused Refusal.LentTooShort)
       answer
       []
@@ -112,98 +102,35 @@ pub record CallRows : Type 0 where
   pub continueSeven : ContinueCall 2 x²+x+1 (0 ∷ 1 ∷ []) (9 ∷ 9 ∷ []) 2
       (Filling.Refused Refusal.CountOutOfRange)
       (9 ∷ 9 ∷ [])
-  pub ratedB : FileCall square fileB answer work
+  pub ratedB : FileCall fileB answer work
       (record { sender = 7; outcome = FileOutcome.Powers 4 4 1; powers = 4 ∷ 0 ∷ 0 ∷ 0 ∷ 0 ∷ 0 ∷ 0 ∷ 0 ∷ [] })
       (1 ∷ 0 ∷ 0 ∷ 0 ∷ 1 ∷ replicate 4094 7)
       cleared
-  pub ratedA : FileCall square fileA answer work
+  pub ratedA : FileCall fileA answer work
       (record { sender = 7; outcome = FileOutcome.Powers 12 18 1; powers = 4 ∷ replicate 7 0 })
       (1 ∷ 0 ∷ 0 ∷ 0 ∷ 1 ∷ 0 ∷ 0 ∷ 0 ∷ 0 ∷ 0 ∷ 0 ∷ 0 ∷ 1 ∷ replicate 4086 7)
       cleared
-  pub ratedH : FileCall square fileH answer work
+  pub ratedH : FileCall fileH answer work
       (record { sender = 7; outcome = FileOutcome.Unique 1 2; powers = eightZeros })
       ((0 ∷ 1 ∷ []) ++ replicate 4097 7)
       cleared
-  pub ratedI : FileCall square fileI answer work
+  pub ratedI : FileCall fileI answer work
       (record { sender = 7; outcome = FileOutcome.Several 2 2; powers = eightZeros })
       (0 ∷ 0 ∷ 1 ∷ replicate 4096 7)
       cleared
-  pub ratedFour : FileCall square (box 7 ++ end) answer work
+  pub ratedFour : FileCall (box 7 ++ end) answer work
       (record { sender = 7; outcome = FileOutcome.Refused Refusal.RecordOutOfPlace; powers = eightZeros })
       answer
       work
   pub recordTwo : RecordCall fileB 2 (RecordOutcome.Found 3) (1 ∷ [])
   pub recordRefused : RecordCall (box 7) 0 (RecordOutcome.Refused Refusal.FileCutShort) []
-  pub programA : ProgramCall square fileA
+  pub programA : ProgramCall fileA
       (text "box result density powers\n7 ok 12/18 4\npoly 1 0 0 0 1 0 0 0 0 0 0 0 1\n")
-  pub programH : ProgramCall square fileH (text "box result density powers\n7 ok 1/2 one\npoly 0 1\n")
-
-is-refused : {A : Type 0} → Result A → Bool
-is-refused (refused n) = true
-is-refused (answered a) = false
+  pub programH : ProgramCall fileH (text "box result density powers\n7 ok 1/2 one\npoly 0 1\n")
 
 -- two numbers that differ
 pub differ : (m n : ℕ) → m ≡ n → eqb m n ≡ false → ⊥
 differ m n e h = eqb-false m n h e
-
--- the choice x² fits row I, the only one of these calls that answers `some`
-some-number : (m n : ℕ) → _≡_ {A = Option ℕ} (some m) (some n) → m ≡ n
-some-number m n e = cc
-
-square-H : ChosenFits square 2 (1 ∷ 0 ∷ [])
-unfolding computed
-square-H h6 h7 h8 e found u =
-    absurd (true≢false (ap (λ (n : ℕ). isUnique (1 ∷ 0 ∷ []) n) (some-number 1 e found) ∙ u))
-
-square-I : ChosenFits square 2 (0 ∷ 1 ∷ [])
-unfolding computed
-square-I h6 h7 h8 e found u =
-    subst (λ (n : ℕ). Fits (prime 2) (0 ∷ 1 ∷ []) n (0 ∷ 0 ∷ 1 ∷ [])) (some-number 2 e found)
-    (record { monic = tt; ofDegree = refl; annihilates = tt })
-
-records-same : (rs ss : List RouteRecord) → answered rs ≡ answered ss → rs ≡ ss
-records-same rs ss e = cc
-
-mode-number : Option Mode → ℕ
-mode-number none = 0
-mode-number (some periodMode) = 1
-mode-number (some setMode) = 2
-mode-number (some freeMode) = 3
-
--- a file in another mode leaves no choice
-square-fileA : FileChosenFits square fileA
-unfolding computed mode-number
-square-fileA rs found free =
-    absurd
-    (differ 2 3
-    (ap (λ (ss : List RouteRecord). mode-number (modeOf (byteOf 3 ss))) (records-same _ rs found)
-    ∙ ap mode-number free)
-    refl)
-
-square-fileB : FileChosenFits square fileB
-unfolding computed mode-number
-square-fileB rs found free =
-    absurd
-    (differ 1 3
-    (ap (λ (ss : List RouteRecord). mode-number (modeOf (byteOf 3 ss))) (records-same _ rs found)
-    ∙ ap mode-number free)
-    refl)
-
-square-fileH : FileChosenFits square fileH
-unfolding computed
-square-fileH rs found free =
-    subst (λ (ss : List RouteRecord). ChosenFits square (byteOf 2 ss) (termsOf ss)) (records-same _ rs found)
-    square-H
-
-square-fileI : FileChosenFits square fileI
-unfolding computed
-square-fileI rs found free =
-    subst (λ (ss : List RouteRecord). ChosenFits square (byteOf 2 ss) (termsOf ss)) (records-same _ rs found)
-    square-I
-
-square-refused : FileChosenFits square (box 7 ++ end)
-unfolding computed is-refused
-square-refused rs found = absurd (true≢false (ap is-refused found))
 
 pub call-rows : CallRows
 unfolding computed
@@ -223,11 +150,11 @@ call-rows =
       setNine =
           record { rating = refl; powers = refl; lent = record { answerBytes = refl; workBytes = refl } };
       freeH =
-          record { rating = refl; chosen = square-H; lent = record { answerBytes = refl; workBytes = refl } };
+          record { rating = refl; lent = record { answerBytes = refl; workBytes = refl } };
       freeI =
-          record { rating = refl; chosen = square-I; lent = record { answerBytes = refl; workBytes = refl } };
+          record { rating = refl; lent = record { answerBytes = refl; workBytes = refl } };
       freeSixteen =
-          record { rating = refl; chosen = square-I; lent = record { answerBytes = refl; workBytes = refl } };
+          record { rating = refl; lent = record { answerBytes = refl; workBytes = refl } };
       continueN = record { filling = refl; bufferBytes = refl };
       continueSeven = record { filling = refl; bufferBytes = refl };
       ratedB =
@@ -235,7 +162,6 @@ call-rows =
             sender = refl;
             rating = refl;
             powers = refl;
-            chosen = square-fileB;
             lent = record { answerBytes = refl; workBytes = refl };
           };
       ratedA =
@@ -243,7 +169,6 @@ call-rows =
             sender = refl;
             rating = refl;
             powers = refl;
-            chosen = square-fileA;
             lent = record { answerBytes = refl; workBytes = refl };
           };
       ratedH =
@@ -251,7 +176,6 @@ call-rows =
             sender = refl;
             rating = refl;
             powers = refl;
-            chosen = square-fileH;
             lent = record { answerBytes = refl; workBytes = refl };
           };
       ratedI =
@@ -259,7 +183,6 @@ call-rows =
             sender = refl;
             rating = refl;
             powers = refl;
-            chosen = square-fileI;
             lent = record { answerBytes = refl; workBytes = refl };
           };
       ratedFour =
@@ -267,11 +190,10 @@ call-rows =
             sender = refl;
             rating = refl;
             powers = refl;
-            chosen = square-refused;
             lent = record { answerBytes = refl; workBytes = refl };
           };
       recordTwo = record { found = refl; part = refl };
       recordRefused = record { found = refl; part = refl };
-      programA = record { lines = refl; chosen = square-fileA };
-      programH = record { lines = refl; chosen = square-fileH };
+      programA = record { lines = refl };
+      programH = record { lines = refl };
     }

@@ -38,7 +38,7 @@ use Rattle.meaning.specs.Search.{mapOption, holdsForAll}
 use Rattle.meaning.specs.Route.{lookUp}
 use Rattle.meaning.specs.Result.{Result, refused, answered, Rated}
 use Rattle.meaning.specs.Power.{PowerFigures}
-use Rattle.meaning.specs.Free.{FreeFigures, Choice}
+use Rattle.meaning.specs.Free.{FreeFigures}
 use Rattle.meaning.specs.Meter.{MeterModel, Holding}
 use Rattle.meaning.specs.Calls.{LentAfter, IrreducibleCall, PeriodCall, PortionCall, SetCall}
 use Rattle.meaning.specs.Calls.{FreeCall, StartCall, TermCall, ReadingCall, ContinueCall, FileCall}
@@ -272,9 +272,9 @@ set-call-determined {r = r} {s = s} c d =
     (λ i. record { outcome = outcomes i; powers = places i }, lent-determined (c .lent) (d .lent))
 
 pub free-call-determined :
-    {pick : Choice} {p : ℕ} {ts answer work a b w x : List ℕ} {r s : FreeRating}
-    → FreeCall pick p ts answer work r a w
-    → FreeCall pick p ts answer work s b x
+    {p : ℕ} {ts answer work a b w x : List ℕ} {r s : FreeRating}
+    → FreeCall p ts answer work r a w
+    → FreeCall p ts answer work s b x
     → (r ≡ s) × ((a ≡ b) × (w ≡ x))
 free-call-determined {r = r} {s = s} c d =
     (free-determined r s (c .rating ∙ sym (d .rating)), lent-determined (c .lent) (d .lent))
@@ -333,9 +333,9 @@ continue-call-determined {r = r} {s = s} c d =
     (filling-determined r s (c .filling ∙ sym (d .filling)), c .bufferBytes ∙ sym (d .bufferBytes))
 
 pub file-call-determined :
-    {pick : Choice} {input answer work a b w x : List ℕ} {r s : FileRating}
-    → FileCall pick input answer work r a w
-    → FileCall pick input answer work s b x
+    {input answer work a b w x : List ℕ} {r s : FileRating}
+    → FileCall input answer work r a w
+    → FileCall input answer work s b x
     → (r ≡ s) × ((a ≡ b) × (w ≡ x))
 file-call-determined {r = r} {s = s} c d =
     let senders = c .sender ∙ sym (d .sender) in

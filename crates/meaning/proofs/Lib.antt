@@ -9,6 +9,7 @@ pub mod Boundaries
 pub mod MultipleRows
 pub mod Orders
 pub mod MeterRows
+pub mod FirstFits
 pub mod Lines
 pub mod Lent
 pub mod Determined

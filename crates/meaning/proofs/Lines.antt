@@ -15,7 +15,7 @@ use Rattle.meaning.specs.Route.{readRecord}
 use Rattle.meaning.specs.Print.{text, printed}
 use Rattle.meaning.proofs.Computed.{computed}
 use Rattle.meaning.proofs.Rows.{box, field, mode, factor, record5, term, terms, stop, end}
-use Rattle.meaning.proofs.Rows.{x²+1, x²+x+1, anyChoice, caseA}
+use Rattle.meaning.proofs.Rows.{x²+1, x²+x+1, caseA}
 
 -- a file of box 7 over GF(2) in the mode m
 abbrev headed : ℕ → List ℕ → List ℕ
@@ -34,22 +34,22 @@ pub record Lines : Type 0 where
   pub degree0fillsZeros : continueSequence 2 (1 ∷ []) [] 1 (9 ∷ 9 ∷ 9 ∷ []) ≡ answered (9 ∷ 0 ∷ 0 ∷ [])
   -- the printed lines: case A as paper 01 shows it, a refusal, each mode, terms of kinds 5 and 6, the
   -- box of a bad file
-  pub printedA : printed anyChoice (caseA 3 (1 ∷ 1 ∷ []))
+  pub printedA : printed (caseA 3 (1 ∷ 1 ∷ []))
       ≡ text "box result density powers\n7 ok 12/18 4\npoly 1 0 0 0 1 0 0 0 0 0 0 0 1\n"
-  pub printedRefusal : printed anyChoice (caseA 2 (1 ∷ 0 ∷ []))
+  pub printedRefusal : printed (caseA 2 (1 ∷ 0 ∷ []))
       ≡ text "box result density powers\n7 refused 12\n"
-  pub printedB : printed anyChoice (headed 1 (factor 1 0 (1 ∷ []) ++ (terms (0 ∷ 0 ∷ 0 ∷ 1 ∷ []) ++ end)))
+  pub printedB : printed (headed 1 (factor 1 0 (1 ∷ []) ++ (terms (0 ∷ 0 ∷ 0 ∷ 1 ∷ []) ++ end)))
       ≡ text "box result density powers\n7 ok 4/4 4\npoly 1 0 0 0 1\n"
-  pub printedH : printed anyChoice (headed 3 (terms (1 ∷ 0 ∷ []) ++ end))
+  pub printedH : printed (headed 3 (terms (1 ∷ 0 ∷ []) ++ end))
       ≡ text "box result density powers\n7 ok 1/2 one\npoly 0 1\n"
-  pub printedI : printed (λ p ts. 0 ∷ 0 ∷ 1 ∷ []) (headed 3 (terms (0 ∷ 1 ∷ []) ++ end))
+  pub printedI : printed (headed 3 (terms (0 ∷ 1 ∷ []) ++ end))
       ≡ text "box result density powers\n7 ok 2/2 some\npoly 0 0 1\n"
-  pub printedSet : printed anyChoice
+  pub printedSet : printed
       (headed 2
       (factor 1 1 (1 ∷ []) ++ (stop ++ (factor 1 1 [] ++ (record5 (replicate 64 1) ++ (term 1 ++ end))))))
       ≡ text "box result density powers\n7 ok 1/65 1,0\npoly 1 1\n"
-  pub printedEmpty : printed anyChoice [] ≡ text "box result density powers\n0 refused 3\n"
-  pub printedBox : printed anyChoice (1 ∷ 0 ∷ 0 ∷ 1 ∷ 0 ∷ end)
+  pub printedEmpty : printed [] ≡ text "box result density powers\n0 refused 3\n"
+  pub printedBox : printed (1 ∷ 0 ∷ 0 ∷ 1 ∷ 0 ∷ end)
       ≡ text "box result density powers\n256 refused 4\n"
   -- the reader: records by number, a stop among them, the last, and beyond
   pub readBox : readRecord (caseA 3 (1 ∷ 1 ∷ [])) 0

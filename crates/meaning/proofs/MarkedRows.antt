@@ -5,8 +5,8 @@
 --   marked-rows  == the theorem: every row holds
 --
 -- Lists are written with the constant, or the first term, in front. The lent bytes are just long enough, but
--- for row D, which holds for every accepted factor, every number of zeros and all accepted lent bytes. Rows H
--- and I hold however the program chooses its polynomial; in H no choice is left. Assumes nothing.
+-- for row D, which holds for every accepted factor, every number of zeros and all accepted lent bytes.
+-- Assumes nothing.
 use Prim.Native.Nat.{ℕ, _≤_}
 use mathlib.Core.Path.{_≡_, refl}
 use mathlib.Core.Bool.{true, false}
@@ -18,7 +18,7 @@ use Rattle.meaning.specs.Conditions.{acceptedLent}
 use Rattle.meaning.specs.Power.{PowerFigures}
 use Rattle.meaning.specs.Period.{ratePeriod}
 use Rattle.meaning.specs.Portion.{ratePortion, rateSet, acceptedFactors}
-use Rattle.meaning.specs.Free.{Choice, rateFree}
+use Rattle.meaning.specs.Free.{rateFree}
 use Rattle.meaning.proofs.Computed.{computed}
 use Rattle.meaning.proofs.ZeroPeriod.{zeros, zero-period}
 
@@ -44,13 +44,10 @@ pub record MarkedRows : Type 0 where
   pub E : ratePeriod 3 (2 ∷ 1 ∷ []) (0 ∷ 1 ∷ 2 ∷ []) 4097 8192 ≡ powerAnswer 2 2 6 (1 ∷ 1 ∷ 1 ∷ [])
   pub F : ratePeriod 2 (1 ∷ 1 ∷ 1 ∷ []) (0 ∷ 0 ∷ 0 ∷ 1 ∷ []) 4097 8192 ≡ refused 17
   pub G : ratePortion 2 (1 ∷ 1 ∷ []) 2 (1 ∷ 0 ∷ []) 4097 8192 ≡ powerAnswer 2 2 2 (1 ∷ 0 ∷ 1 ∷ [])
-  pub H : (pick : Choice)
-      → rateFree pick 2 (1 ∷ 0 ∷ []) 4097 8192
+  pub H : rateFree 2 (1 ∷ 0 ∷ []) 4097 8192
       ≡ answered (record { figures = record { degree = 1; unique = true }; polynomial = 0 ∷ 1 ∷ [] })
-  pub I : (pick : Choice)
-      → rateFree pick 2 (0 ∷ 1 ∷ []) 4097 8192
-      ≡ answered
-      (record { figures = record { degree = 2; unique = false }; polynomial = pick 2 (0 ∷ 1 ∷ []) })
+  pub I : rateFree 2 (0 ∷ 1 ∷ []) 4097 8192
+      ≡ answered (record { figures = record { degree = 2; unique = false }; polynomial = 0 ∷ 0 ∷ 1 ∷ [] })
   pub J : ratePortion 2 (0 ∷ 1 ∷ []) 3 (1 ∷ 1 ∷ 0 ∷ []) 4097 8192 ≡ powerAnswer 2 2 0 (0 ∷ 0 ∷ 1 ∷ [])
   pub K : rateSet 2 ((1 ∷ 1 ∷ []) ∷ (1 ∷ 1 ∷ 1 ∷ []) ∷ []) (1 ∷ 1 ∷ []) (0 ∷ 1 ∷ 1 ∷ []) 4097 8192
       ≡ answered
@@ -68,8 +65,8 @@ marked-rows =
       E = refl;
       F = refl;
       G = refl;
-      H = λ pick. refl;
-      I = λ pick. refl;
+      H = refl;
+      I = refl;
       J = refl;
       K = refl;
       L = refl;

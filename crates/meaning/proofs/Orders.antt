@@ -17,7 +17,7 @@ use Rattle.meaning.specs.Irreducibility.{askIrreducible}
 use Rattle.meaning.specs.File.{rateFile}
 use Rattle.meaning.proofs.Computed.{computed}
 use Rattle.meaning.proofs.Rows.{numberIn, box, field, mode, factor, term, stop, end, x+1, x²+1}
-use Rattle.meaning.proofs.Rows.{x²+x+1, anyChoice, headed}
+use Rattle.meaning.proofs.Rows.{x²+x+1, headed}
 
 -- over GF(2): a coefficient that is no element, a leading coefficient that is not 1, a degree of 0
 abbrev badCoefficient : Polynomial
@@ -36,7 +36,7 @@ abbrev portion : ℕ → Polynomial → ℕ → List ℕ → Option ℕ
 portion p f v ts = numberIn (ratePortion p f v ts 4097 8192)
 
 abbrev ofFile : List ℕ → Option ℕ
-ofFile file = numberIn (rateFile anyChoice file 4097 8192)
+ofFile file = numberIn (rateFile file 4097 8192)
 
 pub record Orders : Type 0 where
   -- the period way: the lower number is given
@@ -67,9 +67,9 @@ pub record Orders : Type 0 where
   pub set15and16 : numberIn (rateSet 2 (x+1 ∷ []) (2 ∷ []) (0 ∷ []) 0 0) ≡ some 15
   pub set16and17 : numberIn (rateSet 2 (x+1 ∷ []) (1 ∷ []) (1 ∷ 0 ∷ []) 0 0) ≡ some 16
   -- the free way, the continuation, the question whether a polynomial is irreducible
-  pub free6and7 : numberIn (rateFree anyChoice 4 [] 4097 8192) ≡ some 6
-  pub free7and8 : numberIn (rateFree anyChoice 2 (replicate 4097 2) 4097 8192) ≡ some 7
-  pub free8and16 : numberIn (rateFree anyChoice 2 (2 ∷ []) 0 0) ≡ some 8
+  pub free6and7 : numberIn (rateFree 4 [] 4097 8192) ≡ some 6
+  pub free7and8 : numberIn (rateFree 2 (replicate 4097 2) 4097 8192) ≡ some 7
+  pub free8and16 : numberIn (rateFree 2 (2 ∷ []) 0 0) ≡ some 8
   pub continue6and7 : numberIn (continueSequence 4 x+1 (1 ∷ []) 0 []) ≡ some 6
   pub continue7and8 : numberIn (continueSequence 2 x+1 (2 ∷ []) 0 []) ≡ some 7
   pub continue8and10 : numberIn (continueSequence 2 (replicate 4098 0) (2 ∷ []) 0 (0 ∷ [])) ≡ some 8

@@ -16,48 +16,48 @@ use Rattle.meaning.specs.Route.{readRecord}
 use Rattle.meaning.specs.File.{rateFile}
 use Rattle.meaning.proofs.Computed.{computed}
 use Rattle.meaning.proofs.Rows.{numberIn, box, field, factor, term, terms, end, headed, x+1, x²+1}
-use Rattle.meaning.proofs.Rows.{x²+x+1, anyChoice}
+use Rattle.meaning.proofs.Rows.{x²+x+1}
 
 pub record Refusals : Type 0 where
   -- files
-  pub file1 : numberIn (rateFile anyChoice (replicate 16385 0) 4097 8192) ≡ some 1
-  pub file2 : numberIn (rateFile anyChoice (9 ∷ []) 4097 8192) ≡ some 2
-  pub file3 : numberIn (rateFile anyChoice ([]) 4097 8192) ≡ some 3
-  pub file4 : numberIn (rateFile anyChoice (field 2) 4097 8192) ≡ some 4
-  pub file5 : numberIn (rateFile anyChoice (headed 2 4 end) 4097 8192) ≡ some 5
-  pub file6 : numberIn (rateFile anyChoice (headed 4 3 (term 0 ++ end)) 4097 8192) ≡ some 6
-  pub file7 : numberIn (rateFile anyChoice (headed 2 3 end) 4097 8192) ≡ some 7
-  pub file8 : numberIn (rateFile anyChoice (headed 2 3 (term 2 ++ end)) 4097 8192) ≡ some 8
-  pub file10 : numberIn (rateFile anyChoice (headed 2 2 (factor 0 1 [] ++ (term 0 ++ end))) 4097 8192)
+  pub file1 : numberIn (rateFile (replicate 16385 0) 4097 8192) ≡ some 1
+  pub file2 : numberIn (rateFile (9 ∷ []) 4097 8192) ≡ some 2
+  pub file3 : numberIn (rateFile ([]) 4097 8192) ≡ some 3
+  pub file4 : numberIn (rateFile (field 2) 4097 8192) ≡ some 4
+  pub file5 : numberIn (rateFile (headed 2 4 end) 4097 8192) ≡ some 5
+  pub file6 : numberIn (rateFile (headed 4 3 (term 0 ++ end)) 4097 8192) ≡ some 6
+  pub file7 : numberIn (rateFile (headed 2 3 end) 4097 8192) ≡ some 7
+  pub file8 : numberIn (rateFile (headed 2 3 (term 2 ++ end)) 4097 8192) ≡ some 8
+  pub file10 : numberIn (rateFile (headed 2 2 (factor 0 1 [] ++ (term 0 ++ end))) 4097 8192)
       ≡ some 10
-  pub file11 : numberIn (rateFile anyChoice (headed 2 2 (factor 1 1 (2 ∷ []) ++ (term 0 ++ end))) 4097 8192)
+  pub file11 : numberIn (rateFile (headed 2 2 (factor 1 1 (2 ∷ []) ++ (term 0 ++ end))) 4097 8192)
       ≡ some 11
-  pub file12 : numberIn (rateFile anyChoice (headed 2 2 (factor 2 1 (1 ∷ []) ++ (term 0 ++ end))) 4097 8192)
+  pub file12 : numberIn (rateFile (headed 2 2 (factor 2 1 (1 ∷ []) ++ (term 0 ++ end))) 4097 8192)
       ≡ some 12
   pub file13 : numberIn
-      (rateFile anyChoice (headed 2 2 (factor 1 1 [] ++ (factor 1 1 [] ++ (term 0 ++ end)))) 4097 8192)
+      (rateFile (headed 2 2 (factor 1 1 [] ++ (factor 1 1 [] ++ (term 0 ++ end)))) 4097 8192)
       ≡ some 13
-  pub file14 : numberIn (rateFile anyChoice (headed 2 2 (factor 1 0 [] ++ (term 0 ++ end))) 4097 8192)
+  pub file14 : numberIn (rateFile (headed 2 2 (factor 1 0 [] ++ (term 0 ++ end))) 4097 8192)
       ≡ some 14
-  pub file15 : numberIn (rateFile anyChoice (headed 2 2 (factor 1 2 [] ++ (term 0 ++ end))) 4097 8192)
+  pub file15 : numberIn (rateFile (headed 2 2 (factor 1 2 [] ++ (term 0 ++ end))) 4097 8192)
       ≡ some 15
-  pub file16 : numberIn (rateFile anyChoice (headed 2 3 (term 0 ++ end)) 4096 8192) ≡ some 16
+  pub file16 : numberIn (rateFile (headed 2 3 (term 0 ++ end)) 4096 8192) ≡ some 16
   pub file17 : numberIn
-      (rateFile anyChoice (headed 2 2 (factor 1 1 [] ++ (terms (1 ∷ 1 ∷ []) ++ end))) 4097 8192)
+      (rateFile (headed 2 2 (factor 1 1 [] ++ (terms (1 ∷ 1 ∷ []) ++ end))) 4097 8192)
       ≡ some 17
-  pub periodFile10 : numberIn (rateFile anyChoice (headed 2 1 (factor 0 0 [] ++ (term 0 ++ end))) 4097 8192)
+  pub periodFile10 : numberIn (rateFile (headed 2 1 (factor 0 0 [] ++ (term 0 ++ end))) 4097 8192)
       ≡ some 10
   pub periodFile11 : numberIn
-      (rateFile anyChoice (headed 2 1 (factor 1 0 (2 ∷ []) ++ (term 0 ++ end))) 4097 8192)
+      (rateFile (headed 2 1 (factor 1 0 (2 ∷ []) ++ (term 0 ++ end))) 4097 8192)
       ≡ some 11
   pub periodFile12 : numberIn
-      (rateFile anyChoice (headed 2 1 (factor 2 0 (1 ∷ []) ++ (term 0 ++ end))) 4097 8192)
+      (rateFile (headed 2 1 (factor 2 0 (1 ∷ []) ++ (term 0 ++ end))) 4097 8192)
       ≡ some 12
   pub periodFile16 : numberIn
-      (rateFile anyChoice (headed 2 1 (factor 1 0 (1 ∷ []) ++ (term 1 ++ end))) 4097 8191)
+      (rateFile (headed 2 1 (factor 1 0 (1 ∷ []) ++ (term 1 ++ end))) 4097 8191)
       ≡ some 16
   pub periodFile17 : numberIn
-      (rateFile anyChoice (headed 2 1 (factor 2 0 (1 ∷ 1 ∷ []) ++ (terms (0 ∷ 0 ∷ 0 ∷ 1 ∷ []) ++ end)))
+      (rateFile (headed 2 1 (factor 2 0 (1 ∷ 1 ∷ []) ++ (terms (0 ∷ 0 ∷ 0 ∷ 1 ∷ []) ++ end)))
       4097 8192)
       ≡ some 17
   -- the period way
@@ -94,10 +94,10 @@ pub record Refusals : Type 0 where
   pub set16 : numberIn (rateSet 2 (x+1 ∷ x²+x+1 ∷ []) (1 ∷ 1 ∷ []) (0 ∷ 1 ∷ 1 ∷ []) 4097 8191) ≡ some 16
   pub set17 : numberIn (rateSet 2 (x+1 ∷ x²+x+1 ∷ []) (1 ∷ 1 ∷ []) (0 ∷ 1 ∷ 1 ∷ 1 ∷ []) 4097 8192) ≡ some 17
   -- the free way
-  pub free6 : numberIn (rateFree anyChoice 1 (0 ∷ []) 4097 8192) ≡ some 6
-  pub free7 : numberIn (rateFree anyChoice 2 [] 4097 8192) ≡ some 7
-  pub free8 : numberIn (rateFree anyChoice 2 (2 ∷ []) 4097 8192) ≡ some 8
-  pub free16 : numberIn (rateFree anyChoice 2 (0 ∷ []) 4097 8191) ≡ some 16
+  pub free6 : numberIn (rateFree 1 (0 ∷ []) 4097 8192) ≡ some 6
+  pub free7 : numberIn (rateFree 2 [] 4097 8192) ≡ some 7
+  pub free8 : numberIn (rateFree 2 (2 ∷ []) 4097 8192) ≡ some 8
+  pub free16 : numberIn (rateFree 2 (0 ∷ []) 4097 8191) ≡ some 16
   -- the continuation way, and the question whether a polynomial is irreducible
   pub continue6 : numberIn (continueSequence 9 x+1 (1 ∷ []) 0 (9 ∷ 9 ∷ [])) ≡ some 6
   pub continue7 : numberIn (continueSequence 2 x+1 (1 ∷ []) 0 []) ≡ some 7

@@ -6,7 +6,6 @@
 --   headed p m rest   == a file of box 7 whose header names the field p and the mode m
 --   caseA d cs        == case A of paper 01 as the file that box 7 sends in mode 2, with the factor of degree
 --                        d and the coefficients cs, and a stop before the terms
---   anyChoice         == a choice for the free way; which one does not matter where it does not show
 -- Assumes nothing.
 use Prim.Native.Nat.{ℕ, _-_}
 use mathlib.Core.List.{List, [], _∷_, _++_}
@@ -14,7 +13,6 @@ use mathlib.Core.Option.{Option, none, some}
 use lib.ListN.{length, replicate}
 use Rattle.meaning.specs.Polynomial.{Polynomial}
 use Rattle.meaning.specs.Result.{Result, refused, answered}
-use Rattle.meaning.specs.Free.{Choice}
 
 abbrev pub numberIn : {A : Type 0} → Result A → Option ℕ
 numberIn (refused n) = some n
@@ -71,6 +69,3 @@ caseA d cs =
     ++ (factor d 6 cs
     ++ (stop
     ++ (terms (0 ∷ 1 ∷ 0 ∷ 1 ∷ 0 ∷ 0 ∷ 0 ∷ 0 ∷ 1 ∷ 0 ∷ 1 ∷ 1 ∷ 0 ∷ 1 ∷ 0 ∷ 1 ∷ 1 ∷ 0 ∷ []) ++ end)))))
-
-abbrev pub anyChoice : Choice
-anyChoice p ts = []

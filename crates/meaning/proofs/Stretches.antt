@@ -9,13 +9,13 @@
 --   …-set, …-portion, …-period, …-free == the call of that way is met on a stretch, by an answer with its
 --                            bytes
 --   three-…               == of the terms 0, 1, 0: their least degree is 2, two polynomials fit them, and the
---                            free way may return the first
+--                            free way returns the first
 -- Assumes nothing.
 use Prim.Native.Nat.{ℕ, zero, suc}
-use mathlib.Core.Path.{_≡_, refl, sym, ap, subst, _∙_}
-use mathlib.Core.Bool.{true, false, true≢false}
+use mathlib.Core.Path.{_≡_, refl}
+use mathlib.Core.Bool.{false}
 use mathlib.Core.List.{List, [], _∷_, map}
-use mathlib.Core.Option.{some, Option·some-injective}
+use mathlib.Core.Option.{some}
 use lib.ListN.{length, replicate}
 use lib.Dec.{lit≤, T}
 use Rattle.meaning.specs.declared.Refusal.{Refusal}
@@ -30,7 +30,7 @@ use Rattle.meaning.specs.Sequence.{Sequence, InField, AnnihilatesEndless
 use Rattle.meaning.specs.Conditions.{named, acceptedLent}
 use Rattle.meaning.specs.Power.{isX}
 use Rattle.meaning.specs.Portion.{acceptedFactors}
-use Rattle.meaning.specs.Free.{Choice, Fits, leastDegree, isUnique}
+use Rattle.meaning.specs.Free.{Fits, leastDegree}
 use Rattle.meaning.specs.Calls.{PeriodCall, PortionCall, SetCall, FreeCall}
 use Rattle.meaning.proofs.Computed.{computed}
 use Rattle.meaning.proofs.Rows.{x+1}
@@ -132,30 +132,10 @@ pub alternating-period :
 unfolding computed alternating
 alternating-period = record { rating = refl; lent = record { answerBytes = refl; workBytes = refl } }
 
--- the program's choice does not matter: the word is `one`
-four-least : leastDegree (prime 2) (cut alternating 1 4) ≡ some 2
-unfolding computed alternating
-four-least = refl
-
-four-unique : true ≡ isUnique (cut alternating 1 4) 2
-unfolding computed alternating
-four-unique = refl
-
 pub alternating-free :
-    (pick : Choice) → FreeCall pick 2 (cut alternating 1 4) answer work (FreeRating.Unique 2) after-x²+1 clean
+    FreeCall 2 (cut alternating 1 4) answer work (FreeRating.Unique 2) after-x²+1 clean
 unfolding computed alternating
-alternating-free pick =
-    record {
-      rating = refl;
-      chosen =
-          λ _ _ _ e f u.
-          absurd
-          (true≢false
-          (four-unique
-          ∙ ap (isUnique (cut alternating 1 4)) (Option·some-injective 2 e (sym four-least ∙ f))
-          ∙ u));
-      lent = record { answerBytes = refl; workBytes = refl };
-    }
+alternating-free = record { rating = refl; lent = record { answerBytes = refl; workBytes = refl } }
 
 -- with the upper power 2, two terms from place 0 on
 pub alternating-short :
@@ -234,19 +214,6 @@ pub three-second : Fits (prime 2) three 2 (1 ∷ 0 ∷ 1 ∷ [])
 unfolding computed
 three-second = record { monic = tt; ofDegree = refl; annihilates = tt }
 
--- a program that picks x²
-abbrev pub picked : Choice
-picked p ts = 0 ∷ 0 ∷ 1 ∷ []
-
-pub three-free : FreeCall picked 2 three answer work (FreeRating.Several 2) after-x² clean
+pub three-free : FreeCall 2 three answer work (FreeRating.Several 2) after-x² clean
 unfolding computed
-three-free =
-    record {
-      rating = refl;
-      chosen =
-          λ _ _ _ e f _.
-          subst (λ n. Fits (prime 2) three n (0 ∷ 0 ∷ 1 ∷ []))
-          (Option·some-injective _ _ (sym three-least ∙ f))
-          three-first;
-      lent = record { answerBytes = refl; workBytes = refl };
-    }
+three-free = record { rating = refl; lent = record { answerBytes = refl; workBytes = refl } }

@@ -22,7 +22,7 @@ use Rattle.meaning.specs.Answers.{SetTold, FileTold, withPowers, withOne
 use Rattle.meaning.specs.Calls.{PeriodCall, PortionCall, SetCall, FreeCall, FileCall, ProgramCall}
 use Rattle.meaning.proofs.Computed.{computed}
 use Rattle.meaning.proofs.Rows.{x+1, x²+1, x²+x+1}
-use Rattle.meaning.proofs.CallRows.{answer, work, square, fileA, fileH, fileI, eightZeros, differ}
+use Rattle.meaning.proofs.CallRows.{answer, work, fileA, fileH, fileI, eightZeros, differ}
 
 -- THE PORTION, THE PERIOD AND THE FREE CALL, on row A (a portion, with x³ + x + 1 and the upper power 6) and
 -- on row B (a period, with x + 1)
@@ -63,7 +63,12 @@ pub record WrongRaters : Type 0 where
       → ⊥
   -- answers row H with x², which fits the two terms, but with a degree that is not the least
   pub degree-not-least : (answer′ work′ : List ℕ)
-      → FreeCall square 2 (1 ∷ 0 ∷ []) answer work (FreeRating.Several 2) answer′ work′
+      → FreeCall 2 (1 ∷ 0 ∷ []) answer work (FreeRating.Several 2) answer′ work′
+      → ⊥
+  -- answers row I with x² + 1, which fits the two terms, but x² comes before it
+  pub later-one : (answer′ work′ : List ℕ)
+      → answer′ ≡ 1 ∷ 0 ∷ 1 ∷ replicate 4096 7
+      → FreeCall 2 (0 ∷ 1 ∷ []) answer work (FreeRating.Several 2) answer′ work′
       → ⊥
 
 -- a figure of a result, 1000 where it is refused
@@ -99,6 +104,7 @@ wrong-raters =
       work-not-cleared = λ a c. differ 9 0 (ap (at 0) (c .lent .workBytes)) refl;
       refused-and-written = λ a w e c. differ 1 7 (ap (at 0) (sym e ∙ c .lent .answerBytes)) refl;
       degree-not-least = λ a w c. differ 2 1 (ap free-degree (c .rating)) refl;
+      later-one = λ a w e c. differ 1 0 (ap (at 0) (sym e ∙ c .lent .answerBytes)) refl;
     }
 
 -- THE SET CALL, on row A with its one factor and on row K: x + 1 and x² + x + 1, each 1, terms 0, 1, 1, of
@@ -166,7 +172,7 @@ wrong-sets =
 
 abbrev FileOf : List ℕ → FileOutcome → List ℕ → List ℕ → List ℕ → Type 0
 FileOf file o eight answer′ work′ =
-    FileCall square file answer work (record { sender = 7; outcome = o; powers = eight }) answer′ work′
+    FileCall file answer work (record { sender = 7; outcome = o; powers = eight }) answer′ work′
 
 abbrev WrongOnFile : List ℕ → FileOutcome → List ℕ → Type 0
 WrongOnFile file o eight = (answer′ work′ : List ℕ) → FileOf file o eight answer′ work′ → ⊥
@@ -189,7 +195,7 @@ pub record WrongFiles : Type 0 where
   pub one-for-some : WrongOnFile fileI (FileOutcome.Unique 2 2) eightZeros
   pub terms-miscounted : WrongOnFile fileA (FileOutcome.Powers 12 17 1) (first 4)
   pub box-forgotten : (answer′ work′ : List ℕ)
-      → FileCall square fileA answer work
+      → FileCall fileA answer work
       (record { sender = 0; outcome = FileOutcome.Powers 12 18 1; powers = first 4 }) answer′ work′
       → ⊥
 
@@ -231,7 +237,7 @@ wrong-files =
 -- then anything
 
 abbrev WrongLinesOnA : List ℕ → Type 0
-WrongLinesOnA front = (rest : List ℕ) → ProgramCall square fileA (front ++ rest) → ⊥
+WrongLinesOnA front = (rest : List ℕ) → ProgramCall fileA (front ++ rest) → ⊥
 
 pub record WrongPrograms : Type 0 where
   pub top-digit-only : WrongLinesOnA (text "box result density powers\n7 ok 9/18 3\n")
@@ -240,11 +246,15 @@ pub record WrongPrograms : Type 0 where
   pub seventeen-for-all : WrongLinesOnA (text "box result density powers\n7 refused 17\n")
   pub one-for-all : WrongLinesOnA (text "box result density powers\n7 ok 0/18 0\npoly 1\n")
   pub refuses-all : WrongLinesOnA (text "box result density powers\n7 refused 6\n")
-  pub nothing-written : ProgramCall square fileA [] → ⊥
+  pub nothing-written : ProgramCall fileA [] → ⊥
   -- the coefficients leading first; the density turned
   pub leading-first : WrongLinesOnA
       (text "box result density powers\n7 ok 12/18 4\npoly 1 0 0 0 0 0 0 0 1 0 0 0 1\n")
   pub density-turned : WrongLinesOnA (text "box result density powers\n7 ok 18/12 4\n")
+  -- on the file of row I, x² + 1 in the place of x²
+  pub later-one : (rest : List ℕ)
+      → ProgramCall fileI (text "box result density powers\n7 ok 2/2 some\npoly 1 0 1\n" ++ rest)
+      → ⊥
 
 pub wrong-programs : WrongPrograms
 unfolding computed at
@@ -259,4 +269,5 @@ wrong-programs =
       nothing-written = λ c. differ 0 98 (ap (at 0) (c .lines)) refl;
       leading-first = λ l c. differ 48 49 (ap (at 52) (c .lines)) refl;
       density-turned = λ l c. differ 56 50 (ap (at 32) (c .lines)) refl;
+      later-one = λ l c. differ 49 48 (ap (at 45) (c .lines)) refl;
     }

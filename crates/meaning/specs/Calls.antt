@@ -12,10 +12,8 @@
 --   ContinueCall        == continue_sequence   FileCall        == rate_file
 --   RecordCall          == record (the route reader)                ProgramCall == what the program prints
 --
--- `pick` is how the free way chooses a polynomial under `some`, where several may fit: it depends on p and
--- the terms alone, and `chosen` says what holds of it. A contract names one such function of the program.
--- `model` is how it keeps what a meter knows; the contracts of the meter name one too. Everything else is an
--- equation.
+-- `model` is how the program keeps what a meter knows; the contracts of the meter name one such. Everything
+-- else is an equation: nothing about an answer is left to the program.
 use Prim.Native.Nat.{ℕ}
 use mathlib.Core.Path.{_≡_}
 use mathlib.Core.Bool.{Bool}
@@ -37,12 +35,12 @@ use Rattle.meaning.specs.Result.{Result, refused, answered, mapResult, R
 use Rattle.meaning.specs.Result.{workAfter}
 use Rattle.meaning.specs.Period.{ratePeriod}
 use Rattle.meaning.specs.Portion.{ratePortion, rateSet}
-use Rattle.meaning.specs.Free.{Choice, rateFree, ChosenFits}
+use Rattle.meaning.specs.Free.{rateFree}
 use Rattle.meaning.specs.Meter.{startMeter, takeTerm, meterReading, MeterModel, Holding, unlessRefused}
 use Rattle.meaning.specs.Continuation.{continueSequence}
 use Rattle.meaning.specs.Irreducibility.{askIrreducible}
 use Rattle.meaning.specs.Route.{RouteRecord, boxOf, readRecord}
-use Rattle.meaning.specs.File.{rateFile, FileChosenFits}
+use Rattle.meaning.specs.File.{rateFile}
 use Rattle.meaning.specs.Print.{printed}
 use Rattle.meaning.specs.Answers.{toldIrreducible, toldFilling, toldPower, toldFree, toldStart, toldSet}
 use Rattle.meaning.specs.Answers.{setFiguresTold, toldFile, fileFiguresTold, toldRecord, setPadded}
@@ -76,11 +74,10 @@ pub record SetCall (p : ℕ) (fs : List Polynomial) (vs ts answer work : List �
   pub powers : r .powers ≡ setPadded (figuresOf (rateSet p fs vs ts (length answer) (length work)))
   pub lent : LentAfter (rateSet p fs vs ts (length answer) (length work)) answer work answer′ work′
 
-pub record FreeCall (pick : Choice) (p : ℕ) (ts answer work : List ℕ) (r : FreeRating)
-    (answer′ work′ : List ℕ) : Type 0 where
-  pub rating : toldFree r ≡ figuresOf (rateFree pick p ts (length answer) (length work))
-  pub chosen : ChosenFits pick p ts
-  pub lent : LentAfter (rateFree pick p ts (length answer) (length work)) answer work answer′ work′
+pub record FreeCall (p : ℕ) (ts answer work : List ℕ) (r : FreeRating) (answer′ work′ : List ℕ)
+    : Type 0 where
+  pub rating : toldFree r ≡ figuresOf (rateFree p ts (length answer) (length work))
+  pub lent : LentAfter (rateFree p ts (length answer) (length work)) answer work answer′ work′
 
 pub record StartCall (model : MeterModel) (p : ℕ) (work : List ℕ) (r : MeterStart) (work′ : List ℕ)
     : Type 0 where
@@ -115,14 +112,12 @@ pub record ContinueCall (p : ℕ) (g : Polynomial) (start buffer : List ℕ) (pl
   pub filling : toldFilling r ≡ mapResult (λ _. tt) (continueSequence p g start place buffer)
   pub bufferBytes : buffer′ ≡ bufferAfter (continueSequence p g start place buffer) buffer
 
-pub record FileCall (pick : Choice) (file answer work : List ℕ) (r : FileRating)
-    (answer′ work′ : List ℕ) : Type 0 where
+pub record FileCall (file answer work : List ℕ) (r : FileRating) (answer′ work′ : List ℕ) : Type 0 where
   pub sender : r .sender ≡ boxOf file
   pub rating : toldFile (r .outcome)
-      ≡ mapResult fileFiguresTold (figuresOf (rateFile pick file (length answer) (length work)))
-  pub powers : r .powers ≡ filePadded (figuresOf (rateFile pick file (length answer) (length work)))
-  pub chosen : FileChosenFits pick file
-  pub lent : LentAfter (rateFile pick file (length answer) (length work)) answer work answer′ work′
+      ≡ mapResult fileFiguresTold (figuresOf (rateFile file (length answer) (length work)))
+  pub powers : r .powers ≡ filePadded (figuresOf (rateFile file (length answer) (length work)))
+  pub lent : LentAfter (rateFile file (length answer) (length work)) answer work answer′ work′
 
 -- the body that the reader hands back: the empty part where the file is refused
 unfoldable pub bodyAfter : Result RouteRecord → List ℕ
@@ -134,6 +129,5 @@ pub record RecordCall (file : List ℕ) (n : ℕ) (r : RecordOutcome) (body : Li
   pub part : body ≡ bodyAfter (readRecord file n)
 
 -- what the rating program prints for what it reads
-pub record ProgramCall (pick : Choice) (input output : List ℕ) : Type 0 where
-  pub lines : output ≡ printed pick input
-  pub chosen : FileChosenFits pick input
+pub record ProgramCall (input output : List ℕ) : Type 0 where
+  pub lines : output ≡ printed input

@@ -15,7 +15,7 @@
 --   SetExported r …    == `rater_rate_set` with the result r; its factors are the parts of one slice
 --                         (`split`)
 --   wordNumber u       == the word as a number: 1 for `one`, 0 for `some`
---   FreeExported pick … == `rater_rate_free`: the degree and the number of the word in the two lent numbers
+--   FreeExported p ts … == `rater_rate_free`: the degree and the number of the word in the two lent numbers
 --   ProfileExported p ts … == `rater_profile`: the entries of the profile at the front of the lent bytes, as
 --                         many as these have room for, and the rest as it was
 --   Filled r …         == `rater_continue_sequence` with the result r
@@ -30,7 +30,7 @@ use lib.ListN.{length, take, drop}
 use Rattle.meaning.specs.Result.{Result, refused, answered, Rated, figuresOf, written}
 use Rattle.meaning.specs.Power.{PowerFigures}
 use Rattle.meaning.specs.Portion.{SetFigures}
-use Rattle.meaning.specs.Free.{Choice, FreeFigures, rateFree, ChosenFits}
+use Rattle.meaning.specs.Free.{FreeFigures, rateFree}
 use Rattle.meaning.specs.Meter.{startMeter, unlessRefused, profileOf}
 use Rattle.meaning.specs.Answers.{padded}
 use Rattle.meaning.specs.Calls.{LentAfter, bufferAfter}
@@ -78,15 +78,14 @@ wordNumber false = 0
 abbrev pub wordOf : FreeFigures → ℕ
 wordOf a = wordNumber (a .unique)
 
-pub record FreeExported (pick : Choice) (p : ℕ) (ts answer work : List ℕ) (degree unique status : ℕ)
+pub record FreeExported (p : ℕ) (ts answer work : List ℕ) (degree unique status : ℕ)
     (answer′ work′ : List ℕ) (degree′ unique′ : ℕ) : Type 0 where
-  pub told : status ≡ statusOf (rateFree pick p ts (length answer) (length work))
+  pub told : status ≡ statusOf (rateFree p ts (length answer) (length work))
   pub degreeAfter : degree′
-      ≡ numberAfter (λ a. a .degree) (figuresOf (rateFree pick p ts (length answer) (length work))) degree
+      ≡ numberAfter (λ a. a .degree) (figuresOf (rateFree p ts (length answer) (length work))) degree
   pub uniqueAfter :
-      unique′ ≡ numberAfter wordOf (figuresOf (rateFree pick p ts (length answer) (length work))) unique
-  pub chosen : ChosenFits pick p ts
-  pub lent : LentAfter (rateFree pick p ts (length answer) (length work)) answer work answer′ work′
+      unique′ ≡ numberAfter wordOf (figuresOf (rateFree p ts (length answer) (length work))) unique
+  pub lent : LentAfter (rateFree p ts (length answer) (length work)) answer work answer′ work′
 
 -- THE METER
 pub record ProfileExported (p : ℕ) (ts profile : List ℕ) (status : ℕ) (profile′ : List ℕ) : Type 0 where

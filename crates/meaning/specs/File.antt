@@ -10,11 +10,9 @@
 --   Label               == what is printed after the density: the powers in factor order, or whether one
 --                          polynomial fits
 --   FileFigures         == the degree (complexity), the number of terms given, and the label
---   rateRecords pick rs answer work == the answer of the mode's way on what the records hold
---   rateFile pick file answer work  == the answer for a file: the refusals 1 to 5, then those of its mode
---   FileChosenFits pick file == what holds of the program's choice for a file in the free mode
+--   rateRecords rs answer work == the answer of the mode's way on what the records hold
+--   rateFile file answer work  == the answer for a file: the refusals 1 to 5, then those of its mode
 use Prim.Native.Nat.{ℕ}
-use mathlib.Core.Path.{_≡_}
 use mathlib.Core.Bool.{Bool, true, false, not, _||_}
 use mathlib.Core.List.{List, [], _∷_, _++_, map}
 use mathlib.Core.Option.{none, some}
@@ -28,7 +26,7 @@ use Rattle.meaning.specs.Conditions.{degreeOutOfRange}
 use Rattle.meaning.specs.Power.{PowerFigures}
 use Rattle.meaning.specs.Period.{periodAnswer}
 use Rattle.meaning.specs.Portion.{SetFigures, setAnswer}
-use Rattle.meaning.specs.Free.{Choice, FreeFigures, rateFree, ChosenFits}
+use Rattle.meaning.specs.Free.{FreeFigures, rateFree}
 use Rattle.meaning.specs.Route.{RouteRecord, Mode, periodMode, setMode, freeMode, modeOf, bodies}
 use Rattle.meaning.specs.Route.{byteOf, factorUpper, records}
 
@@ -88,8 +86,8 @@ ofFree m (refused n) = refused n
 ofFree m (answered a) =
     answered (fileAnswer (a .figures .degree) m (freeLabel (a .figures .unique)) (a .polynomial))
 
-unfoldable pub rateMode : Choice → Mode → ℕ → List WrittenFactor → List ℕ → ℕ → ℕ → Result (Rated FileFigures)
-rateMode pick periodMode p fs ts answer work =
+unfoldable pub rateMode : Mode → ℕ → List WrittenFactor → List ℕ → ℕ → ℕ → Result (Rated FileFigures)
+rateMode periodMode p fs ts answer work =
     ofPeriod (length ts)
     (periodAnswer p
     (holdsForSome (fileDegreeOutOfRange (prime p)) fs)
@@ -98,7 +96,7 @@ rateMode pick periodMode p fs ts answer work =
     ts
     answer
     work)
-rateMode pick setMode p fs ts answer work =
+rateMode setMode p fs ts answer work =
     ofSet (length ts)
     (setAnswer p
     (holdsForSome (fileDegreeOutOfRange (prime p)) fs)
@@ -107,22 +105,15 @@ rateMode pick setMode p fs ts answer work =
     ts
     answer
     work)
-rateMode pick freeMode p fs ts answer work = ofFree (length ts) (rateFree pick p ts answer work)
+rateMode freeMode p fs ts answer work = ofFree (length ts) (rateFree p ts answer work)
 
-unfoldable pub rateRecords : Choice → List RouteRecord → ℕ → ℕ → Result (Rated FileFigures)
-rateRecords pick rs answer work =
+unfoldable pub rateRecords : List RouteRecord → ℕ → ℕ → Result (Rated FileFigures)
+rateRecords rs answer work =
     elim (modeOf (byteOf 3 rs)) [
       | none ↦ refused 5
-      | some m ↦ rateMode pick m (byteOf 2 rs) (map fileFactor (bodies 4 rs)) (termsOf rs) answer work
+      | some m ↦ rateMode m (byteOf 2 rs) (map fileFactor (bodies 4 rs)) (termsOf rs) answer work
     ]
 
-unfoldable pub rateFile : Choice → List ℕ → ℕ → ℕ → Result (Rated FileFigures)
-rateFile pick file answer work =
-    elim (records file) [ refused n ↦ refused n | answered rs ↦ rateRecords pick rs answer work ]
-
-abbrev pub FileChosenFits : Choice → List ℕ → Type 0
-FileChosenFits pick file =
-    (rs : List RouteRecord)
-    → records file ≡ answered rs
-    → modeOf (byteOf 3 rs) ≡ some freeMode
-    → ChosenFits pick (byteOf 2 rs) (termsOf rs)
+unfoldable pub rateFile : List ℕ → ℕ → ℕ → Result (Rated FileFigures)
+rateFile file answer work =
+    elim (records file) [ refused n ↦ refused n | answered rs ↦ rateRecords rs answer work ]

@@ -9,18 +9,18 @@
 --   isUnique ts e      == the word `one`: twice the degree is at most the number of terms, and only one
 --                         polynomial fits; else `some`
 --   FreeFigures        == the degree, and whether the word is `one`
---   Choice             == how the program picks a polynomial under `some`: from p and the terms alone
---   freePolynomial pick p ts e == the polynomial: under `one` the one that fits, under `some` the program's
---                         choice
---   rateFree pick p ts answer work == the answer of the free way
---   ChosenFits pick p ts == what holds of the choice wherever 6, 7 and 8 accept p and the terms and the word
---                         is `some`
-use Prim.Native.Nat.{ℕ, _*_, _≤_}
+--   Precedes f g       == f comes before g: the coefficients are compared from the highest degree downwards,
+--                         and at the first difference f has the smaller number; one that is missing counts
+--                         as 0
+--   freePolynomial F ts e == the first polynomial of degree e that annihilates the known terms, by trying all
+--                         of them in that order, in which `monics` lists them; under `one` the only one
+--   rateFree p ts answer work == the answer of the free way
+use Prim.Native.Nat.{ℕ, _*_, _≤_, _<_}
 use mathlib.Core.Path.{_≡_}
-use mathlib.Core.Bool.{Bool, true, false}
+use mathlib.Core.Bool.{Bool}
 use mathlib.Core.List.{List, [], _∷_}
-use mathlib.Core.Option.{Option, some}
-use lib.ListN.{length}
+use mathlib.Core.Option.{Option}
+use lib.ListN.{length, getD}
 use lib.Dec.{leb, T}
 use Rattle.meaning.specs.Search.{least, firstThat, mapOption, bind, holdsForSome}
 use Rattle.meaning.specs.Field.{Field, prime}
@@ -53,20 +53,18 @@ pub record FreeFigures : Type 0 where
   pub degree : ℕ
   pub unique : Bool
 
-abbrev pub Choice : Type 0
-Choice = ℕ → List ℕ → Polynomial
+pub record Precedes (f g : Polynomial) : Type 0 where
+  pub place : ℕ
+  pub smaller : getD f place 0 < getD g place 0
+  pub above : (i : ℕ) → place < i → getD f i 0 ≡ getD g i 0
 
-unfoldable pub freePolynomial : Choice → ℕ → List ℕ → ℕ → Option Polynomial
-freePolynomial pick p ts e =
-    elim (isUnique ts e) [
-      | true ↦ firstThat (λ g. annihilatesKnown (prime p) g ts) (monics (prime p) e)
-      | false ↦ some (pick p ts)
-    ]
+unfoldable pub freePolynomial : Field → List ℕ → ℕ → Option Polynomial
+freePolynomial F ts e = firstThat (λ g. annihilatesKnown F g ts) (monics F e)
 
-unfoldable pub freeRating : Choice → ℕ → List ℕ → ℕ → Option (Rated FreeFigures)
-freeRating pick p ts e =
+unfoldable pub freeRating : Field → List ℕ → ℕ → Option (Rated FreeFigures)
+freeRating F ts e =
     mapOption (λ g. record { figures = record { degree = e; unique = isUnique ts e }; polynomial = g })
-    (freePolynomial pick p ts e)
+    (freePolynomial F ts e)
 
 unfoldable pub freeTable : ℕ → List ℕ → ℕ → ℕ → List Check
 freeTable p ts answer work =
@@ -76,16 +74,6 @@ freeTable p ts answer work =
     ∷ (16, λ _. lentTooShort answer work)
     ∷ []
 
-unfoldable pub rateFree : Choice → ℕ → List ℕ → ℕ → ℕ → Result (Rated FreeFigures)
-rateFree pick p ts answer work =
-    settle (freeTable p ts answer work) (λ _. bind (leastDegree (prime p) ts) (freeRating pick p ts))
-
-abbrev pub ChosenFits : Choice → ℕ → List ℕ → Type 0
-ChosenFits pick p ts =
-    notPrime p ≡ false
-    → countOutOfRange (length ts) ≡ false
-    → termOutOfField (prime p) ts ≡ false
-    → (e : ℕ)
-    → leastDegree (prime p) ts ≡ some e
-    → isUnique ts e ≡ false
-    → Fits (prime p) ts e (pick p ts)
+unfoldable pub rateFree : ℕ → List ℕ → ℕ → ℕ → Result (Rated FreeFigures)
+rateFree p ts answer work =
+    settle (freeTable p ts answer work) (λ _. bind (leastDegree (prime p) ts) (freeRating (prime p) ts))

@@ -8,7 +8,7 @@
 --   resultLine box r  == the result line: the box, `ok`, the density and the label, or the box and the
 --                        refusal
 --   polyLine r        == the line of coefficients, constant first; nothing where refused
---   printed pick file == all that the program prints for a file
+--   printed file      == all that the program prints for a file
 use Prim.Native.Nat.{ℕ, zero, suc, _+_, _/_, _%_}
 use Prim.Native.Char.{code}
 use Prim.Native.String.{String}
@@ -16,7 +16,6 @@ use mathlib.Core.Bool.{true, false}
 use mathlib.Core.List.{List, [], _∷_, _++_, map}
 use lib.Dec.{ltb}
 use Rattle.meaning.specs.Result.{Result, refused, answered, Rated}
-use Rattle.meaning.specs.Free.{Choice}
 use Rattle.meaning.specs.Route.{boxOf}
 use Rattle.meaning.specs.File.{Label, powers, unique, several, FileFigures, rateFile}
 
@@ -64,5 +63,5 @@ unfoldable pub report : ℕ → Result (Rated FileFigures) → List ℕ
 report box r = header ++ (resultLine box r ++ polyLine r)
 
 -- the program lends itself 4,097 answer bytes and 8,192 work bytes
-unfoldable pub printed : Choice → List ℕ → List ℕ
-printed pick file = report (boxOf file) (rateFile pick file 4097 8192)
+unfoldable pub printed : List ℕ → List ℕ
+printed file = report (boxOf file) (rateFile file 4097 8192)

@@ -6,7 +6,7 @@
 --   linesOf r answer  == the lines of that result, for the box that the rating names
 --   PrintCall r answer out n out′ == the lines of the rating r stand at the front of the lent bytes `out`,
 --                        all other bytes are as they were, and n is the number of bytes in the lines
---   Response pick buffer count n out′ == the first n bytes of `out′` are what the program is to print for
+--   Response buffer count n out′ == the first n bytes of `out′` are what the program is to print for
 --                        every input that the first `count` bytes of the buffer come from: they are the
 --                        input as far as the buffer holds it. What a longer input has beyond it does not
 --                        matter
@@ -17,7 +17,6 @@ use lib.ListN.{length, take}
 use Rattle.meaning.specs.declared.FileOutcome.{FileOutcome}
 use Rattle.meaning.specs.declared.FileRating.{FileRating}
 use Rattle.meaning.specs.Result.{Result, refused, answered, Rated, written}
-use Rattle.meaning.specs.Free.{Choice}
 use Rattle.meaning.specs.File.{powers, unique, several, FileFigures, fileAnswer}
 use Rattle.meaning.specs.Print.{report}
 use Rattle.meaning.specs.Answers.{numberOf}
@@ -38,9 +37,9 @@ pub record PrintCall (r : FileRating) (answer out : List ℕ) (n : ℕ) (out′ 
   pub fits : n ≤ length out
   pub bytes : out′ ≡ written (linesOf r answer) out
 
-pub record Response (pick : Choice) (buffer : List ℕ) (count n : ℕ) (out′ : List ℕ) : Type 0 where
+pub record Response (buffer : List ℕ) (count n : ℕ) (out′ : List ℕ) : Type 0 where
   pub fits : n ≤ length out′
   pub counted : n ≡ length (take n out′)
   pub printed : (input : List ℕ)
       → take count buffer ≡ take (length buffer) input
-      → ProgramCall pick input (take n out′)
+      → ProgramCall input (take n out′)

@@ -2,19 +2,17 @@
 -- Assumes nothing.
 use Prim.Native.Nat.{ℕ, _<_}
 use native.Mathlib.Omega.{arith}
-use mathlib.Core.Path.{_≡_, sym, ap, subst, _∙_}
+use mathlib.Core.Path.{_≡_, sym, ap, _∙_}
 use mathlib.Core.List.{List, _++_}
 use lib.ListN.{length, take, drop, length-append}
 use lib.Seq.{take-at}
 use Rattle.meaning.specs.declared.FileRating.{FileRating}
 use Rattle.meaning.specs.Result.{written}
-use Rattle.meaning.specs.File.{FileChosenFits}
 use Rattle.meaning.specs.Calls.{FileCall}
 use Rattle.meaning.specs.Print.{printed}
-use Rattle.massey.specs.Shortest.{freeChoice}
 use Rattle.meaning.specs.Program.{linesOf, PrintCall, Response}
 use Rattle.printing.proofs.lines.FileResults.{printed-lines}
-use Rattle.rate.proofs.Cuts.{printed-cut, chosen-cut}
+use Rattle.rate.proofs.Cuts.{printed-cut}
 
 pub respond-call :
     (buffer : List ℕ) (count : ℕ) {file answer work answer′ work′ out out′ : List ℕ} {r : FileRating} {n : ℕ}
@@ -22,9 +20,9 @@ pub respond-call :
     → file ≡ take count buffer
     → length answer ≡ 4097
     → length work ≡ 8192
-    → FileCall freeChoice file answer work r answer′ work′
+    → FileCall file answer work r answer′ work′
     → PrintCall r answer′ out n out′
-    → Response freeChoice buffer count n out′
+    → Response buffer count n out′
 unfolding written
 respond-call buffer count {file} {answer} {work} {answer′} {work′} {out} {out′} {r} {n} long read a w f p =
     let text = linesOf r answer′ in
@@ -40,11 +38,8 @@ respond-call buffer count {file} {answer} {work} {answer′} {work′} {out} {ou
           record {
             lines =
                 front
-                ∙ printed-lines freeChoice file answer work r answer′ work′ f a w
-                ∙ ap (printed freeChoice) same
-                ∙ printed-cut (length buffer) input long freeChoice;
-            chosen =
-                chosen-cut (length buffer) input long freeChoice
-                (subst (FileChosenFits freeChoice) same (f .chosen));
+                ∙ printed-lines file answer work r answer′ work′ f a w
+                ∙ ap printed same
+                ∙ printed-cut (length buffer) input long;
           };
     }

@@ -13,7 +13,6 @@ use route::framing::part;
 ghost use Prim.Native.Nat.{_≤_};
 ghost use lib.ListN.{length};
 ghost use Rattle.meaning.specs.Program.{Response};
-ghost use Rattle.massey.specs.Shortest.{freeChoice};
 
 // How much of the input is kept: one byte more than a file may have. Further bytes change nothing.
 const KEPT_BYTES: usize = 16385;
@@ -24,7 +23,7 @@ const WORK_BYTES: usize = 8192;
 // Writes what the program prints to the front of `out`, and returns its number of bytes. The first `count`
 // bytes of the buffer are the input, or its first bytes where the buffer is full.
 fn respond(buffer: &[u8; KEPT_BYTES], count: usize, out: &mut [u8; MOST_PRINTED]) -> usize
-    ensures { λ n. ⌜ Response freeChoice (now (buffer .entry)) count n (now (out .exit)) ⌝ }
+    ensures { λ n. ⌜ Response (now (buffer .entry)) count n (now (out .exit)) ⌝ }
 {
     let mut answer = [0u8; ANSWER_BYTES];
     let mut work = [0u8; WORK_BYTES];

@@ -9,14 +9,11 @@ use lib.ListN.{length}
 use Rattle.meaning.specs.declared.FileRating.{FileRating}
 use Rattle.meaning.specs.Result.{refused, answered, mapResult}
 use Rattle.meaning.specs.Route.{records, boxOf}
-use Rattle.meaning.specs.Free.{Choice}
 use Rattle.meaning.specs.File.{rateRecords, rateFile}
 use Rattle.meaning.specs.Calls.{FileCall}
 use Rattle.route.specs.framing.Framing.{recordsFrom}
 use Rattle.bridge.proofs.Records.{records-suited}
 use Rattle.bridge.proofs.FileRatings.{accepted-file, refused-file}
-use Rattle.massey.specs.Shortest.{freeChoice}
-use Rattle.massey.proofs.FreeWay.{free-chosen}
 use Rattle.rate_file.specs.outcomes.Outcomes.{RatedFile}
 use Rattle.rate_file.specs.records.Accepted.{AcceptedRecords}
 use Rattle.route.specs.walk.Walking.{verdictOf}
@@ -29,15 +26,15 @@ module _ (file : List ℕ) where
       record { whole = bodies-accepted file v 4; suited = records-suited file (records-accepted file v) }
 
   -- the result for a file, by the verdict on its records
-  module _ (pick : Choice) (answer work : ℕ) where
+  module _ (answer work : ℕ) where
     pub file-rated : answered tt ≡ verdictOf (records file)
-        → rateFile pick file answer work ≡ rateRecords pick (recordsFrom file 0) answer work
-    file-rated v = accepted-file pick file answer work (records-accepted file v)
+        → rateFile file answer work ≡ rateRecords (recordsFrom file 0) answer work
+    file-rated v = accepted-file file answer work (records-accepted file v)
 
     pub file-refused : {n : ℕ} → refused n ≡ verdictOf (records file)
-        → rateFile pick file answer work ≡ refused n
+        → rateFile file answer work ≡ refused n
     unfolding mapResult
-    file-refused v = refused-file pick file answer work (records-known file v)
+    file-refused v = refused-file file answer work (records-known file v)
 
   pub file-number : {n : ℕ} → refused n ≡ verdictOf (records file) → eqb n 17 ≡ false
   unfolding mapResult
@@ -46,13 +43,12 @@ module _ (file : List ℕ) where
   -- the contract of the call
   pub file-call : {sender : ℕ} {answer work : List ℕ} {r : FileRating} {answer′ work′ : List ℕ}
       → sender ≡ boxOf file
-      → RatedFile sender (rateFile freeChoice file (length answer) (length work)) answer work r answer′ work′
-      → FileCall freeChoice file answer work r answer′ work′
+      → RatedFile sender (rateFile file (length answer) (length work)) answer work r answer′ work′
+      → FileCall file answer work r answer′ work′
   file-call e h =
       record {
         sender = h .tells .box ∙ e;
         rating = h .tells .rating;
         powers = h .tells .powers;
-        chosen = λ rs q m. free-chosen _ _;
         lent = h .lent;
       }

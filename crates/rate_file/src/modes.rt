@@ -19,7 +19,6 @@ ghost use Rattle.meaning.specs.Period.{ratePeriod};
 ghost use Rattle.meaning.specs.Portion.{rateSet};
 ghost use Rattle.meaning.specs.Free.{rateFree};
 ghost use Rattle.meaning.specs.File.{ofPeriod, ofSet, ofFree};
-ghost use Rattle.massey.specs.Shortest.{freeChoice};
 ghost use Rattle.rate_file.specs.factors.Written.{factorsIn, polynomialsIn};
 ghost use Rattle.rate_file.specs.outcomes.Outcomes.{RatedFile};
 
@@ -33,7 +32,7 @@ pub fn rate_free_file(
 ) -> FileRating
     ensures { λ r. ⌜ RatedFile sender
         (ofFree (length (now (terms .entry)))
-        (rateFree freeChoice p (now (terms .entry)) (length (now (answer .entry)))
+        (rateFree p (now (terms .entry)) (length (now (answer .entry)))
         (length (now (work .entry)))))
         (now (answer .entry)) (now (work .entry)) r (now (answer .exit)) (now (work .exit)) ⌝ }
 {

@@ -13,7 +13,6 @@ ghost use mathlib.Core.Path.{_≡_};
 ghost use lib.ListN.{length, take};
 ghost use Rattle.meaning.specs.File.{termsOf, rateRecords};
 ghost use Rattle.route.specs.framing.Framing.{recordsFrom};
-ghost use Rattle.massey.specs.Shortest.{freeChoice};
 ghost use Rattle.rate_file.specs.outcomes.Outcomes.{RatedFile};
 ghost use Rattle.rate_file.specs.records.Accepted.{AcceptedRecords, Rateable};
 
@@ -29,7 +28,7 @@ fn rate_accepted(
 ) -> FileRating
     requires { ⌜ Rateable p (now file) (now terms) ⌝ }
     ensures { λ r. ⌜ RatedFile sender
-        (rateRecords freeChoice (recordsFrom (now (file .entry)) 0) (length (now (answer .entry)))
+        (rateRecords (recordsFrom (now (file .entry)) 0) (length (now (answer .entry)))
         (length (now (work .entry))))
         (now (answer .entry)) (now (work .entry)) r (now (answer .exit)) (now (work .exit)) ⌝ }
 {
@@ -62,7 +61,7 @@ pub fn rate_records(
     requires { ⌜ AcceptedRecords (recordsFrom (now file) 0)
         × (now terms ≡ take 4097 (termsOf (recordsFrom (now file) 0))) ⌝ }
     ensures { λ r. ⌜ RatedFile sender
-        (rateRecords freeChoice (recordsFrom (now (file .entry)) 0) (length (now (answer .entry)))
+        (rateRecords (recordsFrom (now (file .entry)) 0) (length (now (answer .entry)))
         (length (now (work .entry))))
         (now (answer .entry)) (now (work .entry)) r (now (answer .exit)) (now (work .exit)) ⌝ }
 {

@@ -1,26 +1,22 @@
 -- The free way, by its verdict and the shortest recurrence.
 -- Assumes nothing.
-use Prim.Native.Nat.{ℕ, _≤_}
-use mathlib.Core.Path.{_≡_, refl, sym, ap, subst, _∙_}
+use Prim.Native.Nat.{ℕ}
+use mathlib.Core.Path.{_≡_, refl, sym, ap, _∙_}
 use mathlib.Core.Bool.{false}
 use mathlib.Core.List.{List}
 use mathlib.Core.Option.{none}
 use lib.ListN.{length}
 use Rattle.meaning.specs.declared.Refusal.{Refusal}
 use Rattle.meaning.specs.declared.FreeRating.{FreeRating}
-use Rattle.meaning.specs.Field.{Field}
 use Rattle.meaning.specs.Search.{holdsForSome}
 use Rattle.meaning.specs.Result.{Result, refused, mapResult, Rated, figuresOf, firstOf}
 use Rattle.meaning.specs.Free.{FreeFigures, freeTable, rateFree}
 use Rattle.meaning.specs.Answers.{toldFree}
 use Rattle.meaning.specs.Calls.{FreeCall}
-use Rattle.bridge.proofs.MasseySteps.{massey-sizes}
-use Rattle.arith.specs.Inverse.{inverse}
 use Rattle.refusals.specs.declared.Verdict.{Verdict}
 use Rattle.refusals.specs.Verdicts.{numberIn}
 use Rattle.refusals.proofs.Settled.{settle-refused}
-use Rattle.massey.specs.Shortest.{ShortestRecurrence, freeChoice}
-use Rattle.massey.proofs.FreeWay.{FreeAccepted, free-chosen, free-accepted}
+use Rattle.massey.proofs.FreeWay.{FreeAccepted, free-accepted}
 use Rattle.refusals.proofs.Lent.{names, never-refused, lent-refused}
 
 no-seventeen : (p : ℕ) (ts : List ℕ) (answer work : ℕ) → names 17 (freeTable p ts answer work) ≡ false
@@ -47,12 +43,11 @@ module _ (p : ℕ) (ts answer work : List ℕ) {v : Verdict}
     (e : numberIn v ≡ firstOf (freeTable p ts (length answer) (length work))) where
   pub free-refused : {x : Refusal}
       → v ≡ Verdict.Refused x
-      → FreeCall freeChoice p ts answer work (FreeRating.Refused x) answer work
+      → FreeCall p ts answer work (FreeRating.Refused x) answer work
   unfolding toldFree rateFree
   free-refused {x} q =
       let d = settle-refused (freeTable p ts (length answer) (length work)) _ e q in
       record {
         rating = told-refused d;
-        chosen = free-chosen p ts;
         lent = lent-refused d (never-refused 17 _ (no-seventeen p ts (length answer) (length work)) e q);
       }

@@ -27,15 +27,14 @@ use Rattle.meaning.specs.Polynomial.{Polynomial, monicMultiple}
 use Rattle.meaning.specs.Sequence.{cut, continuation}
 use Rattle.meaning.specs.Result.{Result, Rated, answered, refused, figuresOf, mapResult, answerAfter}
 use Rattle.meaning.specs.Result.{Check, workAfter}
-use Rattle.meaning.specs.Conditions.{named, totalDegree, factorDegreeOutOfRange, lentTooShort}
+use Rattle.meaning.specs.Conditions.{named, totalDegree, factorDegreeOutOfRange}
 use Rattle.meaning.specs.Conditions.{notPrime, coefficientOutOfRange, isReducible, twoEqual}
 use Rattle.meaning.specs.Conditions.{placeOutOfRange, countOutOfRange}
 use Rattle.meaning.specs.Power.{PowerFigures, powerRating}
 use Rattle.meaning.specs.Period.{periodPower, periodTable, periodAnswer, ratePeriod}
-use Rattle.meaning.specs.Portion.{SetFigures, factorsOf, leastAt, portionTable, portionAnswer, ratePortion}
+use Rattle.meaning.specs.Portion.{SetFigures, leastAt, portionTable, portionAnswer, ratePortion}
 use Rattle.meaning.specs.Portion.{setRating, setTable, setAnswer, rateSet}
-use Rattle.meaning.specs.Free.{Choice, FreeFigures, ChosenFits, leastDegree, isUnique, freePolynomial}
-use Rattle.meaning.specs.Free.{freeRating, freeTable, rateFree}
+use Rattle.meaning.specs.Free.{FreeFigures, freeRating, freeTable, rateFree}
 use Rattle.meaning.specs.Continuation.{continueSequence, continueTable, filled}
 use Rattle.meaning.specs.Irreducibility.{askIrreducible, irreducibleTable}
 use Rattle.meaning.specs.Answers.{setFiguresTold, setPadded, toldPower, toldSet, toldFree}
@@ -58,7 +57,7 @@ use Rattle.bridge.proofs.Actions.{length-cut}
 use Rattle.bridge.proofs.Multiples.{coefficients-lead, multiple-monic}
 use Rattle.bridge.proofs.Irreducibles.{Factors, multiples-factors, factors-monics}
 use Rattle.bridge.proofs.Portions.{portion-found, setPowers-exists}
-use Rattle.bridge.proofs.Fitting.{leastDegree-some, leastDegree-least, polynomial-one, polynomial-some}
+use Rattle.bridge.proofs.Fitting.{leastDegree-some, leastDegree-least, polynomial-some}
 use Rattle.bridge.proofs.RepeatBounds.{repeatBound-exists}
 use Rattle.bridge.proofs.Accepted.{prime-accepted, terms-accepted, enough-accepted, rating-of, power-rated}
 use Rattle.bridge.proofs.Accepted.{rated-power}
@@ -414,39 +413,26 @@ free-listed : Listed freeNumbers
 unfolding Listed refusalOf refusals lookUp holdsForAll isNone
 free-listed = tt
 
-free-polynomial :
-    (pick : Choice) (p : ℕ) (ts : List ℕ) (L : ℕ)
-    → IsField (GF p)
-    → leastDegree (GF p) ts ≡ some L
-    → (g : Polynomial) × (freePolynomial pick p ts L ≡ some g)
-free-polynomial pick p ts L I e = go (isUnique ts L) refl
-  where
-    go : (u : Bool) → isUnique ts L ≡ u → (g : Polynomial) × (freePolynomial pick p ts L ≡ some g)
-    go true u =
-        let least = leastDegree-least I e in
-        (least .fitting, polynomial-one p I pick least u (least .fits))
-    go false u = (pick p ts, polynomial-some pick p ts L u)
-
 pub free-tells :
-    (pick : Choice) (p : ℕ) (ts : List ℕ) (answer work : ℕ)
-    → Tells freeNumbers (rateFree pick p ts answer work)
+    (p : ℕ) (ts : List ℕ) (answer work : ℕ)
+    → Tells freeNumbers (rateFree p ts answer work)
 unfolding rateFree freeTable freeRating
-free-tells pick p ts answer work =
+free-tells p ts answer work =
     settle-tells _ (freeTable p ts answer work)
     (λ h.
     let I = inRange-isField p (prime-accepted p (h .fieldExists)) in
     let (L, e) = leastDegree-some I ts in
-    let (g, q) = free-polynomial pick p ts L I e in
-    (_, bind-some (freeRating pick p ts) e ∙ mapOption-some _ q))
+    let (g, q) = polynomial-some I (leastDegree-least I e .fits) in
+    (_, bind-some (freeRating (GF p) ts) e ∙ mapOption-some _ q))
 
 pub free-lent :
-    (pick : Choice) (p : ℕ) (ts : List ℕ) (answer work : ℕ)
-    → Answered (rateFree pick p ts answer work) ⊎ (rateFree pick p ts answer work ≡ refused 17)
+    (p : ℕ) (ts : List ℕ) (answer work : ℕ)
+    → Answered (rateFree p ts answer work) ⊎ (rateFree p ts answer work ≡ refused 17)
     → (4097 ≤ answer) × (8192 ≤ work)
 unfolding rateFree freeTable
-free-lent pick p ts answer work (inl (a, e)) =
+free-lent p ts answer work (inl (a, e)) =
     lent-enough answer work (settle-answered _ (freeTable p ts answer work) e .0 .lentEnough)
-free-lent pick p ts answer work (inr e) =
+free-lent p ts answer work (inr e) =
     absurd (true≢false (sym (settle-refused _ (freeTable p ts answer work) (omega arith) e .1)))
 
 -- the answer of the free way with these figures
@@ -462,51 +448,51 @@ ratingFree-told x = go (x .unique) refl
     go true e = rw (e, ratingFree, toldFree)
     go false e = rw (e, ratingFree, toldFree)
 
-module _ (pick : Choice) (p : ℕ) (ts answer work : List ℕ) (chosen : ChosenFits pick p ts) where
+module _ (p : ℕ) (ts answer work : List ℕ) where
   abbrev freeResult : Result (Rated FreeFigures)
-  freeResult = rateFree pick p ts (length answer) (length work)
+  freeResult = rateFree p ts (length answer) (length work)
 
   free-some :
       (r : FreeRating)
       × (answer′ : List ℕ)
       × (work′ : List ℕ)
-      × FreeCall pick p ts answer work r answer′ work′
+      × FreeCall p ts answer work r answer′ work′
   unfolding toldFree figuresOf
   free-some =
       let (r, e) =
       meets toldFree ratingFree FreeRating.Refused ratingFree-told (λ z. refl) freeNumbers free-listed
       (figuresOf freeResult)
       (map-tells freeNumbers (λ a. a .figures) freeResult refl
-      (free-tells pick p ts (length answer) (length work))) in (
+      (free-tells p ts (length answer) (length work))) in (
         r,
         answerAfter freeResult answer,
         workAfter freeResult work,
-        record { rating = e; chosen = chosen; lent = lent-after freeResult answer work },
+        record { rating = e; lent = lent-after freeResult answer work },
       )
 
   free-sized : Sized (λ a. a .degree) freeResult (length answer) (length work)
   unfolding figuresOf mapResult
   free-sized =
       record {
-        polynomial = λ a e. free-size pick p ts (length answer) (length work) chosen e;
+        polynomial = λ a e. free-size p ts (length answer) (length work) e;
         small =
             λ a e.
             let (r, answer′, work′, c) = free-some in
-            free-promise pick p ts answer work r answer′ work′ c (a .figures) (c .rating ∙ ap figuresOf e)
+            free-promise p ts answer work r answer′ work′ c (a .figures) (c .rating ∙ ap figuresOf e)
             .small;
-        lent = free-lent pick p ts (length answer) (length work);
+        lent = free-lent p ts (length answer) (length work);
       }
 
 pub free-answers : FreeAnswers
-free-answers pick p ts answer work chosen =
+free-answers p ts answer work =
     record {
       each =
           λ r answer′ work′ c.
-          rating-answers freeNumbers (λ a. a .degree) (λ a. a) (freeResult pick p ts answer work chosen)
+          rating-answers freeNumbers (λ a. a .degree) (λ a. a) (freeResult p ts answer work)
           (toldFree r) answer work answer′ work′ (c .rating ∙ figures-themselves _)
-          (free-tells pick p ts (length answer) (length work)) (free-sized pick p ts answer work chosen)
+          (free-tells p ts (length answer) (length work)) (free-sized p ts answer work)
           (c .lent);
-      some = free-some pick p ts answer work chosen;
+      some = free-some p ts answer work;
       one = λ r s _ _ _ _ c d. free-call-determined c d;
     }
 

@@ -324,11 +324,11 @@ module _
     -- THE FREE WAY
     free-way : (k m : ℕ) → 2 * degree g ≤ m → 1 ≤ m → m ≤ 4096 → FreeReturns p (cut s k m) g
     unfolding figuresOf mapResult answerAfter
-    free-way k m twice least few answer work lent pick told answer′ work′ c =
+    free-way k m twice least few answer work lent told answer′ work′ c =
         let t = terms k m least few in
         let result =
         stretch-answer p (product (GF p) l) g s annihilated (product-elements I l) constant minimal k m twice
-        (length answer) (length work) pick
+        (length answer) (length work)
         (accepts-free p (cut s k m) (length answer) (length work) (accepted-prime p fs vs accepted) t
         lent) in (
           record { degree = degree g; unique = true },

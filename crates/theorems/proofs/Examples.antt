@@ -5,8 +5,8 @@
 --                   are rated differently
 --   OneTermShort == D − 1 terms do not decide: no rater whatever finds from them the minimal polynomial of
 --                   every sequence that the factor to its upper power annihilates; and 15 refuses them
---   TwoFit       == with 2L − 1 terms two polynomials of the least degree L fit, and the free way may return
---                   the other one
+--   TwoFit       == with 2L − 1 terms two polynomials of the least degree L fit, and the free way returns the
+--                   first of them, which is not the minimal polynomial
 -- Assumes nothing.
 use Prim.Native.Nat.{ℕ, suc, _*_}
 use native.Mathlib.Omega.{arith}
@@ -29,7 +29,7 @@ use Rattle.meaning.proofs.Stretches.{ones-annihilated, ones-refused, alternatin
 use Rattle.meaning.proofs.Stretches.{alternating-annihilated-2, x, accepted-x, oneThenZeros}
 use Rattle.meaning.proofs.Stretches.{oneThenZeros-inField, oneThenZeros-annihilated}
 use Rattle.meaning.proofs.Stretches.{oneThenZeros-set-0, oneThenZeros-set-1}
-use Rattle.meaning.proofs.Stretches.{three, three-least, three-first, three-second, three-free, picked}
+use Rattle.meaning.proofs.Stretches.{three, three-least, three-first, three-second, three-free}
 use Rattle.bridge.proofs.Minimal.{minimal-unique}
 use Rattle.theorems.specs.Ratings.{GF}
 use Rattle.theorems.specs.CutAnywhere.{CutAnywhere, SetReturns, FreeReturns}
@@ -123,7 +123,7 @@ pub record TwoFit : Type 0 where
 
 two-refuted : FreeReturns 2 three (short-instance .g) → ⊥
 two-refuted h =
-    let z = h answer work lent picked _ _ _ three-free in
+    let z = h answer work lent _ _ _ three-free in
     let e : _≡_ {A = ℕ} 0 1 =
     ap (λ (g : Polynomial). getD g 0 5) (z .2 .coefficients ∙ short-polynomial) in
     omega arith

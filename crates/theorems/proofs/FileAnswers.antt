@@ -18,11 +18,11 @@ use Rattle.meaning.specs.declared.RecordOutcome.{RecordOutcome}
 use Rattle.meaning.specs.Search.{holdsForAll, holdsForSome, isNone}
 use Rattle.meaning.specs.Result.{Result, Rated, refused, answered, mapResult, figuresOf, answerAfter}
 use Rattle.meaning.specs.Result.{workAfter}
-use Rattle.meaning.specs.Free.{Choice, FreeFigures}
+use Rattle.meaning.specs.Free.{FreeFigures}
 use Rattle.meaning.specs.Route.{RouteRecord, Mode, periodMode, setMode, freeMode, modeOf, byteOf, bodies}
 use Rattle.meaning.specs.Route.{lookUp, records, modeUnsuited, readRecord, endRecord, boxOf}
 use Rattle.meaning.specs.File.{fileFactor, termsOf, Label, powers, unique, several, FileFigures, rateMode}
-use Rattle.meaning.specs.File.{rateFile, FileChosenFits}
+use Rattle.meaning.specs.File.{rateFile}
 use Rattle.meaning.specs.Answers.{toldFile, fileFiguresTold, labelTold, toldRecord, FileTold, filePadded}
 use Rattle.meaning.specs.Answers.{withPowers, withOne, withSome}
 use Rattle.meaning.specs.Calls.{FileCall, bodyAfter}
@@ -97,20 +97,20 @@ record-answers file n =
 
 -- ROUTE FILES
 mode-tells :
-    (pick : Choice) (rs : List RouteRecord) (answer work : ℕ) (m : Mode)
+    (rs : List RouteRecord) (answer work : ℕ) (m : Mode)
     → Tells (modeNumbers m)
-    (rateMode pick m (byteOf 2 rs) (map fileFactor (bodies 4 rs)) (termsOf rs) answer work)
+    (rateMode m (byteOf 2 rs) (map fileFactor (bodies 4 rs)) (termsOf rs) answer work)
 unfolding rateMode
-mode-tells pick rs answer work periodMode =
+mode-tells rs answer work periodMode =
     map-tells _ _ _ (period-map (length (termsOf rs)) _)
     (period-tells (byteOf 2 rs) _ _ _ (termsOf rs) answer work)
-mode-tells pick rs answer work setMode =
+mode-tells rs answer work setMode =
     map-tells _ _ _ (set-map (length (termsOf rs)) _)
     (set-tells (byteOf 2 rs) _ _ _ (termsOf rs) answer work
     (λ _. pairs-nonempty (map fileFactor (bodies 4 rs))))
-mode-tells pick rs answer work freeMode =
+mode-tells rs answer work freeMode =
     map-tells _ _ _ (free-map (length (termsOf rs)) _)
-    (free-tells pick (byteOf 2 rs) (termsOf rs) answer work)
+    (free-tells (byteOf 2 rs) (termsOf rs) answer work)
 
 unknown-unsuited : (rs : List RouteRecord) → modeOf (byteOf 3 rs) ≡ none → modeUnsuited rs ≡ true
 unfolding modeUnsuited
@@ -118,40 +118,40 @@ unknown-unsuited rs e = rw (e, modeUnsuited)
 
 -- a file is refused by its records, or rated by its mode
 by-file :
-    (pick : Choice) (file : List ℕ) (answer work : ℕ) (B : List ℕ → Result (Rated FileFigures) → Type 0)
+    (file : List ℕ) (answer work : ℕ) (B : List ℕ → Result (Rated FileFigures) → Type 0)
     → ((n : ℕ) → OneOf n readerNumbers → B readerNumbers (refused n))
     → ((rs : List RouteRecord) (m : Mode)
     → B (modeNumbers m)
-    (rateMode pick m (byteOf 2 rs) (map fileFactor (bodies 4 rs)) (termsOf rs) answer work))
-    → B (fileNumbers (records file)) (rateFile pick file answer work)
-by-file pick file answer work B early way = go (records file) refl
+    (rateMode m (byteOf 2 rs) (map fileFactor (bodies 4 rs)) (termsOf rs) answer work))
+    → B (fileNumbers (records file)) (rateFile file answer work)
+by-file file answer work B early way = go (records file) refl
   where
     go :
         (x : Result (List RouteRecord))
         → records file ≡ x
-        → B (fileNumbers x) (rateFile pick file answer work)
+        → B (fileNumbers x) (rateFile file answer work)
     go (refused n) e = elim (records-tells file) [
       | inl (rs, q) ↦ never-answered (sym e ∙ q)
-      | inr (k, q, h) ↦ subst (B readerNumbers) (sym (refused-file pick file answer work q)) (early k h)
+      | inr (k, q, h) ↦ subst (B readerNumbers) (sym (refused-file file answer work q)) (early k h)
     ]
     go (answered rs) e = by (modeOf (byteOf 3 rs)) refl
       where
         by :
             (o : Option Mode)
             → modeOf (byteOf 3 rs) ≡ o
-            → B (elim o [ none ↦ [] | some m ↦ modeNumbers m ]) (rateFile pick file answer work)
+            → B (elim o [ none ↦ [] | some m ↦ modeNumbers m ]) (rateFile file answer work)
         by none q = absurd (true≢false (sym (unknown-unsuited rs q) ∙ records-suited file e))
         by (some m) q =
             subst (B (modeNumbers m))
-            (sym (accepted-file pick file answer work e ∙ known-mode pick rs answer work q))
+            (sym (accepted-file file answer work e ∙ known-mode rs answer work q))
             (way rs m)
 
 pub file-tells :
-    (pick : Choice) (file : List ℕ) (answer work : ℕ)
-    → Tells (fileNumbers (records file)) (rateFile pick file answer work)
-file-tells pick file answer work =
-    by-file pick file answer work (λ numbers x. Tells numbers x) (λ n h. inr (n, refl, h))
-    (λ rs m. mode-tells pick rs answer work m)
+    (file : List ℕ) (answer work : ℕ)
+    → Tells (fileNumbers (records file)) (rateFile file answer work)
+file-tells file answer work =
+    by-file file answer work (λ numbers x. Tells numbers x) (λ n h. inr (n, refl, h))
+    (λ rs m. mode-tells rs answer work m)
 
 -- a mode tells what its way answers
 moved :
@@ -163,33 +163,33 @@ moved g x y e (inl (b, q)) = let (a, z, _) = map-answered g x (sym e ∙ q) in i
 moved g x y e (inr q) = inr (map-refused g x (sym e ∙ q))
 
 mode-lent :
-    (pick : Choice) (rs : List RouteRecord) (answer work : ℕ) (m : Mode)
-    → let x = rateMode pick m (byteOf 2 rs) (map fileFactor (bodies 4 rs)) (termsOf rs) answer work in
+    (rs : List RouteRecord) (answer work : ℕ) (m : Mode)
+    → let x = rateMode m (byteOf 2 rs) (map fileFactor (bodies 4 rs)) (termsOf rs) answer work in
     Answered x ⊎ (x ≡ refused 17)
     → (4097 ≤ answer) × (8192 ≤ work)
 unfolding rateMode
-mode-lent pick rs answer work periodMode h =
+mode-lent rs answer work periodMode h =
     period-lent (byteOf 2 rs) _ _ _ (termsOf rs) answer work
     (moved _ _ _ (period-map (length (termsOf rs)) _) h)
-mode-lent pick rs answer work setMode h =
+mode-lent rs answer work setMode h =
     set-lent (byteOf 2 rs) _ _ _ (termsOf rs) answer work (moved _ _ _ (set-map (length (termsOf rs)) _) h)
-mode-lent pick rs answer work freeMode h =
-    free-lent pick (byteOf 2 rs) (termsOf rs) answer work (moved _ _ _ (free-map (length (termsOf rs)) _) h)
+mode-lent rs answer work freeMode h =
+    free-lent (byteOf 2 rs) (termsOf rs) answer work (moved _ _ _ (free-map (length (termsOf rs)) _) h)
 
 file-lent :
-    (pick : Choice) (file : List ℕ) (answer work : ℕ)
-    → let x = rateFile pick file answer work in
+    (file : List ℕ) (answer work : ℕ)
+    → let x = rateFile file answer work in
     Answered x ⊎ (x ≡ refused 17)
     → (4097 ≤ answer) × (8192 ≤ work)
 unfolding holdsForSome
-file-lent pick file answer work =
-    by-file pick file answer work
+file-lent file answer work =
+    by-file file answer work
     (λ numbers x. Answered x ⊎ (x ≡ refused 17) → (4097 ≤ answer) × (8192 ≤ work))
     (λ n h z. absurd (elim z [
       | inl (a, e) ↦ never-answered e
       | inr e ↦ subst (λ k. OneOf k readerNumbers) (refused-same e) h
     ]))
-    (λ rs m. mode-lent pick rs answer work m)
+    (λ rs m. mode-lent rs answer work m)
 
 label-degree : (l : Label) (d m : ℕ) → fileDegree (labelTold l d m) ≡ d
 unfolding labelTold
@@ -246,15 +246,15 @@ rated-small freeMode rs a eight answer′ x =
     subst (λ a. fileDegree a ≤ 4096) (sym (x .tells))
     (subst (λ d. d ≤ 4096) (sym (free-degree (x .figures) (length (termsOf rs)))) (x .rated .small))
 
-module _ (pick : Choice) (file answer work : List ℕ) (chosen : FileChosenFits pick file) where
+module _ (file answer work : List ℕ) where
   abbrev result : Result (Rated FileFigures)
-  result = rateFile pick file (length answer) (length work)
+  result = rateFile file (length answer) (length work)
 
   file-some :
       (r : FileRating)
       × (answer′ : List ℕ)
       × (work′ : List ℕ)
-      × FileCall pick file answer work r answer′ work′
+      × FileCall file answer work r answer′ work′
   unfolding toldFile figuresOf
   file-some =
       let numbers = fileNumbers (records file) in
@@ -263,7 +263,7 @@ module _ (pick : Choice) (file answer work : List ℕ) (chosen : FileChosenFits 
       (numbers-listed (records file)) (mapResult fileFiguresTold (figuresOf result))
       (map-tells numbers fileFiguresTold (figuresOf result) refl
       (map-tells numbers (λ a. a .figures) result refl
-      (file-tells pick file (length answer) (length work)))) in (
+      (file-tells file (length answer) (length work)))) in (
         record { sender = boxOf file; outcome = o; powers = filePadded (figuresOf result) },
         answerAfter result answer,
         workAfter result work,
@@ -271,7 +271,6 @@ module _ (pick : Choice) (file answer work : List ℕ) (chosen : FileChosenFits 
           sender = refl;
           rating = e;
           powers = refl;
-          chosen = chosen;
           lent = lent-after result answer work;
         },
       )
@@ -282,35 +281,35 @@ module _ (pick : Choice) (file answer work : List ℕ) (chosen : FileChosenFits 
       record {
         polynomial =
             λ a e.
-            file-size pick file (length answer) (length work) chosen e
+            file-size file (length answer) (length work) e
             ∙ ap suc (sym (label-degree (a .figures .label) (a .figures .degree) (a .figures .terms)));
         small =
             λ a e.
             let (r, answer′, work′, c) = file-some in
             let (rs, m, _, x) =
-            file-promise pick file answer work r answer′ work′ c .rated (fileFiguresTold (a .figures))
+            file-promise file answer work r answer′ work′ c .rated (fileFiguresTold (a .figures))
             (c .rating ∙ ap (λ x. mapResult fileFiguresTold (figuresOf x)) e) in
             rated-small m rs (fileFiguresTold (a .figures)) (r .powers) answer′ x;
-        lent = file-lent pick file (length answer) (length work);
+        lent = file-lent file (length answer) (length work);
       }
 
 pub file-answers : FileAnswers
-file-answers pick file answer work chosen =
+file-answers file answer work =
     record {
       each =
           λ r answer′ work′ c.
-          rating-answers _ fileDegree fileFiguresTold (result pick file answer work chosen)
+          rating-answers _ fileDegree fileFiguresTold (result file answer work)
           (toldFile (r .outcome)) answer work answer′ work′ (c .rating)
-          (file-tells pick file (length answer) (length work)) (file-sized pick file answer work chosen)
+          (file-tells file (length answer) (length work)) (file-sized file answer work)
           (c .lent);
-      some = file-some pick file answer work chosen;
+      some = file-some file answer work;
       one = λ r s _ _ _ _ c d. file-call-determined c d;
     }
 
 -- THE PROGRAM
 pub program-answers : ProgramAnswers
-program-answers pick input chosen =
+program-answers input =
     record {
-      some = (printed pick input, record { lines = refl; chosen = chosen });
+      some = (printed input, record { lines = refl });
       one = λ o o′ c d. c .lines ∙ sym (d .lines);
     }

@@ -19,7 +19,7 @@ use Rattle.meaning.specs.Result.{workAfter, written}
 use Rattle.meaning.specs.Power.{PowerFigures}
 use Rattle.meaning.specs.Period.{periodTable, periodAnswer, ratePeriod, NoPower}
 use Rattle.meaning.specs.Portion.{SetFigures, setTable, setAnswer, rateSet}
-use Rattle.meaning.specs.Free.{Choice, FreeFigures, freeTable, rateFree}
+use Rattle.meaning.specs.Free.{FreeFigures, freeTable, rateFree}
 use Rattle.meaning.specs.Route.{RouteRecord, Mode, periodMode, setMode, freeMode, modeOf, byteOf, bodies}
 use Rattle.meaning.specs.Route.{records}
 use Rattle.meaning.specs.File.{WrittenFactor, fileFactor, polynomialOf, fileDegreeOutOfRange}
@@ -90,10 +90,10 @@ abbrev placesIn : Rated FileFigures → List ℕ
 placesIn b = padded (labelPowers (b .figures .label))
 
 -- WHAT IS TOLD OF A FILE, AND THE RESULT
-module _ (pick : Choice) (file answer work : List ℕ) (r : FileRating) (answer′ work′ : List ℕ)
-    (c : FileCall pick file answer work r answer′ work′) where
+module _ (file answer work : List ℕ) (r : FileRating) (answer′ work′ : List ℕ)
+    (c : FileCall file answer work r answer′ work′) where
   abbrev result : Result (Rated FileFigures)
-  result = rateFile pick file (length answer) (length work)
+  result = rateFile file (length answer) (length work)
 
   told-answered :
       (a : FileTold)
@@ -137,10 +137,10 @@ module _ (pick : Choice) (file answer work : List ℕ) (r : FileRating) (answer�
     by-mode :
         (m : Mode)
         → modeOf (byteOf 3 rs) ≡ some m
-        → result ≡ rateMode pick m p fs ts (length answer) (length work)
+        → result ≡ rateMode m p fs ts (length answer) (length work)
     by-mode m mode =
-        accepted-file pick file (length answer) (length work) its
-        ∙ known-mode pick rs (length answer) (length work) mode
+        accepted-file file (length answer) (length work) its
+        ∙ known-mode rs (length answer) (length work) mode
 
     -- MODE 1
     module _ (mode : modeOf (byteOf 3 rs) ≡ some periodMode) where
@@ -306,7 +306,7 @@ module _ (pick : Choice) (file answer work : List ℕ) (r : FileRating) (answer�
     -- MODE 3
     module _ (mode : modeOf (byteOf 3 rs) ≡ some freeMode) where
       abbrev freeResult : Result (Rated FreeFigures)
-      freeResult = rateFree pick p ts (length answer) (length work)
+      freeResult = rateFree p ts (length answer) (length work)
 
       free-is : result ≡ ofFree (length ts) freeResult
       unfolding rateMode
@@ -327,10 +327,9 @@ module _ (pick : Choice) (file answer work : List ℕ) (r : FileRating) (answer�
                 sym u ∙ sym (ap (λ b. fileFiguresTold (b .figures)) v) ∙ free-label (d .figures) (length ts);
             places = eight-of q ∙ sym (ap placesIn v) ∙ ap padded (free-powers (d .figures .unique));
             rated =
-                free-promise pick p ts answer work (ratingFree (d .figures)) answer′ work′
+                free-promise p ts answer work (ratingFree (d .figures)) answer′ work′
                 (record {
                   rating = ratingFree-told (d .figures) ∙ sym (ap figuresOf w);
-                  chosen = c .chosen rs its mode;
                   lent = lent-moved q w (sym (ap (λ b. b .polynomial) v)) (c .lent);
                 })
                 (d .figures) (ratingFree-told (d .figures));
@@ -386,7 +385,7 @@ module _ (pick : Choice) (file answer work : List ℕ) (r : FileRating) (answer�
           → (rs : List RouteRecord) × (m : Mode) × Holds file rs m × B rs m
       go (refused n) its =
           absurd
-          (later n (refused-file pick file (length answer) (length work) its) (records-number file its .1))
+          (later n (refused-file file (length answer) (length work) its) (records-number file its .1))
       go (answered rs) its = by (modeOf (byteOf 3 rs)) refl
         where
           by :
@@ -396,24 +395,24 @@ module _ (pick : Choice) (file answer work : List ℕ) (r : FileRating) (answer�
           by none mode =
               absurd
               (later 5
-              (accepted-file pick file (length answer) (length work) its
-              ∙ unknown-mode pick rs (length answer) (length work) mode)
+              (accepted-file file (length answer) (length work) its
+              ∙ unknown-mode rs (length answer) (length work) mode)
               (omega arith))
           by (some m) mode = (rs, m, record { its-records = its; its-mode = mode }, way rs m its mode)
 
 pub file-promise : FilePromise
-file-promise pick file answer work r answer′ work′ c =
+file-promise file answer work r answer′ work′ c =
     record {
       rated =
           λ a e.
-          let (b, q, _) = told-answered pick file answer work r answer′ work′ c a e in
-          file-way pick file answer work r answer′ work′ c {B = λ rs m. RatedBy m rs a (r .powers) answer′}
+          let (b, q, _) = told-answered file answer work r answer′ work′ c a e in
+          file-way file answer work r answer′ work′ c {B = λ rs m. RatedBy m rs a (r .powers) answer′}
           (λ n z l. never-answered (sym z ∙ q))
-          (λ rs m its mode. rated-by pick file answer work r answer′ work′ c rs its m mode a e);
+          (λ rs m its mode. rated-by file answer work r answer′ work′ c rs its m mode a e);
       seventeen =
           λ e.
-          let q = told-refused pick file answer work r answer′ work′ c 17 e in
-          file-way pick file answer work r answer′ work′ c {B = λ rs m. SeventeenBy m rs}
+          let q = told-refused file answer work r answer′ work′ c 17 e in
+          file-way file answer work r answer′ work′ c {B = λ rs m. SeventeenBy m rs}
           (λ n z l. omega (arith, refused-same (sym z ∙ q)))
-          (λ rs m its mode. seventeen-by pick file answer work r answer′ work′ c rs its m mode e);
+          (λ rs m its mode. seventeen-by file answer work r answer′ work′ c rs its m mode e);
     }

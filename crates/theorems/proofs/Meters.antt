@@ -7,28 +7,27 @@
 use Prim.Native.Nat.{ℕ, zero, suc, _+_, _*_, _/_, _≤_, _<_}
 use mathlib.Core.Path.{_≡_, refl, sym, ap, subst, subst₃, _∙_}
 use mathlib.Core.Logic.{inl, inr}
-use mathlib.Core.Bool.{true, false}
+use mathlib.Core.Bool.{true}
 use mathlib.Core.List.{List, [], _∷_, _++_, append-assoc}
 use mathlib.Core.Option.{Option, none, some, Option·some-injective}
 use native.Mathlib.Omega.{arith}
-use lib.ListN.{length, take, drop, set, length-set, length-append, length-take, length-drop}
+use lib.ListN.{length, take, drop, length-set, length-append, length-take, length-drop}
 use lib.Seq.{drop-drop, take-take, drop-append-le, take-append-le}
 use lib.Dec.{T, leb→le}
 use Rattle.meaning.specs.declared.FreeRating.{FreeRating}
 use Rattle.meaning.specs.declared.Meter.{Meter}
 use Rattle.meaning.specs.declared.MeterStart.{MeterStart}
-use Rattle.meaning.specs.declared.MeterStep.{MeterStep}
 use Rattle.meaning.specs.Search.{holdsForAll, holdsForSome, isNone}
 use Rattle.meaning.specs.Conditions.{notPrime, termOutOfField}
 use Rattle.meaning.specs.Route.{lookUp}
 use Rattle.meaning.specs.Result.{Check, Result, refused, answered, figuresOf, mapResult, settle, firstOf}
 use Rattle.meaning.specs.Result.{valueOf, written}
-use Rattle.meaning.specs.Free.{Choice, FreeFigures, leastDegree, isUnique, freeTable, rateFree}
+use Rattle.meaning.specs.Free.{FreeFigures, leastDegree, isUnique, freeTable, rateFree}
 use Rattle.meaning.specs.Meter.{MeterModel, Holding, freeFigures, startMeter, termTable, takeTerm}
 use Rattle.meaning.specs.Meter.{meterReading}
 use Rattle.meaning.specs.Meter.{unlessRefused, meterFull, profileEntry, profileOf}
 use Rattle.meaning.specs.Answers.{toldFree, toldStart}
-use Rattle.meaning.specs.Calls.{FreeCall, StartCall, TermCall, TermTaken, ReadingCall}
+use Rattle.meaning.specs.Calls.{ReadingCall}
 use Rattle.meaning.proofs.Determined.{refusals, refusalOf, start-call-determined, term-call-determined}
 use Rattle.meaning.proofs.Determined.{reading-call-determined}
 use Rattle.meaning.proofs.Tables.{settle-none}
@@ -42,12 +41,12 @@ use Rattle.bridge.proofs.Continuations.{take-elements}
 use Rattle.bridge.proofs.Interpretation.{inRange-isField}
 use Rattle.bridge.proofs.Accepted.{AcceptedTerms, accepts-free, prime-accepted, terms-accepted}
 use Rattle.bridge.proofs.Fitting.{free-rated, leastDegree-some}
-use Rattle.bridge.proofs.Meters.{holding-none, holding-more, reading-taken}
+use Rattle.bridge.proofs.Meters.{holding-none, holding-more}
 use Rattle.meaning.specs.Field.{primeInRange, areElements}
 use Rattle.theorems.specs.Answering.{freeNumbers, OneOf, Tells}
 use Rattle.theorems.specs.Ratings.{GF}
 use Rattle.theorems.specs.Meters.{startNumbers, termNumbers, StartAnswers, Run, begun, taken, passed}
-use Rattle.theorems.specs.Meters.{FreeGives, MeterRight, MeterPromise, ProfileExport}
+use Rattle.theorems.specs.Meters.{FreeGives, MeterPromise, ProfileExport}
 use Rattle.theorems.proofs.Telling.{settle-tells, map-tells, no-zero, Listed, meets}
 use Rattle.theorems.proofs.Answering.{free-tells}
 use Rattle.theorems.proofs.OtherLanguages.{status-told}
@@ -78,13 +77,13 @@ module _ (p : ℕ) (ts : List ℕ) (a : FreeFigures) (q : T (primeInRange p)) (t
     (e : freeFigures (GF p) ts ≡ some a) where
   free-gives : FreeGives p ts a
   unfolding figuresOf mapResult rateFree holdsForSome
-  free-gives pick answer work r answer′ work′ l c =
-      c .rating ∙ go (free-tells pick p ts (length answer) (length work))
+  free-gives answer work r answer′ work′ l c =
+      c .rating ∙ go (free-tells p ts (length answer) (length work))
     where
-      go : Tells freeNumbers (rateFree pick p ts (length answer) (length work))
-          → figuresOf (rateFree pick p ts (length answer) (length work)) ≡ answered a
+      go : Tells freeNumbers (rateFree p ts (length answer) (length work))
+          → figuresOf (rateFree p ts (length answer) (length work)) ≡ answered a
       go (inl (b, f)) =
-          let (_, d, u) = free-rated p ts (length answer) (length work) pick f in
+          let (_, d, u, _) = free-rated p ts (length answer) (length work) f in
           let (d′, u′) = figures-least p ts a e in
           let same = Option·some-injective _ _ (sym d ∙ d′) in
           let words = u ∙ ap (isUnique ts) same ∙ sym u′ in

@@ -144,23 +144,23 @@ set-export p fs vs ts answer work powers degree status answer′ work′ powers�
 -- THE FREE WAY
 pub free-export : FreeExport
 unfolding holdsForSome figuresOf
-free-export pick p ts answer work degree unique status answer′ work′ degree′ unique′ x =
-    let answers = free-answers pick p ts answer work (x .chosen) in
+free-export p ts answer work degree unique status answer′ work′ degree′ unique′ x =
+    let answers = free-answers p ts answer work in
     let (r, _, _, c₀) = answers .some in
-    let c : FreeCall pick p ts answer work r answer′ work′ =
-    record { rating = c₀ .rating; chosen = x .chosen; lent = x .lent } in
+    let c : FreeCall p ts answer work r answer′ work′ =
+    record { rating = c₀ .rating; lent = x .lent } in
     let each = answers .each r answer′ work′ c in
     record {
       told = toldFree r;
       status-told =
           status-told freeNumbers (toldFree r) status (no-zero freeNumbers tt) (each .tells)
           (x .told
-          ∙ status-map (λ a. a .figures) (rateFree pick p ts (length answer) (length work))
+          ∙ status-map (λ a. a .figures) (rateFree p ts (length answer) (length work))
           ∙ ap statusOf (sym (c₀ .rating)));
       degree-told = x .degreeAfter ∙ ap (λ y. numberAfter (λ a. a .degree) y degree) (sym (c₀ .rating));
       word-told = x .uniqueAfter ∙ ap (λ y. numberAfter wordOf y unique) (sym (c₀ .rating));
       answers = each;
-      right = free-promise pick p ts answer work r answer′ work′ c;
+      right = free-promise p ts answer work r answer′ work′ c;
     }
 
 -- THE CONTINUATION AND THE QUESTION

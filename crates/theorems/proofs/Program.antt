@@ -11,7 +11,6 @@ use lib.Seq.{take-at}
 use Rattle.meaning.specs.declared.FileRating.{FileRating}
 use Rattle.meaning.specs.Polynomial.{Polynomial}
 use Rattle.meaning.specs.Result.{Result, Rated, refused, answered, mapResult, figuresOf, answerAfter, written}
-use Rattle.meaning.specs.Free.{Choice}
 use Rattle.meaning.specs.Route.{RouteRecord, records, endRecord, boxOf, lookUp, bodyLengths}
 use Rattle.meaning.specs.File.{Label, powers, unique, several, FileFigures, rateFile}
 use Rattle.meaning.specs.Answers.{toldFile, fileFiguresTold, labelTold, filePadded, labelPowers, padded}
@@ -107,10 +106,10 @@ told-lines box unique d m g eight answer answer′ n e b =
 told-lines box several d m g eight answer answer′ n e b =
     ap (ratedLines box d m (text "some")) (sym (ap (take (suc d)) b ∙ take-at g _ (suc d) n))
 
-module _ (pick : Choice) (input answer work : List ℕ) (r : FileRating) (answer′ work′ : List ℕ)
-    (c : FileCall pick input answer work r answer′ work′) where
+module _ (input answer work : List ℕ) (r : FileRating) (answer′ work′ : List ℕ)
+    (c : FileCall input answer work r answer′ work′) where
   abbrev result : Result (Rated FileFigures)
-  result = rateFile pick input (length answer) (length work)
+  result = rateFile input (length answer) (length work)
 
   abbrev lines : List ℕ
   lines = header ++ linesTold (r .sender) (toldFile (r .outcome)) (r .powers) answer′
@@ -129,40 +128,40 @@ module _ (pick : Choice) (input answer work : List ℕ) (r : FileRating) (answer
       ap (λ l. header ++ l)
       (told-lines (boxOf input) (a .figures .label) (a .figures .degree) (a .figures .terms) (a .polynomial)
       (r .powers) answer answer′
-      (file-size pick input (length answer) (length work) (c .chosen) e)
+      (file-size input (length answer) (length work) e)
       (c .powers ∙ ap (λ x. filePadded (figuresOf x)) e)
       (c .lent .answerBytes ∙ ap (λ x. answerAfter x answer) e))
       ∙ sym (λ i. header ++ linesTold (c .sender i) (told e i) (r .powers) answer′)
 
 pub program-as-call : ProgramAsCall
 unfolding printed
-program-as-call pick input output call answer work la lw r answer′ work′ c =
+program-as-call input output call answer work la lw r answer′ work′ c =
     call .lines
-    ∙ sym (λ i. report (boxOf input) (rateFile pick input (la i) (lw i)))
-    ∙ report-told pick input answer work r answer′ work′ c _ refl
+    ∙ sym (λ i. report (boxOf input) (rateFile input (la i) (lw i)))
+    ∙ report-told input answer work r answer′ work′ c _ refl
 
 -- with any lent bytes of these lengths
 printed-right :
-    (pick : Choice) (input output answer work : List ℕ)
-    → ProgramCall pick input output
+    (input output answer work : List ℕ)
+    → ProgramCall input output
     → length answer ≡ 4097
     → length work ≡ 8192
     → PrintedRight input output
-printed-right pick input output answer work call la lw =
-    let answers = file-answers pick input answer work (call .chosen) in
+printed-right input output answer work call la lw =
+    let answers = file-answers input answer work in
     let (r, answer′, work′, c) = answers .some in
     record {
       told = toldFile (r .outcome);
       eight = r .powers;
       left = answer′;
       lines =
-          program-as-call pick input output call answer work la lw r answer′ work′ c
+          program-as-call input output call answer work la lw r answer′ work′ c
           ∙ ap (λ box. header ++ linesTold box (toldFile (r .outcome)) (r .powers) answer′) (c .sender);
       tells = answers .each r answer′ work′ c .tells;
-      right = file-promise pick input answer work r answer′ work′ c;
+      right = file-promise input answer work r answer′ work′ c;
     }
 
 pub program-promise : ProgramPromise
-program-promise pick input output call =
-    printed-right pick input output (replicate 4097 0) (replicate 8192 0) call
+program-promise input output call =
+    printed-right input output (replicate 4097 0) (replicate 8192 0) call
     (length-replicate {A = ℕ} 4097 0) (length-replicate {A = ℕ} 8192 0)

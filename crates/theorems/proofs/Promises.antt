@@ -5,7 +5,6 @@ use mathlib.Core.Option.{Option, none, some}
 use Rattle.meaning.specs.Search.{holdsForSome}
 use Rattle.meaning.specs.Result.{Result, refused, answered}
 use Rattle.meaning.specs.Route.{RouteRecord, Mode, periodMode, setMode, freeMode, modeOf, byteOf, records}
-use Rattle.bridge.proofs.MasseyAnswer.{choice-exists}
 use Rattle.theorems.specs.Ratings.{GF, RepeatPromise}
 use Rattle.theorems.specs.Answering.{periodNumbers, portionNumbers, setNumbers, freeNumbers}
 use Rattle.theorems.specs.Answering.{continueNumbers, irreducibleNumbers, readerNumbers, fileNumbers}
@@ -71,17 +70,17 @@ never-zero =
           λ p fs vs ts answer work.
           tells-zero setNumbers _ (no-zero setNumbers tt) (set-told p fs vs ts answer work);
       free =
-          λ pick p ts answer work.
-          tells-zero freeNumbers _ (no-zero freeNumbers tt) (free-tells pick p ts answer work);
+          λ p ts answer work.
+          tells-zero freeNumbers _ (no-zero freeNumbers tt) (free-tells p ts answer work);
       continuation =
           λ p g start place buffer.
           tells-zero continueNumbers _ (no-zero continueNumbers tt) (continue-told p g start buffer place);
       irreducibility =
           λ p f. tells-zero irreducibleNumbers _ (no-zero irreducibleNumbers tt) (irreducible-tells p f);
       file =
-          λ pick file answer work.
+          λ file answer work.
           tells-zero (fileNumbers (records file)) _ (file-zero (records file))
-          (file-tells pick file answer work);
+          (file-tells file answer work);
       reader = λ file n. tells-zero readerNumbers _ (no-zero readerNumbers tt) (read-tells file n);
     }
 
@@ -99,7 +98,6 @@ promises =
       record-answers = record-answers;
       program-answers = program-answers;
       start-answers = start-answers;
-      choice-exists = choice-exists;
       never-zero = never-zero;
       period = period-promise;
       portion = portion-promise;

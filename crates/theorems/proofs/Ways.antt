@@ -4,9 +4,9 @@ use Prim.Native.Nat.{ℕ, zero, suc, _*_, _^_, _≤_, _<_}
 use native.Mathlib.Nat.{mul-le-mul-right, le-trans, add-zero}
 use native.Mathlib.Omega.{arith}
 use mathlib.Core.Path.{_≡_, refl, sym, ap, subst, _∙_}
-use mathlib.Core.Bool.{Bool, true, false, not}
+use mathlib.Core.Bool.{true, false, not}
 use mathlib.Core.List.{List, [], _∷_, map}
-use mathlib.Core.Option.{some, Option·some-injective}
+use mathlib.Core.Option.{some}
 use lib.ListN.{length, getD, take}
 use lib.Seq.{take-at}
 use lib.Dec.{T, T-not}
@@ -27,8 +27,7 @@ use Rattle.meaning.specs.Period.{NoPower, periodPower, ratePeriod, periodAnswer
 use Rattle.meaning.specs.Portion.{acceptedFactors, factorTable, factorsOf, leastAt, onward, portionTable}
 use Rattle.meaning.specs.Portion.{portionAnswer}
 use Rattle.meaning.specs.Portion.{ratePortion, SetFigures, setRating, setPowers, setTable, setAnswer, rateSet}
-use Rattle.meaning.specs.Free.{Choice, Fits, leastDegree, isUnique, freePolynomial, freeRating, freeTable}
-use Rattle.meaning.specs.Free.{rateFree, IsLeastDegree}
+use Rattle.meaning.specs.Free.{freeTable, rateFree}
 use Rattle.meaning.specs.Answers.{SetTold, toldPower, toldSet, setFiguresTold, setPadded}
 use Rattle.meaning.specs.Calls.{PeriodCall, PortionCall, SetCall}
 use Rattle.meaning.proofs.Tables.{of-one, isNone-none}
@@ -36,7 +35,7 @@ use Rattle.meaning.proofs.Passes.{Passes, accepted-passes}
 use Rattle.theorems.specs.Ratings.{GF, listIn, Returns, BoundTold, PeriodPromise, PeriodAnswered}
 use Rattle.theorems.specs.Ratings.{PortionPromise, PortionAnswered, SetPromise, SetAnswered}
 use Rattle.theorems.specs.Ratings.{FreePromise, FreeAnswered, NoneBegins}
-use Rattle.bridge.proofs.Searches.{settle-answered, settle-refused, map-answered, map-refused, some-bind}
+use Rattle.bridge.proofs.Searches.{settle-answered, settle-refused, map-answered, map-refused}
 use Rattle.bridge.proofs.Searches.{some-mapOption, true-T, not-false}
 use Rattle.bridge.proofs.Interpretation.{IsField, prime-pos, inRange-isField, inRange-prime}
 use Rattle.bridge.proofs.Polynomials.{monic-nonempty, getD-below}
@@ -50,8 +49,8 @@ use Rattle.bridge.proofs.Portions.{setPowers-minimal, annihilated-agrees, nothi
 use Rattle.bridge.proofs.Portions.{portion-minimal, onward-continues, onward-unique, leastAt-upper}
 use Rattle.bridge.proofs.Portions.{setPowers-places}
 use Rattle.bridge.proofs.Periods.{periodPower-least, periodPower-minimal, periodPower-none, periodPower-size}
-use Rattle.bridge.proofs.Fitting.{leastDegree-least, fits-only, isUnique-le, le-isUnique, polynomial-one}
-use Rattle.bridge.proofs.Fitting.{polynomial-some, least-bound}
+use Rattle.bridge.proofs.Fitting.{leastDegree-least, least-bound, fits-only, isUnique-le, le-isUnique}
+use Rattle.bridge.proofs.Fitting.{FirstFit, free-rated}
 use Rattle.bridge.proofs.RepeatBounds.{prime-repeatBound-bits, repeatBound-meaning}
 use Rattle.bridge.proofs.Accepted.{count-accepted, terms-accepted, prime-accepted, enough-accepted}
 use Rattle.bridge.proofs.Accepted.{total-accepted, rating-of, rating-polynomial, rated-power}
@@ -453,43 +452,27 @@ set-promise p fs vs ts answer work r answer′ work′ c =
     }
 
 -- THE FREE WAY
-free-fits :
-    (p : ℕ) (I : IsField (GF p)) (pick : Choice) (ts : List ℕ) (L : ℕ) (g : Polynomial)
-    → IsLeastDegree (GF p) ts L
-    → (isUnique ts L ≡ false → Fits (GF p) ts L (pick p ts))
-    → freePolynomial pick p ts L ≡ some g
-    → Fits (GF p) ts L g
-free-fits p I pick ts L g x chosen e = go (isUnique ts L) refl
-  where
-    go : (u : Bool) → isUnique ts L ≡ u → Fits (GF p) ts L g
-    go true u =
-        subst (Fits (GF p) ts L)
-        (Option·some-injective _ _ (sym (polynomial-one p I pick x u (x .fits)) ∙ e)) (x .fits)
-    go false u =
-        subst (Fits (GF p) ts L)
-        (Option·some-injective _ _ (sym (polynomial-some pick p ts L u) ∙ e)) (chosen u)
-
 pub free-promise : FreePromise
-unfolding rateFree freeRating freeTable figuresOf answerAfter
-free-promise pick p ts answer work r answer′ work′ c a e =
-    let result = rateFree pick p ts (length answer) (length work) in
+unfolding freeTable figuresOf answerAfter
+free-promise p ts answer work r answer′ work′ c a e =
+    let result = rateFree p ts (length answer) (length work) in
     let (b, q, u) = map-answered (λ x. x .figures) result (sym (c .rating) ∙ e) in
-    let (h, w) = settle-answered _ (freeTable p ts (length answer) (length work)) q in
-    let (L, y, z) = some-bind (leastDegree (GF p) ts) (freeRating pick p ts) w in
-    let (g, s, t) = some-mapOption _ (freePolynomial pick p ts L) z in
+    let (h, y, s, x) = free-rated p ts (length answer) (length work) q in
+    let L = b .figures .degree in
+    let g = b .polynomial in
     let I = inRange-isField p (prime-accepted p (h .fieldExists)) in
     let least = leastDegree-least I y in
-    let chosen = c .chosen (h .fieldExists) (h .countInRange) (h .termsInField) L y in
-    let fits = free-fits p I pick ts L g least chosen s in
     let back : listIn answer′ L ≡ g =
-    subst (λ d. listIn answer′ d ≡ g) (fits .ofDegree)
-    (written-returns g g answer answer′ (monic-nonempty (GF p) g (fits .monic)) refl
-    (c .lent .answerBytes ∙ ap (λ x. answerAfter x answer) (q ∙ ap answered (sym t))) .coefficients) in
-    subst (λ a. FreeAnswered p ts a answer′) (ap (λ b. b .figures) t ∙ u)
+    subst (λ d. listIn answer′ d ≡ g) (x .fits .ofDegree)
+    (written-returns g g answer answer′ (monic-nonempty (GF p) g (x .fits .monic)) refl
+    (c .lent .answerBytes ∙ ap (λ x. answerAfter x answer) q) .coefficients) in
+    let first : FirstFit (GF p) ts L (listIn answer′ L) = subst (FirstFit (GF p) ts L) (sym back) x in
+    subst (λ a. FreeAnswered p ts a answer′) u
     (record {
       small = le-trans (least-bound I least) (count-accepted (length ts) (h .countInRange) .1);
       least = least;
-      fits = subst (Fits (GF p) ts L) (sym back) fits;
-      word = (isUnique-le ts L, le-isUnique ts L);
-      only = λ o k x. fits-only I least (isUnique-le ts L o) x fits ∙ sym back;
+      fits = first .fits;
+      word = (λ o. isUnique-le ts L (sym s ∙ o), λ l. s ∙ le-isUnique ts L l);
+      only = λ o k z. fits-only I least (isUnique-le ts L (sym s ∙ o)) z (first .fits);
+      first = first .first;
     })

@@ -9,8 +9,6 @@
 --   Answering …      == for one input of one call: so it is of whatever meets the contract; something meets
 --                       it; and two results that meet it are the same, in every byte
 --   …Answers         == so it is for every input of the call
---   ChoiceExists     == some choice fits on every input, so that the answers of the free way, of files and of
---                       the program, which assume that it does, are about something
 --   NeverZero        == the definitions never reach `refused 0`, which would stand for a missing value
 --
 -- `tell` is what a result tells, `degreeIn` the degree in what is told, and `Call` the contract on one
@@ -31,12 +29,12 @@ use Rattle.meaning.specs.Polynomial.{Polynomial}
 use Rattle.meaning.specs.Result.{Result, refused, answered}
 use Rattle.meaning.specs.Period.{ratePeriod}
 use Rattle.meaning.specs.Portion.{ratePortion, rateSet}
-use Rattle.meaning.specs.Free.{Choice, ChosenFits, rateFree}
+use Rattle.meaning.specs.Free.{rateFree}
 use Rattle.meaning.specs.Continuation.{continueSequence}
 use Rattle.meaning.specs.Irreducibility.{askIrreducible}
 use Rattle.meaning.specs.Route.{RouteRecord, Mode, periodMode, setMode, freeMode, modeOf, byteOf, records}
 use Rattle.meaning.specs.Route.{readRecord}
-use Rattle.meaning.specs.File.{FileChosenFits, rateFile}
+use Rattle.meaning.specs.File.{rateFile}
 use Rattle.meaning.specs.Answers.{toldIrreducible, toldFilling, toldPower, toldSet, toldFree, toldFile}
 use Rattle.meaning.specs.Answers.{toldRecord, FileTold, withPowers, withOne, withSome}
 use Rattle.meaning.specs.Calls.{PrimeCall, IrreducibleCall, PeriodCall, PortionCall, SetCall, FreeCall}
@@ -134,16 +132,10 @@ SetAnswers =
     → Answering setNumbers (λ r. toldSet (r .outcome)) (λ a. a .degree) answer work
     (SetCall p fs vs ts answer work)
 
--- for every choice that fits; the contract says of the program's that it does
 abbrev pub FreeAnswers : Type 0
 FreeAnswers =
-    (pick : Choice) (p : ℕ) (ts answer work : List ℕ)
-    → ChosenFits pick p ts
-    → Answering freeNumbers toldFree (λ a. a .degree) answer work (FreeCall pick p ts answer work)
-
--- There is such a choice.
-abbrev pub ChoiceExists : Type 0
-ChoiceExists = (pick : Choice) × ((p : ℕ) (ts : List ℕ) → ChosenFits pick p ts)
+    (p : ℕ) (ts answer work : List ℕ)
+    → Answering freeNumbers toldFree (λ a. a .degree) answer work (FreeCall p ts answer work)
 
 abbrev pub fileDegree : FileTold → ℕ
 fileDegree (withPowers d m n) = d
@@ -152,10 +144,9 @@ fileDegree (withSome d m) = d
 
 abbrev pub FileAnswers : Type 0
 FileAnswers =
-    (pick : Choice) (file answer work : List ℕ)
-    → FileChosenFits pick file
+    (file answer work : List ℕ)
     → Answering (fileNumbers (records file)) (λ r. toldFile (r .outcome)) fileDegree answer work
-    (FileCall pick file answer work)
+    (FileCall file answer work)
 
 -- THE CONTINUATION
 
@@ -212,17 +203,17 @@ pub record ReadingFile (file : List ℕ) (n : ℕ) : Type 0 where
 abbrev pub RecordAnswers : Type 0
 RecordAnswers = (file : List ℕ) (n : ℕ) → ReadingFile file n
 
-pub record Printing (pick : Choice) (input : List ℕ) : Type 0 where
-  pub some : (output : List ℕ) × ProgramCall pick input output
+pub record Printing (input : List ℕ) : Type 0 where
+  pub some : (output : List ℕ) × ProgramCall input output
   pub one : (output output′ : List ℕ)
-      → ProgramCall pick input output
-      → ProgramCall pick input output′
+      → ProgramCall input output
+      → ProgramCall input output′
       → output ≡ output′
 
 abbrev pub ProgramAnswers : Type 0
-ProgramAnswers = (pick : Choice) (input : List ℕ) → FileChosenFits pick input → Printing pick input
+ProgramAnswers = (input : List ℕ) → Printing input
 
--- NO VALUE IS MISSING, WHATEVER THE INPUT AND THE CHOICE
+-- NO VALUE IS MISSING, WHATEVER THE INPUT
 
 pub record NeverZero : Type 0 where
   pub period : (p : ℕ) (f : Polynomial) (ts : List ℕ) (answer work : ℕ)
@@ -231,10 +222,10 @@ pub record NeverZero : Type 0 where
       → ratePortion p f v ts answer work ≢ refused 0
   pub set : (p : ℕ) (fs : List Polynomial) (vs ts : List ℕ) (answer work : ℕ)
       → rateSet p fs vs ts answer work ≢ refused 0
-  pub free : (pick : Choice) (p : ℕ) (ts : List ℕ) (answer work : ℕ)
-      → rateFree pick p ts answer work ≢ refused 0
+  pub free : (p : ℕ) (ts : List ℕ) (answer work : ℕ)
+      → rateFree p ts answer work ≢ refused 0
   pub continuation : (p : ℕ) (g : Polynomial) (start : List ℕ) (place : ℕ) (buffer : List ℕ)
       → continueSequence p g start place buffer ≢ refused 0
   pub irreducibility : (p : ℕ) (f : Polynomial) → askIrreducible p f ≢ refused 0
-  pub file : (pick : Choice) (file : List ℕ) (answer work : ℕ) → rateFile pick file answer work ≢ refused 0
+  pub file : (file : List ℕ) (answer work : ℕ) → rateFile file answer work ≢ refused 0
   pub reader : (file : List ℕ) (n : ℕ) → readRecord file n ≢ refused 0

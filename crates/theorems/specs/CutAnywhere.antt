@@ -22,7 +22,7 @@ use Rattle.meaning.specs.Result.{answered}
 use Rattle.meaning.specs.Conditions.{named, totalDegree, acceptedLent}
 use Rattle.meaning.specs.Power.{PowerFigures, isX}
 use Rattle.meaning.specs.Portion.{acceptedFactors}
-use Rattle.meaning.specs.Free.{Choice, FreeFigures}
+use Rattle.meaning.specs.Free.{FreeFigures}
 use Rattle.meaning.specs.Answers.{SetTold, toldPower, toldSet, toldFree}
 use Rattle.meaning.specs.Calls.{PeriodCall, PortionCall, SetCall, FreeCall}
 use Rattle.theorems.specs.Ratings.{GF, Returns}
@@ -52,13 +52,12 @@ PeriodReturns p f ts g =
     → PeriodCall p f ts answer work r answer′ work′
     → (a : PowerFigures) × (toldPower r ≡ answered a) × Returns g (a .degree) answer′
 
--- the free way, whatever the program would choose among several polynomials
 abbrev pub FreeReturns : ℕ → List ℕ → Polynomial → Type 0
 FreeReturns p ts g =
     (answer work : List ℕ)
     → T (acceptedLent (length answer) (length work))
-    → (pick : Choice) (r : FreeRating) (answer′ work′ : List ℕ)
-    → FreeCall pick p ts answer work r answer′ work′
+    → (r : FreeRating) (answer′ work′ : List ℕ)
+    → FreeCall p ts answer work r answer′ work′
     → (a : FreeFigures) × (toldFree r ≡ answered a) × Returns g (a .degree) answer′
 
 -- One polynomial g, the minimal polynomial of s from its first term: the set way returns it on every stretch

@@ -24,7 +24,7 @@ use Rattle.meaning.specs.Result.{Result, refused, answered}
 use Rattle.meaning.specs.Conditions.{named}
 use Rattle.meaning.specs.Power.{PowerFigures}
 use Rattle.meaning.specs.Period.{NoPower}
-use Rattle.meaning.specs.Free.{Choice, FreeFigures}
+use Rattle.meaning.specs.Free.{FreeFigures}
 use Rattle.meaning.specs.Route.{RouteRecord, Mode, periodMode, setMode, freeMode, modeOf, byteOf, bodies}
 use Rattle.meaning.specs.Route.{records, boxOf, lookUp, bodyLengths}
 use Rattle.meaning.specs.File.{WrittenFactor, fileFactor, polynomialOf, termsOf}
@@ -100,8 +100,8 @@ pub record FileRight (file : List ℕ) (told : Result FileTold) (eight answer′
 
 abbrev pub FilePromise : Type 0
 FilePromise =
-    (pick : Choice) (file answer work : List ℕ) (r : FileRating) (answer′ work′ : List ℕ)
-    → FileCall pick file answer work r answer′ work′
+    (file answer work : List ℕ) (r : FileRating) (answer′ work′ : List ℕ)
+    → FileCall file answer work r answer′ work′
     → FileRight file (toldFile (r .outcome)) (r .powers) answer′
 
 -- THE READER: what it hands back under the numbers 0, 1, 2, …
@@ -147,13 +147,13 @@ linesTold box (answered (withSome d m)) eight answer′ = ratedLines box d m (te
 -- Whatever meets the contract of the rating of the same file, with 4,097 answer and 8,192 work bytes.
 abbrev pub ProgramAsCall : Type 0
 ProgramAsCall =
-    (pick : Choice) (input output : List ℕ)
-    → ProgramCall pick input output
+    (input output : List ℕ)
+    → ProgramCall input output
     → (answer work : List ℕ)
     → length answer ≡ 4097
     → length work ≡ 8192
     → (r : FileRating) (answer′ work′ : List ℕ)
-    → FileCall pick input answer work r answer′ work′
+    → FileCall input answer work r answer′ work′
     → output ≡ header ++ linesTold (r .sender) (toldFile (r .outcome)) (r .powers) answer′
 
 -- So it prints the line of a refusal by one of the file's numbers, or the lines of figures and a polynomial
@@ -168,4 +168,4 @@ pub record PrintedRight (input output : List ℕ) : Type 0 where
 
 abbrev pub ProgramPromise : Type 0
 ProgramPromise =
-    (pick : Choice) (input output : List ℕ) → ProgramCall pick input output → PrintedRight input output
+    (input output : List ℕ) → ProgramCall input output → PrintedRight input output

@@ -22,7 +22,7 @@ use Rattle.meaning.specs.declared.MeterStep.{MeterStep}
 use Rattle.meaning.specs.Field.{areElements}
 use Rattle.meaning.specs.Result.{refused, answered}
 use Rattle.meaning.specs.Conditions.{acceptedLent}
-use Rattle.meaning.specs.Free.{Choice, FreeFigures}
+use Rattle.meaning.specs.Free.{FreeFigures}
 use Rattle.meaning.specs.Meter.{MeterModel, startMeter, profileEntry}
 use Rattle.meaning.specs.Answers.{toldFree, toldStart}
 use Rattle.meaning.specs.Calls.{FreeCall, StartCall, TermCall, ReadingCall}
@@ -81,9 +81,9 @@ pub data Run (model : MeterModel) (p : ℕ) : List ℕ → Meter → List ℕ �
 
 abbrev pub FreeGives : ℕ → List ℕ → FreeFigures → Type 0
 FreeGives p ts a =
-    (pick : Choice) (answer work : List ℕ) (r : FreeRating) (answer′ work′ : List ℕ)
+    (answer work : List ℕ) (r : FreeRating) (answer′ work′ : List ℕ)
     → T (acceptedLent (length answer) (length work))
-    → FreeCall pick p ts answer work r answer′ work′
+    → FreeCall p ts answer work r answer′ work′
     → toldFree r ≡ answered a
 
 -- The meter shows figures: before the first term 0 and `one`, and else those of the free way for the terms

@@ -18,7 +18,7 @@ use Rattle.meaning.specs.Result.{Result, refused, answered}
 use Rattle.meaning.specs.Power.{PowerFigures}
 use Rattle.meaning.specs.Period.{ratePeriod}
 use Rattle.meaning.specs.Portion.{ratePortion, rateSet}
-use Rattle.meaning.specs.Free.{Choice, FreeFigures}
+use Rattle.meaning.specs.Free.{FreeFigures}
 use Rattle.meaning.specs.Continuation.{continueSequence}
 use Rattle.meaning.specs.Irreducibility.{askIrreducible}
 use Rattle.meaning.specs.Answers.{SetTold}
@@ -96,9 +96,9 @@ pub record FreeExportRight (p : ℕ) (ts answer work : List ℕ) (degree unique 
 
 abbrev pub FreeExport : Type 0
 FreeExport =
-    (pick : Choice) (p : ℕ) (ts answer work : List ℕ) (degree unique status : ℕ) (answer′ work′ : List ℕ)
+    (p : ℕ) (ts answer work : List ℕ) (degree unique status : ℕ) (answer′ work′ : List ℕ)
     (degree′ unique′ : ℕ)
-    → FreeExported pick p ts answer work degree unique status answer′ work′ degree′ unique′
+    → FreeExported p ts answer work degree unique status answer′ work′ degree′ unique′
     → FreeExportRight p ts answer work degree unique status answer′ work′ degree′ unique′
 
 -- THE CONTINUATION AND THE QUESTION

@@ -26,7 +26,7 @@
 -- tells.
 use Rattle.theorems.specs.Answering.{PeriodAnswers, PortionAnswers, SetAnswers, FreeAnswers}
 use Rattle.theorems.specs.Answering.{ContinueAnswers, IrreducibleAnswers, PrimeAnswers, FileAnswers}
-use Rattle.theorems.specs.Answering.{RecordAnswers, ProgramAnswers, ChoiceExists, NeverZero}
+use Rattle.theorems.specs.Answering.{RecordAnswers, ProgramAnswers, NeverZero}
 use Rattle.theorems.specs.Ratings.{PeriodPromise, PortionPromise, SetPromise, FreePromise}
 use Rattle.theorems.specs.Ratings.{ContinuePromise, IrreduciblePromise, PrimePromise, RepeatPromise}
 use Rattle.theorems.specs.Ratings.{MultiplePromise, MultiplesPromise, PrimeWords, IrreducibleWords}
@@ -49,7 +49,6 @@ pub record Promises : Type 0 where
   pub record-answers : RecordAnswers
   pub program-answers : ProgramAnswers
   pub start-answers : StartAnswers
-  pub choice-exists : ChoiceExists
   pub never-zero : NeverZero
   -- demand 2
   pub period : PeriodPromise

@@ -38,7 +38,7 @@ use Rattle.meaning.specs.Conditions.{named, totalDegree, coefficientOutOfRange}
 use Rattle.meaning.specs.Power.{PowerFigures, isX, repeatBound, BoundMeaning}
 use Rattle.meaning.specs.Period.{NoPower}
 use Rattle.meaning.specs.Portion.{onward, SetMeaning, PortionMeaning, Agrees}
-use Rattle.meaning.specs.Free.{Choice, FreeFigures, IsLeastDegree, Fits}
+use Rattle.meaning.specs.Free.{FreeFigures, IsLeastDegree, Fits, Precedes}
 use Rattle.meaning.specs.Answers.{SetTold, toldPower, toldSet, toldFree, toldFilling, toldIrreducible, padded}
 use Rattle.meaning.specs.Calls.{PrimeCall, IrreducibleCall, PeriodCall, PortionCall, SetCall, FreeCall}
 use Rattle.meaning.specs.Calls.{ContinueCall}
@@ -157,8 +157,9 @@ SetPromise =
     → SetRight p (map (monicMultiple (GF p)) fs) vs ts (toldSet (r .outcome)) (r .powers) answer′
 
 -- The free way: the degree is the least of a polynomial that annihilates the terms, and the polynomial
--- returned is one of that degree; under the word `one` (`unique`), which stands where twice the degree is at
--- most the number of terms, it is the only one.
+-- returned is the first of that degree: every other one that annihilates them comes later, which means that
+-- at the highest place where the two differ the returned one has the smaller number. Under the word `one`
+-- (`unique`), which stands where twice the degree is at most the number of terms, there is no other.
 pub record FreeAnswered (p : ℕ) (ts : List ℕ) (a : FreeFigures) (answer′ : List ℕ) : Type 0 where
   pub small : a .degree ≤ 4096
   pub least : IsLeastDegree (GF p) ts (a .degree)
@@ -168,11 +169,15 @@ pub record FreeAnswered (p : ℕ) (ts : List ℕ) (a : FreeFigures) (answer′ :
       → (h : Polynomial)
       → Fits (GF p) ts (a .degree) h
       → h ≡ listIn answer′ (a .degree)
+  pub first : (h : Polynomial)
+      → Fits (GF p) ts (a .degree) h
+      → h ≢ listIn answer′ (a .degree)
+      → Precedes (listIn answer′ (a .degree)) h
 
 abbrev pub FreePromise : Type 0
 FreePromise =
-    (pick : Choice) (p : ℕ) (ts answer work : List ℕ) (r : FreeRating) (answer′ work′ : List ℕ)
-    → FreeCall pick p ts answer work r answer′ work′
+    (p : ℕ) (ts answer work : List ℕ) (r : FreeRating) (answer′ work′ : List ℕ)
+    → FreeCall p ts answer work r answer′ work′
     → (a : FreeFigures)
     → toldFree r ≡ answered a
     → FreeAnswered p ts a answer′

@@ -7,48 +7,47 @@ use lib.ListN.{length}
 use Rattle.meaning.specs.declared.Refusal.{Refusal}
 use Rattle.meaning.specs.declared.FreeRating.{FreeRating}
 use Rattle.meaning.specs.Result.{Result, figuresOf}
-use Rattle.meaning.specs.Free.{Choice, FreeFigures, rateFree}
+use Rattle.meaning.specs.Free.{FreeFigures, rateFree}
 use Rattle.meaning.specs.Answers.{numberOf, toldFree}
 use Rattle.meaning.specs.Calls.{FreeCall}
 use Rattle.meaning.specs.Exports.{statusOf, numberAfter, wordNumber, wordOf, FreeExported}
 use Rattle.exports.proofs.Status.{status-map}
 
-module _ {pick : Choice} {p : ℕ} {ts answer work : List ℕ} {a : FreeRating} {answer′ work′ : List ℕ}
-    (call : FreeCall pick p ts answer work a answer′ work′) where
+module _ {p : ℕ} {ts answer work : List ℕ} {a : FreeRating} {answer′ work′ : List ℕ}
+    (call : FreeCall p ts answer work a answer′ work′) where
   told : {b : FreeRating} {d u k d′ u′ : ℕ}
       → a ≡ b
       → k ≡ statusOf (toldFree b)
       → d′ ≡ numberAfter (λ f. f .degree) (toldFree b) d
       → u′ ≡ numberAfter wordOf (toldFree b) u
-      → FreeExported pick p ts answer work d u k answer′ work′ d′ u′
+      → FreeExported p ts answer work d u k answer′ work′ d′ u′
   unfolding figuresOf
   told {b} {d} {u} q i j l =
-      let e : toldFree b ≡ figuresOf (rateFree pick p ts (length answer) (length work))
+      let e : toldFree b ≡ figuresOf (rateFree p ts (length answer) (length work))
       = ap toldFree (sym q) ∙ call .rating
       in
       record {
         told = i ∙ ap statusOf e ∙ status-map _ _;
         degreeAfter = j ∙ ap (λ (r : Result FreeFigures). numberAfter (λ f. f .degree) r d) e;
         uniqueAfter = l ∙ ap (λ (r : Result FreeFigures). numberAfter wordOf r u) e;
-        chosen = call .chosen;
         lent = call .lent;
       }
 
   pub told-unique : {L d u : ℕ}
       → a ≡ FreeRating.Unique L
-      → FreeExported pick p ts answer work d u 0 answer′ work′ L 1
+      → FreeExported p ts answer work d u 0 answer′ work′ L 1
   unfolding toldFree statusOf numberAfter wordNumber
   told-unique q = told q refl refl refl
 
   pub told-several : {L d u : ℕ}
       → a ≡ FreeRating.Several L
-      → FreeExported pick p ts answer work d u 0 answer′ work′ L 0
+      → FreeExported p ts answer work d u 0 answer′ work′ L 0
   unfolding toldFree statusOf numberAfter wordNumber
   told-several q = told q refl refl refl
 
   pub told-unrated : {x : Refusal} {d u k : ℕ}
       → a ≡ FreeRating.Refused x
       → k ≡ numberOf x
-      → FreeExported pick p ts answer work d u k answer′ work′ d u
+      → FreeExported p ts answer work d u k answer′ work′ d u
   unfolding toldFree statusOf numberAfter
   told-unrated q i = told q i refl refl

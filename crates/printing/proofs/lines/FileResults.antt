@@ -12,7 +12,6 @@ use lib.Seq.{take-at}
 use Rattle.meaning.specs.declared.FileOutcome.{FileOutcome}
 use Rattle.meaning.specs.declared.FileRating.{FileRating}
 use Rattle.meaning.specs.Result.{Result, refused, answered, Rated, figuresOf, mapResult, answerAfter, written}
-use Rattle.meaning.specs.Free.{Choice}
 use Rattle.meaning.specs.Route.{boxOf}
 use Rattle.meaning.specs.File.{Label, powers, unique, several, FileFigures, fileAnswer, rateFile}
 use Rattle.meaning.specs.Answers.{toldFile, labelTold, fileFiguresTold, padded, labelPowers, filePadded}
@@ -65,11 +64,11 @@ outcome-result unique d m g answer e = rw (polynomial-back g answer e)
 outcome-result several d m g answer e = rw (polynomial-back g answer e)
 
 module _
-    (pick : Choice) (file answer work : List ℕ) (r : FileRating) (answer′ work′ : List ℕ)
-    (c : FileCall pick file answer work r answer′ work′)
+    (file answer work : List ℕ) (r : FileRating) (answer′ work′ : List ℕ)
+    (c : FileCall file answer work r answer′ work′)
   where
     result : Result (Rated FileFigures)
-    result = rateFile pick file (length answer) (length work)
+    result = rateFile file (length answer) (length work)
 
     when-refused : {n : ℕ} → result ≡ refused n → ratedResult (r .outcome) (r .powers) answer′ ≡ refused n
     unfolding result mapResult figuresOf
@@ -96,10 +95,10 @@ module _
         ∙ ap (λ rs. ratedResult (outcomeOf l d m) rs answer′) eight
         ∙ ap (ratedResult (outcomeOf l d m) (padded (labelPowers l))) bytes
         ∙ outcome-result l d m (a .polynomial) answer
-        (file-size pick file (length answer) (length work) (c .chosen) e)
+        (file-size file (length answer) (length work) e)
 
     told-result :
-        ratedResult (r .outcome) (r .powers) answer′ ≡ rateFile pick file (length answer) (length work)
+        ratedResult (r .outcome) (r .powers) answer′ ≡ rateFile file (length answer) (length work)
     unfolding result
     told-result = go result refl
       where
@@ -110,10 +109,10 @@ module _
         go (refused n) e = when-refused e ∙ sym e
         go (answered a) e = when-answered e ∙ sym e
 
-    pub printed-lines : length answer ≡ 4097 → length work ≡ 8192 → linesOf r answer′ ≡ printed pick file
+    pub printed-lines : length answer ≡ 4097 → length work ≡ 8192 → linesOf r answer′ ≡ printed file
     unfolding linesOf printed
     printed-lines a w =
         ap (λ box. report box (ratedResult (r .outcome) (r .powers) answer′)) (c .sender)
         ∙ ap (report (boxOf file)) told-result
-        ∙ ap (λ n. report (boxOf file) (rateFile pick file n (length work))) a
-        ∙ ap (λ n. report (boxOf file) (rateFile pick file 4097 n)) w
+        ∙ ap (λ n. report (boxOf file) (rateFile file n (length work))) a
+        ∙ ap (λ n. report (boxOf file) (rateFile file 4097 n)) w

@@ -16,7 +16,7 @@ use Rattle.meaning.specs.Result.{answerAfter, workAfter}
 use Rattle.meaning.specs.Power.{PowerFigures}
 use Rattle.meaning.specs.Portion.{SetFigures, rateSet}
 use Rattle.meaning.specs.Period.{ratePeriod}
-use Rattle.meaning.specs.Free.{Choice, FreeFigures, rateFree}
+use Rattle.meaning.specs.Free.{FreeFigures, rateFree}
 use Rattle.meaning.specs.File.{FileFigures, powers, fileAnswer, ofPeriod, ofSet, ofFree}
 use Rattle.meaning.specs.Answers.{toldPower, toldFree, setFiguresTold, setPadded, withPowers}
 use Rattle.meaning.specs.Answers.{labelTold, fileFiguresTold, labelPowers, filePadded}
@@ -80,13 +80,13 @@ module _ (m : ℕ) {sender : ℕ} {answer work : List ℕ} {r : FileRating} {ans
       let x = ratePeriod p f ts (length answer) (length work) in
       record { tells = rw (figures-period m x, ← h .rating) t; lent = lent-period m x (h .lent) }
 
-  pub free-rated : {pick : Choice} {p : ℕ} {ts : List ℕ} {q : FreeRating}
-      → FreeCall pick p ts answer work q answer′ work′
+  pub free-rated : {p : ℕ} {ts : List ℕ} {q : FreeRating}
+      → FreeCall p ts answer work q answer′ work′
       → Tells sender (mapResult (freeFigures m) (toldFree q)) r
-      → RatedFile sender (ofFree m (rateFree pick p ts (length answer) (length work))) answer work r answer′
+      → RatedFile sender (ofFree m (rateFree p ts (length answer) (length work))) answer work r answer′
       work′
-  free-rated {pick} {p} {ts} h t =
-      let x = rateFree pick p ts (length answer) (length work) in
+  free-rated {p} {ts} h t =
+      let x = rateFree p ts (length answer) (length work) in
       record { tells = rw (figures-free m x, ← h .rating) t; lent = lent-free m x (h .lent) }
 
   pub set-rated : {p : ℕ} {fs : List Polynomial} {us ts : List ℕ} {s : SetRating}

@@ -53,7 +53,7 @@ returns c =
     let v = c .before .before .before .before in
     let e = sym (ap toldVerdict (c .before .before .r .given .1)) ∙ v .file-verdict .ensures in
     file-call _ (v .before .box-of .ensures)
-    (refused-rated (file-refused _ _ _ _ e) (file-number _ e) (c .of-refusal .ensures))
+    (refused-rated (file-refused _ _ _ e) (file-number _ e) (c .of-refusal .ensures))
 
 same-length : tie.Need-same-length
 same-length c = search needs
@@ -68,7 +68,7 @@ returns-2 c =
     let t = f .before .before .before .before .before .before .before .before in
     let v = t .before .before in
     let e = sym (ap toldVerdict (t .enum-told .given .1)) ∙ v .file-verdict .ensures in
-    file-call _ (v .before .box-of .ensures) (rated-as (file-rated _ _ _ _ e) (f .rate-records .ensures))
+    file-call _ (v .before .box-of .ensures) (rated-as (file-rated _ _ _ e) (f .rate-records .ensures))
 
 pub rate-file-spec : {M : Type 1} → statement M
 rate-file-spec =

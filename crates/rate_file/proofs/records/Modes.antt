@@ -22,7 +22,7 @@ use Rattle.meaning.specs.Conditions.{upperPowersOutOfRange, fewerTermsThan, len
 use Rattle.meaning.specs.Result.{refused, Check, firstOf}
 use Rattle.meaning.specs.Period.{periodTable, periodPower, periodAnswer, ratePeriod}
 use Rattle.meaning.specs.Portion.{factorsOf, setTable, setAnswer, rateSet}
-use Rattle.meaning.specs.Free.{Choice, freeTable, rateFree}
+use Rattle.meaning.specs.Free.{freeTable, rateFree}
 use Rattle.meaning.specs.Route.{Mode, periodMode, setMode, freeMode}
 use Rattle.meaning.specs.File.{WrittenFactor, polynomialOf, fileDegreeOutOfRange, fileCoefficientOutOfRange}
 use Rattle.meaning.specs.File.{ofPeriod, ofSet, ofFree, rateMode}
@@ -98,13 +98,13 @@ module _ (p : ℕ) (fs : List WrittenFactor) (ts : List ℕ) (answer work : ℕ)
         → numberIn (Verdict.Refused x) ≡ firstOf T
     early T B e q = refused-before (termsTable p ts) B eu q ∙ sym (ap firstOf e)
 
-    pub mode-terms : (pick : Choice) (m : Mode) {x : Refusal} → u ≡ Verdict.Refused x
-        → rateMode pick m p fs ts answer work ≡ refused (numberOf x)
+    pub mode-terms : (m : Mode) {x : Refusal} → u ≡ Verdict.Refused x
+        → rateMode m p fs ts answer work ≡ refused (numberOf x)
     unfolding rateMode periodAnswer setAnswer rateFree ofPeriod ofSet ofFree
-    mode-terms pick periodMode q =
+    mode-terms periodMode q =
         ap (ofPeriod (length ts)) (settle-refused _ _ (early _ _ period-parts q) refl)
-    mode-terms pick setMode q = ap (ofSet (length ts)) (settle-refused _ _ (early _ _ set-parts q) refl)
-    mode-terms pick freeMode q = ap (ofFree (length ts)) (settle-refused _ _ (early _ _ free-parts q) refl)
+    mode-terms setMode q = ap (ofSet (length ts)) (settle-refused _ _ (early _ _ set-parts q) refl)
+    mode-terms freeMode q = ap (ofFree (length ts)) (settle-refused _ _ (early _ _ free-parts q) refl)
 
     module _ (accepted : u ≡ Verdict.Accepted) where
       fieldExists : IsField (prime p)
@@ -114,21 +114,21 @@ module _ (p : ℕ) (fs : List WrittenFactor) (ts : List ℕ) (answer work : ℕ)
 
       -- the terms are accepted, and v is the verdict on the factors
       module _ {v : Verdict} (ev : numberIn v ≡ firstOf (writtenTable p fs)) where
-        pub period-factors : (pick : Choice) {x : Refusal} → v ≡ Verdict.Refused x
-            → rateMode pick periodMode p fs ts answer work ≡ refused (numberOf x)
+        pub period-factors : {x : Refusal} → v ≡ Verdict.Refused x
+            → rateMode periodMode p fs ts answer work ≡ refused (numberOf x)
         unfolding rateMode periodAnswer ofPeriod
-        period-factors pick q =
+        period-factors q =
             ap (ofPeriod (length ts))
             (settle-refused _ _
             (refused-second (termsTable p ts) (writtenTable p fs) periodRest eu ev accepted q
             ∙ sym (ap firstOf period-parts))
             refl)
 
-        pub set-factors : (pick : Choice) {x : Refusal} → 1 ≤ length fs → length fs ≤ 8
+        pub set-factors : {x : Refusal} → 1 ≤ length fs → length fs ≤ 8
             → v ≡ Verdict.Refused x
-            → rateMode pick setMode p fs ts answer work ≡ refused (numberOf x)
+            → rateMode setMode p fs ts answer work ≡ refused (numberOf x)
         unfolding rateMode setAnswer ofSet
-        set-factors pick low high q =
+        set-factors low high q =
             ap (ofSet (length ts))
             (settle-refused _ _
             (refused-second (termsTable p ts) counted setRest eu (ev ∙ sym (counted-skip low high)) accepted q
@@ -140,20 +140,20 @@ module _ (p : ℕ) (fs : List WrittenFactor) (ts : List ℕ) (answer work : ℕ)
           passes : Passes (writtenTable p fs)
           passes = verdict-passes (writtenTable p fs) ev q
 
-          pub period-way : (pick : Choice) → 1 ≤ length fs
-              → rateMode pick periodMode p fs ts answer work
+          pub period-way : 1 ≤ length fs
+              → rateMode periodMode p fs ts answer work
               ≡ ofPeriod (length ts) (ratePeriod p first ts answer work)
           unfolding rateMode writtenTable
-          period-way pick low =
+          period-way low =
               ap (ofPeriod (length ts))
               (period-lists p fs full fieldExists (passes .degreesInRange) (passes .coefficientsInRange) ts
               answer work low)
 
-          pub set-way : (pick : Choice)
-              → rateMode pick setMode p fs ts answer work
+          pub set-way :
+              rateMode setMode p fs ts answer work
               ≡ ofSet (length ts) (rateSet p (map polynomialOf fs) (map (λ f. f .upper) fs) ts answer work)
           unfolding rateMode writtenTable
-          set-way pick =
+          set-way =
               ap (ofSet (length ts))
               (set-lists p fs full fieldExists (passes .degreesInRange) (passes .coefficientsInRange) ts
               answer work)

@@ -14,7 +14,7 @@ use Rattle.meaning.specs.Field.{prime}
 use Rattle.meaning.specs.Result.{refused, firstOf}
 use Rattle.meaning.specs.Period.{ratePeriod}
 use Rattle.meaning.specs.Portion.{rateSet}
-use Rattle.meaning.specs.Free.{Choice, rateFree}
+use Rattle.meaning.specs.Free.{rateFree}
 use Rattle.meaning.specs.Route.{Mode, periodMode, setMode, byteOf, bodies}
 use Rattle.meaning.specs.File.{fileDegreeOutOfRange, termsOf, ofPeriod, ofSet, ofFree}
 use Rattle.meaning.specs.File.{rateMode, rateRecords}
@@ -63,36 +63,35 @@ module _ (file ts : List ℕ) (p : ℕ) (ok : AcceptedRecords (recordsFrom file 
         passed = sym eu ∙ ap numberIn q;
       }
 
-  pub records-terms : (pick : Choice) (answer work : ℕ) {x : Refusal} → u ≡ Verdict.Refused x
-      → rateRecords pick (recordsFrom file 0) answer work ≡ refused (numberOf x)
-  records-terms pick answer work q =
+  pub records-terms : (answer work : ℕ) {x : Refusal} → u ≡ Verdict.Refused x
+      → rateRecords (recordsFrom file 0) answer work ≡ refused (numberOf x)
+  records-terms answer work q =
       let rs = recordsFrom file 0 in
-      rated-refused pick file answer work (ok .suited)
+      rated-refused file answer work (ok .suited)
       (λ m. mode-terms (byteOf 2 rs) (factorsIn file) (termsOf rs) answer work
       (rw (← field) (eu ∙ rw cut (cut-terms p (termsOf (recordsFrom file 0)))))
-      pick
       m
       q)
 
-module _ (pick : Choice) (file ts : List ℕ) (answer work : ℕ) {p : ℕ} (ok : Rateable p file ts)
+module _ (file ts : List ℕ) (answer work : ℕ) {p : ℕ} (ok : Rateable p file ts)
     (mode count : ℕ) (mode-is : mode ≡ byteOf 3 (recordsFrom file 0))
     (count-is : count ≡ length (bodies 4 (recordsFrom file 0)))
   where
     abbrev rated : Mode → Type 0
     rated m =
-        rateRecords pick (recordsFrom file 0) answer work ≡ rateMode pick m p (factorsIn file) ts answer work
+        rateRecords (recordsFrom file 0) answer work ≡ rateMode m p (factorsIn file) ts answer work
 
     rated-period : mode ≡ 1 → rated periodMode
-    rated-period e = rw (ok .field, ok .terms) (by-period pick file answer work mode-is e)
+    rated-period e = rw (ok .field, ok .terms) (by-period file answer work mode-is e)
 
     rated-set : mode ≡ 2 → rated setMode
-    rated-set e = rw (ok .field, ok .terms) (by-set pick file answer work mode-is e)
+    rated-set e = rw (ok .field, ok .terms) (by-set file answer work mode-is e)
 
     pub records-free : mode ≡ 3
-        → rateRecords pick (recordsFrom file 0) answer work
-        ≡ ofFree (length ts) (rateFree pick p ts answer work)
+        → rateRecords (recordsFrom file 0) answer work
+        ≡ ofFree (length ts) (rateFree p ts answer work)
     unfolding rateMode
-    records-free e = rw (ok .field, ok .terms) (by-free pick file answer work mode-is e)
+    records-free e = rw (ok .field, ok .terms) (by-free file answer work mode-is e)
 
     pub count-factors : count ≡ length (factorsIn file)
     count-factors = count-is ∙ sym (factors-count file)
@@ -121,17 +120,17 @@ module _ (pick : Choice) (file ts : List ℕ) (answer work : ℕ) {p : ℕ} (ok 
     -- v is the verdict on the factors
     module _ {v : Verdict} (ev : numberIn v ≡ firstOf (writtenTable p (factorsIn file))) where
       pub records-refused : {x : Refusal} → (mode ≡ 3 → ⊥) → v ≡ Verdict.Refused x
-          → rateRecords pick (recordsFrom file 0) answer work ≡ refused (numberOf x)
+          → rateRecords (recordsFrom file 0) answer work ≡ refused (numberOf x)
       records-refused {x} a q = go (ℕ-discrete mode 1)
         where
-          go : Dec (mode ≡ 1) → rateRecords pick (recordsFrom file 0) answer work ≡ refused (numberOf x)
+          go : Dec (mode ≡ 1) → rateRecords (recordsFrom file 0) answer work ≡ refused (numberOf x)
           go (yes e) =
               rated-period e
-              ∙ period-factors p (factorsIn file) ts answer work terms-accepted refl ev pick q
+              ∙ period-factors p (factorsIn file) ts answer work terms-accepted refl ev q
           go (no b) =
               let e = not-others a b in
               rated-set e
-              ∙ set-factors p (factorsIn file) ts answer work terms-accepted refl ev pick (several e .0)
+              ∙ set-factors p (factorsIn file) ts answer work terms-accepted refl ev (several e .0)
               (several e .1)
               q
 
@@ -145,19 +144,19 @@ module _ (pick : Choice) (file ts : List ℕ) (answer work : ℕ) {p : ℕ} (ok 
         degrees = verdict-passes (writtenTable p (factorsIn file)) ev q .degreesInRange
 
         pub records-period : mode ≡ 1
-            → rateRecords pick (recordsFrom file 0) answer work
+            → rateRecords (recordsFrom file 0) answer work
             ≡ ofPeriod (length ts) (ratePeriod p (getD (polynomialsIn file) 0 []) ts answer work)
         records-period e =
             rated-period e
-            ∙ period-way p (factorsIn file) ts answer work terms-accepted refl ev q whole pick
+            ∙ period-way p (factorsIn file) ts answer work terms-accepted refl ev q whole
             (omega (arith, one e))
 
         pub records-set : mode ≡ 2
-            → rateRecords pick (recordsFrom file 0) answer work
+            → rateRecords (recordsFrom file 0) answer work
             ≡ ofSet (length ts)
             (rateSet p (polynomialsIn file) (map (λ f. f .upper) (factorsIn file)) ts answer work)
         records-set e =
-            rated-set e ∙ set-way p (factorsIn file) ts answer work terms-accepted refl ev q whole pick
+            rated-set e ∙ set-way p (factorsIn file) ts answer work terms-accepted refl ev q whole
 
         -- the polynomials fit in 33 bytes each
         pub one-fits : mode ≡ 1

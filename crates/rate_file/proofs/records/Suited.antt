@@ -10,7 +10,6 @@ use mathlib.Core.Option.{Option, none, some}
 use lib.ListN.{length}
 use borrow.Author.Tests.{ltb-false}
 use Rattle.meaning.specs.Result.{refused}
-use Rattle.meaning.specs.Free.{Choice}
 use Rattle.meaning.specs.Route.{RouteRecord, Mode, periodMode, setMode, freeMode, lookUp, modeOf}
 use Rattle.meaning.specs.Route.{byteOf, bodies, modeUnsuited}
 use Rattle.meaning.specs.File.{termsOf, rateMode, rateRecords}
@@ -46,17 +45,17 @@ module _ (rs : List RouteRecord) (suited : modeUnsuited rs ≡ false) (mode coun
           (low, ltb-false 8 count (set-most rs mode count mode-is count-is e low ∙ suited))
 
 -- the way of the mode
-module _ (pick : Choice) (file : List ℕ) (answer work : ℕ) {mode : ℕ}
+module _ (file : List ℕ) (answer work : ℕ) {mode : ℕ}
     (mode-is : mode ≡ byteOf 3 (recordsFrom file 0)) where
   abbrev By : Mode → Type 0
   By m =
-      rateRecords pick (recordsFrom file 0) answer work
-      ≡ rateMode pick m (byteOf 2 (recordsFrom file 0)) (factorsIn file) (termsOf (recordsFrom file 0)) answer
+      rateRecords (recordsFrom file 0) answer work
+      ≡ rateMode m (byteOf 2 (recordsFrom file 0)) (factorsIn file) (termsOf (recordsFrom file 0)) answer
       work
 
   rated-by : (m : Mode) → modeOf mode ≡ some m → By m
   unfolding factorsIn
-  rated-by m e = known-mode pick (recordsFrom file 0) answer work (sym (ap modeOf mode-is) ∙ e)
+  rated-by m e = known-mode (recordsFrom file 0) answer work (sym (ap modeOf mode-is) ∙ e)
 
   pub by-period : mode ≡ 1 → By periodMode
   unfolding modeOf lookUp
@@ -71,17 +70,17 @@ module _ (pick : Choice) (file : List ℕ) (answer work : ℕ) {mode : ℕ}
   by-free e = rated-by freeMode (rw e)
 
 -- the refusal that p and the terms meet in any mode
-pub rated-refused : (pick : Choice) (file : List ℕ) (answer work : ℕ) {n : ℕ}
+pub rated-refused : (file : List ℕ) (answer work : ℕ) {n : ℕ}
     → modeUnsuited (recordsFrom file 0) ≡ false
     → ((m : Mode)
-    → rateMode pick m (byteOf 2 (recordsFrom file 0)) (factorsIn file) (termsOf (recordsFrom file 0)) answer
+    → rateMode m (byteOf 2 (recordsFrom file 0)) (factorsIn file) (termsOf (recordsFrom file 0)) answer
     work
     ≡ refused n)
-    → rateRecords pick (recordsFrom file 0) answer work ≡ refused n
+    → rateRecords (recordsFrom file 0) answer work ≡ refused n
 unfolding modeUnsuited
-rated-refused pick file answer work {n} suited each = go (modeOf (byteOf 3 (recordsFrom file 0))) refl
+rated-refused file answer work {n} suited each = go (modeOf (byteOf 3 (recordsFrom file 0))) refl
   where
     go : (o : Option Mode) → modeOf (byteOf 3 (recordsFrom file 0)) ≡ o
-        → rateRecords pick (recordsFrom file 0) answer work ≡ refused n
+        → rateRecords (recordsFrom file 0) answer work ≡ refused n
     go none e = absurd (true≢false (rw (e, modeUnsuited) at suited))
-    go (some m) e = rated-by pick file answer work refl m e ∙ each m
+    go (some m) e = rated-by file answer work refl m e ∙ each m

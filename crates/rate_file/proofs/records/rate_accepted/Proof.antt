@@ -2,7 +2,6 @@
 -- Assumes nothing.
 use mathlib.Core.Path.{_≡_}
 use borrow.Author.Needs.{needs}
-use Rattle.massey.specs.Shortest.{freeChoice}
 use Rattle.rate_file.proofs.records.Rates.{count-factors, not-others, records-free, records-refused}
 use Rattle.rate_file.proofs.records.Rates.{factors-number, records-period, records-set, one-fits}
 use Rattle.rate_file.proofs.records.Rates.{all-fit}
@@ -18,7 +17,7 @@ two : (c : tie.Else2) → c .before .before .before .before .before .before .byt
 two c =
     let v = c .before .before .before in
     let n = v .before .before in
-    not-others freeChoice _ _ 0 0 (start n .pre) _ _ (n .before .byte-of .ensures) (n .count-of .ensures)
+    not-others _ _ 0 0 (start n .pre) _ _ (n .before .byte-of .ensures) (n .count-of .ensures)
     (v .before .if1 .left)
     (c .if2 .left)
 
@@ -43,14 +42,14 @@ returns c =
     let t = f .before .before .before in
     let n = t .before in
     rated-as
-    (records-free _ _ _ _ _ (start n .pre) _ _ (n .before .byte-of .ensures) (n .count-of .ensures)
+    (records-free _ _ _ _ (start n .pre) _ _ (n .before .byte-of .ensures) (n .count-of .ensures)
     (t .if1 .taken))
     (f .rate-free-file .ensures)
 
 written-factors-verdict-requires : tie.Need-written-factors-verdict-requires
 written-factors-verdict-requires c κs =
     let n = c .before in
-    count-factors freeChoice _ _ 0 0 (start n .pre) _ _ (n .before .byte-of .ensures) (n .count-of .ensures)
+    count-factors _ _ 0 0 (start n .pre) _ _ (n .before .byte-of .ensures) (n .count-of .ensures)
 
 enum-known-r : tie.Need-enum-known-r
 enum-known-r c = search needs
@@ -66,7 +65,7 @@ rate-period-file-requires c κs =
     let t = c .before .before in
     let v = t .before .before .before in
     let n = v .before .before in
-    one-fits freeChoice _ _ 0 0 (start n .pre) _ _ (n .before .byte-of .ensures) (n .count-of .ensures)
+    one-fits _ _ 0 0 (start n .pre) _ _ (n .before .byte-of .ensures) (n .count-of .ensures)
     (v .written-factors-verdict .ensures)
     (t .before .enum-told .given .1)
     (t .if2 .taken)
@@ -76,7 +75,7 @@ rate-set-file-requires c κs =
     let t = c .before .before in
     let v = t .before .before .before in
     let n = v .before .before in
-    all-fit freeChoice _ _ 0 0 (start n .pre) _ _ (n .before .byte-of .ensures) (n .count-of .ensures)
+    all-fit _ _ 0 0 (start n .pre) _ _ (n .before .byte-of .ensures) (n .count-of .ensures)
     (v .written-factors-verdict .ensures)
     (t .before .enum-told .given .1)
     (two t)
@@ -87,11 +86,11 @@ returns-2 c =
     let n = v .before .before in
     let q = c .before .before .r .given .1 in
     refused-rated
-    (records-refused _ _ _ _ _ (start n .pre) _ _ (n .before .byte-of .ensures) (n .count-of .ensures)
+    (records-refused _ _ _ _ (start n .pre) _ _ (n .before .byte-of .ensures) (n .count-of .ensures)
     (v .written-factors-verdict .ensures)
     (v .before .if1 .left)
     q)
-    (factors-number freeChoice _ _ 0 0 (start n .pre) _ _ (n .before .byte-of .ensures) (n .count-of .ensures)
+    (factors-number _ _ 0 0 (start n .pre) _ _ (n .before .byte-of .ensures) (n .count-of .ensures)
     (v .written-factors-verdict .ensures)
     q)
     (c .of-refusal .ensures)
@@ -109,7 +108,7 @@ returns-3 c =
     let v = t .before .before .before in
     let n = v .before .before in
     rated-as
-    (records-period _ _ _ _ _ (start n .pre) _ _ (n .before .byte-of .ensures) (n .count-of .ensures)
+    (records-period _ _ _ _ (start n .pre) _ _ (n .before .byte-of .ensures) (n .count-of .ensures)
     (v .written-factors-verdict .ensures)
     (t .before .enum-told .given .1)
     (t .if2 .taken))
@@ -128,7 +127,7 @@ returns-4 c =
     let v = t .before .before .before in
     let n = v .before .before in
     rated-as
-    (records-set _ _ _ _ _ (start n .pre) _ _ (n .before .byte-of .ensures) (n .count-of .ensures)
+    (records-set _ _ _ _ (start n .pre) _ _ (n .before .byte-of .ensures) (n .count-of .ensures)
     (v .written-factors-verdict .ensures)
     (t .before .enum-told .given .1)
     (two t))

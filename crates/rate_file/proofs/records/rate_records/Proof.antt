@@ -42,7 +42,7 @@ returns c =
     let q = c .before .before .r .given .1 in
     refused-rated
     (records-terms _ _ _ (s .pre .0) (v .before .byte-of .ensures) (s .pre .1) (v .terms-verdict .ensures)
-    _ _ _ q)
+    _ _ q)
     (terms-number _ _ (v .terms-verdict .ensures) q)
     (c .of-refusal .ensures)
 
