@@ -163,7 +163,8 @@ fn padded(mut l: Vec<u8>, n: usize) -> Vec<u8> {
     l
 }
 
-// The remainder by long division in as many bytes as the degree of g, and the quotient after them
+// The remainder by long division in as many bytes as the degree of g, and after them the quotient by the monic multiple
+// of g, which is that by g times its leading coefficient
 fn remainder_agrees(p: u64, f: &[u8], g: &[u8]) -> Result<(), String> {
     let degree = g.len() - 1;
     let expected = if f.len() <= degree {
@@ -171,7 +172,8 @@ fn remainder_agrees(p: u64, f: &[u8], g: &[u8]) -> Result<(), String> {
     } else {
         let (quotient, rest) = divided(p, of_bytes(f), &of_bytes(g));
         let mut both = padded(to_bytes(&rest), degree);
-        both.extend(padded(to_bytes(&quotient), f.len() - degree));
+        let quotient = to_bytes(&multiple(p, g[degree] as u64, &quotient));
+        both.extend(padded(quotient, f.len() - degree));
         both
     };
     expect(divided_in_place(p, f, g)?, expected, || {
@@ -235,6 +237,8 @@ fn made() -> Outcome {
                 for (a, b) in f.iter_mut().zip(&r) {
                     *a = ((*a as u64 + *b as u64) % p) as u8;
                 }
+                let q = to_bytes(&multiple(p, g[degree] as u64, &of_bytes(&q)));
+                let q = padded(q, count);
                 expect(divided_in_place(p, &f, &g)?, [r, q].concat(), || {
                     format!("p {p}, {} by {}", list(&f), list(&g))
                 })?;

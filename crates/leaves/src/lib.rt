@@ -52,7 +52,7 @@ pub extern "C" fn leaf_update(p: u64, a: &mut [u8], c: u8, b: &[u8])
 }
 
 // Divides the polynomial in f by g modulo p, whose leading coefficient is not 0: leaves the remainder in the
-// first bytes, as many as the degree of g, and the quotient in those after them.
+// first bytes, as many as the degree of g, and the quotient by its monic multiple in those after them.
 #[no_mangle]
 pub extern "C" fn leaf_remainder(p: u64, f: &mut [u8], g: &[u8])
     ensures { λ _. ⌜ Remaindered (primeInRange p) (prime p) (now (g .entry)) (now (f .entry))

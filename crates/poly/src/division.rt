@@ -1,6 +1,9 @@
 // Division in lent bytes: by a monic polynomial, and by any whose leading coefficient is not 0. Assumes a
 // well-formed field, and its elements in both.
 use arith::GaloisField;
+ghost use lib.ListN.{getD};
+ghost use Rattle.meaning.specs.Polynomial.{degree};
+ghost use Rattle.arith.specs.Inverse.{inverse};
 ghost use Rattle.arith.specs.Represented.{fieldOf, WellFormed};
 ghost use Rattle.poly.specs.division.Division.{Divisible, LeadingDivisible, Divided};
 
@@ -9,7 +12,7 @@ ghost use Rattle.poly.specs.division.Division.{Divisible, LeadingDivisib
 pub fn remainder(field: GaloisField, f: &mut [u8], g: &[u8])
     requires { ⌜ WellFormed field ⌝ }
     requires { ⌜ Divisible (fieldOf field) (now f) (now g) ⌝ }
-    ensures { λ _. ⌜ Divided (fieldOf field) (now (g .entry)) (now (f .entry)) (now (f .exit)) ⌝ }
+    ensures { λ _. ⌜ Divided (fieldOf field) 1 (now (g .entry)) (now (f .entry)) (now (f .exit)) ⌝ }
 {
     let e = g.len() - 1;
     let mut i = f.len();
@@ -21,21 +24,24 @@ pub fn remainder(field: GaloisField, f: &mut [u8], g: &[u8])
     }
 }
 
-// The same for g with any leading coefficient but 0, whose inverse is found once: each coefficient of the
-// quotient is the product of this inverse and the highest coefficient that is left.
+// The same for g with any leading coefficient but 0: leaves the remainder, and after it the quotient by the
+// monic multiple of g. The inverse of the leading coefficient is found once; its product with the highest
+// coefficient that is left is one of the quotient by g.
 pub fn divide(field: GaloisField, f: &mut [u8], g: &[u8])
     requires { ⌜ WellFormed field ⌝ }
     requires { ⌜ LeadingDivisible (fieldOf field) (now f) (now g) ⌝ }
-    ensures { λ _. ⌜ Divided (fieldOf field) (now (g .entry)) (now (f .entry)) (now (f .exit)) ⌝ }
+    ensures { λ _. ⌜ Divided (fieldOf field)
+        (inverse (fieldOf field) (getD (now (g .entry)) (degree (now (g .entry))) 0))
+        (now (g .entry)) (now (f .entry)) (now (f .exit)) ⌝ }
 {
     let e = g.len() - 1;
-    let inverse = field.inverse(g[e]);
+    let c = field.negative(field.inverse(g[e]));
     let mut i = f.len();
-    // the bytes before i, and the product of g and those from i on, e places lower, add up to the polynomial
+    // the bytes before i, and the product of the monic multiple of g and those from i on, e places lower, add
+    // up to the polynomial
     while e < i {
         i -= 1;
-        let q = field.product(inverse, f[i]);
-        field.add_multiple(&mut f[i - e..i], field.negative(q), &g[0..e]);
-        f[i] = q;
+        let q = field.product(c, f[i]);
+        field.add_multiple(&mut f[i - e..i], q, &g[0..e]);
     }
 }

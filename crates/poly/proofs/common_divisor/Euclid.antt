@@ -1,6 +1,5 @@
 -- One turn of Euclid's algorithm: a leaves its remainder by b.
 --
---   divided-congruent == the remainder is congruent to a
 --   euclid-ends       == where the remainder is 0, b is a greatest common divisor
 --   euclid-turns      == b and the remainder, without the zeros at its end, are what the next turn asks for
 --   euclid-goes-on    == and what it finds is a greatest common divisor of a and b
@@ -13,26 +12,21 @@ use mathlib.Core.Logic.{_≢_}
 use mathlib.Core.List.{List}
 use native.Mathlib.Decide.{decLt}
 use native.Mathlib.Omega.{arith}
-use lib.ListN.{length, getD, take, drop, length-take, List·getD-eq-default}
+use lib.ListN.{length, getD, take, length-take, List·getD-eq-default}
 use lib.Seq.{getD-take, length-take-le}
-use lib.Dec.{T}
 use Rattle.meaning.specs.Field.{Field}
 use Rattle.meaning.specs.Polynomial.{Polynomial, degree, leading}
 use Rattle.bridge.proofs.Interpretation.{IsField}
 use Rattle.bridge.proofs.Polynomials.{length-degree, leading-getD, leading-nonempty}
 use Rattle.bridge.proofs.Continuations.{take-elements}
-use Rattle.bridge.proofs.Remainders.{Congruent, congruent-trans, congruent-sum, congruent-places}
+use Rattle.bridge.proofs.Remainders.{Congruent, congruent-trans, congruent-places}
 use Rattle.bridge.proofs.IrreducibleTests.{CommonDegree, common-nothing, common-step}
 use Rattle.arith.specs.Represented.{fieldOf, WellFormed}
 use Rattle.arith.specs.declared.field.GaloisField.{GaloisField}
 use Rattle.arith.proofs.Represented.{field-isField}
 use Rattle.poly.specs.division.Division.{LeadingDivisible, Divided}
 use Rattle.poly.specs.common_divisor.Common.{Trimmed, Euclidean, Turned, Common}
-
--- the remainder is congruent to a
-divided-congruent :
-    {F : Field} (I : IsField F) {g f f′ : List ℕ} → Divided F g f f′ → Congruent I g f (take (degree g) f′)
-divided-congruent I {g} {f′ = f′} d = congruent-sum I (drop (degree g) f′) (d .equation)
+use Rattle.poly.proofs.division.Dividing.{divided-congruent}
 
 module _ {F : Field} (I : IsField F) {a b : Polynomial} (E : Euclidean F a b) where
   abbrev e : ℕ
@@ -47,7 +41,7 @@ module _ {F : Field} (I : IsField F) {a b : Polynomial} (E : Euclidean F a b) wh
   pub euclid-divisible : LeadingDivisible F a b
   euclid-divisible = record { divisor = E .divisor; nonzero = E .nonzero; elements = E .dividend }
 
-  module _ {a′ : List ℕ} (d : Divided F b a a′) where
+  module _ {c : ℕ} {a′ : List ℕ} (d : Divided F c b a a′) where
     pub divided-size : e ≤ length a′
     divided-size = omega (arith, d .size, E .shorter)
 
@@ -112,9 +106,9 @@ module _ {F : Field} (I : IsField F) {a b : Polynomial} (E : Euclidean F a b) wh
 
 -- The turn as the code makes it
 pub turned :
-    {field : GaloisField} (v : WellFormed field) {a b a′ : List ℕ} {n : ℕ}
+    {field : GaloisField} (v : WellFormed field) {a b a′ : List ℕ} {c n : ℕ}
     → Euclidean (fieldOf field) a b
-    → Divided (fieldOf field) b a a′
+    → Divided (fieldOf field) c b a a′
     → Trimmed (take (length b - 1 - 0) a′) n
     → Turned field a b a′ n
 turned v E d t =

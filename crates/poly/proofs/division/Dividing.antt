@@ -2,12 +2,13 @@
 -- other.
 --
 --   monic-divisible  == a monic divisor has such a leading coefficient
---   Digit F g c q    == q times the leading coefficient of g is c: the coefficient of the quotient where c
---                       stands; `monic-digit`: c itself where g is monic; `inverse-digit`: c times the
---                       inverse
---   Dividing F g f w i == what the loop keeps: w below i, and g times what stands in w from i on, as many
---                       places lower as the degree of g, add up to f
+--   Digit F c g a    == c·a times the leading coefficient of g is a: c·a is the coefficient of the quotient
+--                       where a stands; `monic-digit`: c is 1 where g is monic; `inverse-digit`: the inverse
+--                       of the leading coefficient
+--   Dividing F c g f w i == what the loop keeps: w below i, and g times c times what stands in w from i on,
+--                       as many places lower as the degree of g, add up to f
 --   dividing-start, dividing-next, dividing-end == at the start, one coefficient more, at the end
+--   divided-congruent == the remainder is congruent to what was divided
 --
 -- Assumes nothing.
 use Prim.Native.Nat.{ℕ, suc, _+_, _-_, _≤_, _<_}
@@ -16,11 +17,11 @@ use mathlib.Core.List.{List, [], _∷_, _++_}
 use native.Mathlib.Nat.{le-refl, sub-zero}
 use native.Mathlib.Decide.{decLt}
 use native.Mathlib.Omega.{arith}
-use lib.ListN.{length, getD, take, drop, set, replicate, length-replicate, length-set}
+use lib.ListN.{length, getD, take, drop, replicate, length-replicate}
 use lib.ListN.{List·getD-append}
 use lib.ListN.{List·getD-eq-default, length-take, length-drop, drop-of-length-le}
 use lib.Seq.{ext-getD, getD-take, getD-drop, getD-append-add, drop-cons, take-all, length-take-le}
-use lib.Seq.{paste, length-paste, getD-set-same, getD-set-other}
+use lib.Seq.{paste, length-paste}
 use lib.Dec.{T}
 use borrow.Rule.Slice.PartMut.{putMid}
 use Rattle.meaning.specs.Field.{Field, areElements, negative}
@@ -31,11 +32,12 @@ use Rattle.bridge.proofs.Interpretation.{number-mul-zero, number-mul-negative, 
 use Rattle.bridge.proofs.Interpretation.{number-mul-assoc}
 use Rattle.bridge.proofs.Interpretation.{add-below, size-positive}
 use Rattle.bridge.proofs.Polynomials.{getD-below, getD-elements, elements-cons}
-use Rattle.bridge.proofs.Polynomials.{scale-elements, times-elements, length-plus, length-times}
+use Rattle.bridge.proofs.Polynomials.{scale-elements, times-elements, length-plus, length-scale, length-times}
 use Rattle.bridge.proofs.Polynomials.{monic-last, leading-getD, leading-nonempty, degree-length}
 use Rattle.bridge.proofs.Multiples.{monic-leads}
 use Rattle.bridge.proofs.Coefficients.{getD-sum, getD-multiple, getD-zeros}
 use Rattle.bridge.proofs.Continuations.{take-elements}
+use Rattle.bridge.proofs.Remainders.{Congruent, congruent-sum}
 use Rattle.arith.specs.Slices.{combined}
 use Rattle.arith.proofs.Slices.{length-combined, getD-combined, getD-paste-inside, getD-paste-before}
 use Rattle.arith.proofs.Slices.{getD-paste-after}
@@ -69,13 +71,14 @@ raised-suc x v j l = elim (decLt x j) [
       ap (λ n. getD (0 ∷ v) n 0) b ∙ sym (raised-low (suc x) v j (omega arith))
 ]
 
-pub record Dividing (F : Field) (g : Polynomial) (f w : List ℕ) (i : ℕ) : Type 0 where
+pub record Dividing (F : Field) (c : ℕ) (g : Polynomial) (f w : List ℕ) (i : ℕ) : Type 0 where
   pub size : length w ≡ length f
   pub within : i ≤ length f
   pub least : i < length f → degree g ≤ i
   pub elements : T (areElements F w)
   pub total : (j : ℕ)
-      → getD f j 0 ≡ (F .add) (getD (take i w) j 0) (raised (i - degree g) (times F (drop i w) g) j)
+      → getD f j 0
+      ≡ (F .add) (getD (take i w) j 0) (raised (i - degree g) (times F (scale F c (drop i w)) g) j)
 
 -- past the end there are zeros
 take-beyond : (i : ℕ) (w : List ℕ) (j : ℕ) → i ≤ j → getD (take i w) j 0 ≡ 0
@@ -85,11 +88,11 @@ times-none : (F : Field) (g : Polynomial) → length (times F [] g) ≡ 0
 unfolding times
 times-none F g = refl
 
--- q is the coefficient of the quotient where c is the highest coefficient that is left
-abbrev pub Digit : Field → Polynomial → ℕ → ℕ → Type 0
-Digit F g c q = (F .mul) q (getD g (degree g) 0) ≡ c
+-- c·a is the coefficient of the quotient where a is the highest coefficient that is left
+abbrev pub Digit : Field → ℕ → Polynomial → ℕ → Type 0
+Digit F c g a = (F .mul) ((F .mul) c a) (getD g (degree g) 0) ≡ a
 
--- the numbers before place i, as many as the degree of g, are less by q·g, and q stands at i
+-- the numbers before place i, as many as the degree of g, are less by q·g, and the others are as they were
 pub record Reduced (F : Field) (g : Polynomial) (q : ℕ) (w : List ℕ) (i : ℕ) (w′ : List ℕ) : Type 0 where
   pub size : length w′ ≡ length w
   pub before : (j : ℕ) → j < i - degree g → getD w′ j 0 ≡ getD w j 0
@@ -99,30 +102,31 @@ pub record Reduced (F : Field) (g : Polynomial) (q : ℕ) (w : List ℕ) (i : �
       → j < i
       → getD w′ j 0
       ≡ (F .add) (getD w j 0) ((F .mul) (negative F q) (getD g (j - (i - degree g)) 0))
-  pub digit : getD w′ i 0 ≡ q
-  pub after : (j : ℕ) → i < j → getD w′ j 0 ≡ getD w j 0
+  pub after : (j : ℕ) → i ≤ j → getD w′ j 0 ≡ getD w j 0
 
 pub monic-divisible : {F : Field} {f g : List ℕ} → Divisible F f g → LeadingDivisible F f g
 monic-divisible {F} {g = g} d =
     let x = monic-leads F g (d .monic) in
     record { divisor = x .elements; nonzero = x .nonzero; elements = d .elements }
 
-pub monic-digit : {F : Field} (I : IsField F) {f g : List ℕ} → Divisible F f g → (c : ℕ) → c < F .size
-    → Digit F g c c
-monic-digit {F} I {g = g} d c l =
-    ap ((F .mul) c) (monic-last F g (d .monic)) ∙ number-mul-comm I c 1 ∙ number-one-mul I l
+pub monic-digit : {F : Field} (I : IsField F) {f g : List ℕ} → Divisible F f g → (a : ℕ) → a < F .size
+    → Digit F 1 g a
+monic-digit {F} I {g = g} d a l =
+    ap₂ (F .mul) (number-one-mul I l) (monic-last F g (d .monic))
+    ∙ number-mul-comm I a 1
+    ∙ number-one-mul I l
 
-pub inverse-digit : {F : Field} (I : IsField F) {f g : List ℕ} → LeadingDivisible F f g → (c : ℕ)
-    → c < F .size
-    → Digit F g c ((F .mul) (inverse F (getD g (degree g) 0)) c)
-inverse-digit {F} I {g = g} d c l =
-    let a = getD g (degree g) 0 in
-    let u = inverse F a in
-    let e : (F .mul) a u ≡ 1 =
+pub inverse-digit : {F : Field} (I : IsField F) {f g : List ℕ} → LeadingDivisible F f g → (a : ℕ)
+    → a < F .size
+    → Digit F (inverse F (getD g (degree g) 0)) g a
+inverse-digit {F} I {g = g} d a l =
+    let b = getD g (degree g) 0 in
+    let u = inverse F b in
+    let e : (F .mul) b u ≡ 1 =
     inverse-product I (getD-below I g (d .divisor) (degree g)) (λ z. d .nonzero (leading-getD g ∙ z)) in
-    number-mul-comm I ((F .mul) u c) a
-    ∙ sym (number-mul-assoc I a u c)
-    ∙ ap (λ z. (F .mul) z c) e
+    number-mul-comm I ((F .mul) u a) b
+    ∙ sym (number-mul-assoc I b u a)
+    ∙ ap (λ z. (F .mul) z a) e
     ∙ number-one-mul I l
 
 module _ {F : Field} (I : IsField F) {g : Polynomial} {f : List ℕ} (d : LeadingDivisible F f g) where
@@ -135,9 +139,9 @@ module _ {F : Field} (I : IsField F) {g : Polynomial} {f : List ℕ} (d : Leadin
   abbrev e : ℕ
   e = degree g
 
-  pub dividing-start : Dividing F g f f (length f)
-  unfolding times
-  dividing-start =
+  pub dividing-start : {c : ℕ} → Dividing F c g f f (length f)
+  unfolding times scale
+  dividing-start {c} =
       record {
         size = refl;
         within = omega arith;
@@ -145,7 +149,7 @@ module _ {F : Field} (I : IsField F) {g : Polynomial} {f : List ℕ} (d : Leadin
         elements = d .elements;
         total = λ j.
             sym
-            (ap₂ (λ v u. (F .add) (getD v j 0) (raised (length f - e) (times F u g) j))
+            (ap₂ (λ v u. (F .add) (getD v j 0) (raised (length f - e) (times F (scale F c u) g) j))
             (take-all (length f) f (omega arith))
             (drop-of-length-le f (le-refl (length f)))
             ∙ ap ((F .add) (getD f j 0)) (nothing (length f - e) j)
@@ -156,13 +160,17 @@ module _ {F : Field} (I : IsField F) {g : Polynomial} {f : List ℕ} (d : Leadin
       nothing x j = elim (decLt j x) [ yes l ↦ raised-low x [] j l | no l ↦ raised-high x [] j (omega arith) ]
 
   -- one coefficient more of the quotient, at place i
-  module _ {w : List ℕ} {k q : ℕ} (m : Dividing F g f w k) (l : e < k)
-      (t : Digit F g (getD w (k - 1) 0) q) where
+  module _ {c : ℕ} {w : List ℕ} {k : ℕ} (m : Dividing F c g f w k) (l : e < k)
+      (t : Digit F c g (getD w (k - 1) 0)) where
     abbrev i : ℕ
     i = k - 1
 
-    abbrev c : ℕ
-    c = getD w i 0
+    abbrev q : ℕ
+    q = (F .mul) c (getD w i 0)
+
+    -- what the quotient has from place k on
+    abbrev known : List ℕ
+    known = scale F c (drop k w)
 
     abbrev x : ℕ
     x = i - e
@@ -212,12 +220,13 @@ module _ {F : Field} (I : IsField F) {g : Polynomial} {f : List ℕ} (d : Leadin
               ∙ ap (λ z. getD w z 0) (sym u)
 
       -- the quotient has q before the coefficients that it had
-      quotient : drop i w′ ≡ q ∷ drop k w
+      quotient : scale F c (drop i w′) ≡ q ∷ known
+      unfolding scale
       quotient =
           let a : i < length w′ = omega (arith, s .size, m .size, m .within) in
           let b : suc i ≡ k = omega arith in
-          drop-cons w′ i 0 a
-          ∙ ap₂ _∷_ (s .digit) (ap (λ n. drop n w′) b ∙ later)
+          ap (scale F c)
+          (drop-cons w′ i 0 a ∙ ap₂ _∷_ (s .after i (omega arith)) (ap (λ n. drop n w′) b ∙ later))
         where
           later : drop k w′ ≡ drop k w
           later =
@@ -228,63 +237,58 @@ module _ {F : Field} (I : IsField F) {g : Polynomial} {f : List ℕ} (d : Leadin
 
       -- what the product with g adds at place j
       higher : (j : ℕ) → x ≤ j
-          → raised x (times F (q ∷ drop k w) g) j
-          ≡ (F .add) ((F .mul) q (getD g (j - x) 0)) (raised (k - e) (times F (drop k w) g) j)
+          → raised x (times F (q ∷ known) g) j
+          ≡ (F .add) ((F .mul) q (getD g (j - x) 0)) (raised (k - e) (times F known g) j)
       unfolding times
       higher j h =
-          raised-high x (times F (q ∷ drop k w) g) j h
+          raised-high x (times F (q ∷ known) g) j h
           ∙ getD-sum I (scale F q g) (0 ∷ old) (j - x) (scale-elements I q g)
-          (elements-cons F old (size-positive I) (times-elements I (drop k w) g))
+          (elements-cons F old (size-positive I) (times-elements I known g))
           ∙ ap₂ (F .add) (getD-multiple I q g (j - x)) (raised-suc x old j h ∙ ap (λ n. raised n old j) above)
         where
           old : List ℕ
-          old = times F (drop k w) g
+          old = times F known g
 
           above : suc x ≡ k - e
           above = omega arith
 
-      reduced-elements : q < F .size → T (areElements F w′)
-      reduced-elements below =
+      reduced-elements : T (areElements F w′)
+      reduced-elements =
           getD-elements F w′
           (λ j h. elim (decLt j i) [
             | yes a ↦ elim (decLt j x) [
               | yes b ↦ kept j (s .before j b)
               | no b ↦ subst (λ y. y < F .size) (sym (s .inside j (omega arith) a)) (add-below I _ _)
             ]
-            | no a ↦ elim (decLt i j) [
-              | yes b ↦ kept j (s .after j b)
-              | no b ↦
-                  let u : j ≡ i = omega arith in
-                  subst (λ y. y < F .size) (sym (ap (λ n. getD w′ n 0) u ∙ s .digit)) below
-            ]
+            | no a ↦ kept j (s .after j (omega arith))
           ])
         where
           kept : (j : ℕ) → getD w′ j 0 ≡ getD w j 0 → getD w′ j 0 < F .size
           kept j t = subst (λ y. y < F .size) (sym t) (getD-below I w (m .elements) j)
 
-      pub dividing-next : q < F .size → Dividing F g f w′ i
-      dividing-next below =
+      pub dividing-next : Dividing F c g f w′ i
+      dividing-next =
           record {
             size = s .size ∙ m .size;
             within = omega (arith, m .within);
             least = λ h. omega arith;
-            elements = reduced-elements below;
+            elements = reduced-elements;
             total = λ j. m .total j ∙ sym (ap (sum j) quotient ∙ same j);
           }
         where
           old : ℕ → ℕ
-          old j = raised (k - e) (times F (drop k w) g) j
+          old j = raised (k - e) (times F known g) j
 
           sum : ℕ → List ℕ → ℕ
           sum j u = (F .add) (getD (take i w′) j 0) (raised x (times F u g) j)
 
-          same : (j : ℕ) → sum j (q ∷ drop k w) ≡ (F .add) (getD (take k w) j 0) (old j)
+          same : (j : ℕ) → sum j (q ∷ known) ≡ (F .add) (getD (take k w) j 0) (old j)
           same j = elim (decLt j x) [
             | yes a ↦
                 ap₂ (F .add)
                 (getD-take i w′ j 0 (omega arith) ∙ s .before j a ∙ sym (getD-take k w j 0 (omega arith)))
-                (raised-low x (times F (q ∷ drop k w) g) j a
-                ∙ sym (raised-low (k - e) (times F (drop k w) g) j (omega arith)))
+                (raised-low x (times F (q ∷ known) g) j a
+                ∙ sym (raised-low (k - e) (times F known g) j (omega arith)))
             | no a ↦
                 ap ((F .add) (getD (take i w′) j 0)) (higher j (omega arith))
                 ∙ sym (number-add-assoc I (getD (take i w′) j 0) ((F .mul) q (getD g (j - x) 0)) (old j))
@@ -292,38 +296,42 @@ module _ {F : Field} (I : IsField F) {g : Polynomial} {f : List ℕ} (d : Leadin
           ]
 
   -- the length of the sum of a remainder and a product with g
-  length-sum : (w : List ℕ) → length (plus F (take e w) (times F (drop e w) g)) ≡ length w
-  length-sum w =
-      length-plus I (take e w) (times F (drop e w) g) ∙ elim (decLt e (length w)) [
+  length-sum : (c : ℕ) (w : List ℕ) → length (plus F (take e w) (times F (scale F c (drop e w)) g)) ≡ length w
+  unfolding scale
+  length-sum c w =
+      let n : length (scale F c (drop e w)) ≡ length w - e =
+      length-scale F c (drop e w) ∙ length-drop e w in
+      length-plus I (take e w) (times F (scale F c (drop e w)) g) ∙ elim (decLt e (length w)) [
         | yes h ↦
             omega (
               arith,
               length-take e w,
-              length-drop e w,
-              length-times I (drop e w) g (omega (arith, length-drop e w)) some,
+              n,
+              length-times I (scale F c (drop e w)) g (omega (arith, n)) some,
               length-g,
             )
         | no h ↦
             omega (
               arith,
               length-take e w,
-              ap (λ u. length (times F u g)) (drop-of-length-le w {i = e} (omega arith)) ∙ times-none F g,
+              ap (λ u. length (times F (scale F c u) g)) (drop-of-length-le w {i = e} (omega arith))
+                  ∙ times-none F g,
             )
       ]
 
-  pub dividing-end : {w : List ℕ} {i : ℕ} → Dividing F g f w i → i ≤ e → Divided F g f w
-  dividing-end {w} {i} m l =
+  pub dividing-end : {c : ℕ} {w : List ℕ} {i : ℕ} → Dividing F c g f w i → i ≤ e → Divided F c g f w
+  dividing-end {c} {w} {i} m l =
       record {
         size = m .size;
         elements = m .elements;
         equation =
-            ext-getD 0 f (plus F (take e w) (times F (drop e w) g)) (sym (length-sum w ∙ m .size))
+            ext-getD 0 f (plus F (take e w) product) (sym (length-sum c w ∙ m .size))
             (λ j h.
             m .total j
             ∙ ap₂ (F .add) (ap (λ v. getD v j 0) front) (high j)
             ∙ sym
-            (getD-sum I (take e w) (times F (drop e w) g) j (take-elements F e w (m .elements))
-            (times-elements I (drop e w) g)));
+            (getD-sum I (take e w) product j (take-elements F e w (m .elements))
+            (times-elements I (scale F c (drop e w)) g)));
       }
     where
       -- i is the degree of g, or past the end
@@ -341,11 +349,20 @@ module _ {F : Field} (I : IsField F) {g : Polynomial} {f : List ℕ} (d : Leadin
             ∙ sym (drop-of-length-le w {i = e} (omega (arith, m .size)))
       ]
 
-      high : (j : ℕ) → raised (i - e) (times F (drop i w) g) j ≡ getD (times F (drop e w) g) j 0
+      product : List ℕ
+      product = times F (scale F c (drop e w)) g
+
+      high : (j : ℕ) → raised (i - e) (times F (scale F c (drop i w)) g) j ≡ getD product j 0
       high j =
           let t : i - e ≡ 0 = omega arith in
-          ap₂ (λ n u. raised n (times F u g) j) t back ∙ raised-high 0 (times F (drop e w) g) j (omega arith)
-          ∙ ap (λ n. getD (times F (drop e w) g) n 0) (sub-zero j)
+          ap₂ (λ n u. raised n (times F (scale F c u) g) j) t back ∙ raised-high 0 product j (omega arith)
+          ∙ ap (λ n. getD product n 0) (sub-zero j)
+
+pub divided-congruent :
+    {F : Field} (I : IsField F) {c : ℕ} {g f f′ : List ℕ}
+    → Divided F c g f f′
+    → Congruent I g f (take (degree g) f′)
+divided-congruent {F} I {c} {g} {f′ = f′} d = congruent-sum I (scale F c (drop (degree g) f′)) (d .equation)
 
 -- the part that comes back from the update
 module _ (F : Field) (g : Polynomial) (some : 0 < length g) (w : List ℕ) (i : ℕ) (l : length g - 1 ≤ i)
@@ -417,28 +434,13 @@ module _ (F : Field) (g : Polynomial) (some : 0 < length g) (w : List ℕ) (i : 
     after-pasted : (j : ℕ) → i ≤ j → getD (paste w y ys n) j 0 ≡ getD w j 0
     after-pasted j a = getD-paste-after w y ys n (omega arith) (omega (arith, length-ys)) j (omega arith)
 
-    -- where the coefficient of the quotient is written after it, and where it is there already
-    pub reduced-set : Reduced F g u w i (set (putMid y (i - y) w ys) i u)
+    pub reduced-put : Reduced F g u w i (putMid y (i - y) w ys)
     unfolding degree
-    reduced-set =
-        subst (λ v. Reduced F g u w i (set v i u)) (sym pasted)
-        (record {
-          size = length-set (paste w y ys n) i u ∙ length-pasted;
-          before = λ j a. getD-set-other (paste w y ys n) i j u 0 (λ z. omega arith) ∙ before-pasted j a;
-          inside = λ j a b. getD-set-other (paste w y ys n) i j u 0 (λ z. omega arith) ∙ inside-pasted j a b;
-          digit = getD-set-same (paste w y ys n) i u 0 (omega (arith, length-pasted));
-          after = λ j a.
-              getD-set-other (paste w y ys n) i j u 0 (λ z. omega arith) ∙ after-pasted j (omega arith);
-        })
-
-    pub reduced-put : u ≡ getD w i 0 → Reduced F g u w i (putMid y (i - y) w ys)
-    unfolding degree
-    reduced-put k =
+    reduced-put =
         subst (Reduced F g u w i) (sym pasted)
         (record {
           size = length-pasted;
           before = before-pasted;
           inside = inside-pasted;
-          digit = after-pasted i (omega arith) ∙ sym k;
-          after = λ j a. after-pasted j (omega arith);
+          after = after-pasted;
         })

@@ -2,25 +2,28 @@
 -- Assumes nothing.
 use borrow.Author.Needs.{needs}
 use native.Mathlib.Omega.{arith}
-use Prim.Native.Nat.{_-_, _<_}
-use mathlib.Core.Path.{ap, subst, sym, _∙_}
+use Prim.Native.Nat.{_-_}
+use mathlib.Core.Path.{ap, _∙_}
 use lib.ListN.{length, getD}
 use denote.Ref.{now}
+use Rattle.meaning.specs.Field.{negative}
 use Rattle.meaning.specs.Polynomial.{degree}
-use Rattle.bridge.proofs.Interpretation.{mul-below}
+use Rattle.bridge.proofs.Interpretation.{number-mul-comm, number-mul-negative}
 use Rattle.bridge.proofs.Polynomials.{leading-nonempty, getD-below}
 use Rattle.arith.specs.Represented.{fieldOf}
+use Rattle.arith.specs.Inverse.{inverse}
 use Rattle.arith.proofs.Represented.{field-isField}
 use Rattle.poly.proofs.division.Dividing.{Dividing, dividing-start, dividing-next, dividing-end}
-use Rattle.poly.proofs.division.Dividing.{lent-length, reduced-set, inverse-digit, Digit}
+use Rattle.poly.proofs.division.Dividing.{lent-length, reduced-put, inverse-digit}
 use Rattle.poly.proofs.division.divide.Statement.{statement}
 use Rattle.poly.proofs.division.divide.Tie as tie
 
 abbrev Inv-loop : tie.InvT-loop
-Inv-loop field f₀ g e inverse i₀ f i = Dividing (fieldOf field) g f₀ f i
+Inv-loop field f₀ g e c i₀ f i =
+    Dividing (fieldOf field) (inverse (fieldOf field) (getD g (degree g) 0)) g f₀ f i
 
 abbrev μ-loop : tie.MeasureT-loop
-μ-loop field f₀ g e inverse i₀ f i = i
+μ-loop field f₀ g e c i₀ f i = i
 
 sub-e : tie.Need-sub-e Inv-loop μ-loop
 sub-e c =
@@ -35,9 +38,12 @@ shared-slice-read-inverse c =
 inverse-requires : tie.Need-inverse-requires Inv-loop μ-loop
 inverse-requires c κs = search needs
 
+negative-requires : tie.Need-negative-requires Inv-loop μ-loop
+negative-requires c κs = search needs
+
 loop-holds : tie.Need-loop-holds Inv-loop μ-loop
 loop-holds c =
-    let s = c .before .before .before .before in
+    let s = c .before .before .before .before .before in
     dividing-start (field-isField (s .pre .0)) (s .pre .1)
 
 sub-i : tie.Need-sub-i Inv-loop μ-loop
@@ -61,9 +67,6 @@ part-add-multiple-start c = search needs
 part-add-multiple-end : tie.Need-part-add-multiple-end Inv-loop μ-loop
 part-add-multiple-end c = search needs
 
-negative-requires : tie.Need-negative-requires Inv-loop μ-loop
-negative-requires c κs = search needs
-
 sub-add-multiple-3 : tie.Need-sub-add-multiple-3 Inv-loop μ-loop
 sub-add-multiple-3 c = search needs
 
@@ -75,16 +78,13 @@ part-add-multiple-end-2 c = search needs
 
 add-multiple-requires : tie.Need-add-multiple-requires Inv-loop μ-loop
 add-multiple-requires c κs =
-    let l = c .before .before .before .before .before .before in
-    let s = l .before .before .before .before .before in
+    let l = c .before .before .before .before .before in
+    let s = l .before .before .before .before .before .before in
     let a = s .args in
     let k =
     lent-length (fieldOf (a .field)) (now (a .g)) (leading-nonempty (now (a .g)) (s .pre .1 .nonzero))
     (l .loop .f) (l .loop .i - 1) (omega arith) (omega (arith, l .loop .inv .within, l .loop .inv .size)) in
     (s .pre .0, omega (arith, k))
-
-slice-write-f : tie.Need-slice-write-f Inv-loop μ-loop
-slice-write-f c = search needs
 
 loop-less : tie.Need-loop-less Inv-loop μ-loop
 loop-less c = search needs
@@ -92,28 +92,28 @@ loop-less c = search needs
 loop-again : tie.Need-loop-again Inv-loop μ-loop
 unfolding degree
 loop-again c =
-    let m = c .before .before in
-    let k = m .before .before in
-    let q = k .before .before in
+    let q = c .before .before .before .before .before in
     let l = q .before .before .before in
-    let v = l .before in
-    let s = v .before .before .before .before in
+    let n = l .before in
+    let s = n .before .before .before .before .before in
     let a = s .args in
     let F = fieldOf (a .field) in
     let I = field-isField (s .pre .0) in
     let i = l .loop .i - 1 in
-    let below = getD-below I (l .loop .f) (l .loop .inv .elements) i in
-    let digit = q .product .ensures ∙ ap (λ u. (F .mul) u (getD (l .loop .f) i 0)) (v .inverse .ensures) in
+    let b = getD (l .loop .f) i 0 in
+    let d = inverse F (getD (now (a .g)) (length (now (a .g)) - 1) 0) in
     dividing-next I (s .pre .1) (l .loop .inv) (omega arith)
-    (subst (Digit F (now (a .g)) (getD (l .loop .f) i 0)) (sym digit)
-    (inverse-digit I (s .pre .1) (getD (l .loop .f) i 0) below))
-    (reduced-set F (now (a .g)) (leading-nonempty (now (a .g)) (s .pre .1 .nonzero)) (l .loop .f) i
+    (inverse-digit I (s .pre .1) b (getD-below I (l .loop .f) (l .loop .inv .elements) i))
+    (reduced-put F (now (a .g)) (leading-nonempty (now (a .g)) (s .pre .1 .nonzero)) (l .loop .f) i
     (omega arith)
     (omega (arith, l .loop .inv .within, l .loop .inv .size))
-    _
-    (k .negative .ensures)
-    (m .add-multiple .ensures))
-    (subst (λ y. y < F .size) (sym digit) (mul-below I _ _))
+    ((F .mul) d b)
+    (q .product .ensures
+    ∙ ap (λ u. (F .mul) u b) (n .negative .ensures ∙ ap (negative F) (n .before .inverse .ensures))
+    ∙ number-mul-comm I (negative F d) b
+    ∙ number-mul-negative I b d
+    ∙ ap (negative F) (number-mul-comm I b d))
+    (c .before .before .add-multiple .ensures))
 
 same-length : tie.Need-same-length Inv-loop μ-loop
 same-length c = c .before .loop .inv .size
@@ -121,7 +121,7 @@ same-length c = c .before .loop .inv .size
 returns : tie.Need-returns Inv-loop μ-loop
 unfolding degree
 returns c =
-    let s = c .before .before .before .before .before .before in
+    let s = c .before .before .before .before .before .before .before in
     dividing-end (field-isField (s .pre .0)) (s .pre .1) (c .before .loop .inv) (omega arith)
 
 pub divide-spec : {M : Type 1} → statement M
@@ -133,6 +133,7 @@ divide-spec =
     sub-e
     shared-slice-read-inverse
     inverse-requires
+    negative-requires
     loop-holds
     sub-i
     slice-read-product
@@ -141,12 +142,10 @@ divide-spec =
     sub-add-multiple-2
     part-add-multiple-start
     part-add-multiple-end
-    negative-requires
     sub-add-multiple-3
     part-add-multiple-start-2
     part-add-multiple-end-2
     add-multiple-requires
-    slice-write-f
     loop-less
     loop-again
     same-length

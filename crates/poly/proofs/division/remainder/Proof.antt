@@ -3,10 +3,12 @@
 use borrow.Author.Needs.{needs}
 use native.Mathlib.Omega.{arith}
 use Prim.Native.Nat.{_-_}
-use mathlib.Core.Path.{refl}
+use mathlib.Core.Path.{ap, sym, _∙_}
 use lib.ListN.{getD}
 use denote.Ref.{now}
+use Rattle.meaning.specs.Field.{negative}
 use Rattle.meaning.specs.Polynomial.{degree}
+use Rattle.bridge.proofs.Interpretation.{number-one-mul}
 use Rattle.bridge.proofs.Polynomials.{monic-nonempty, getD-below}
 use Rattle.arith.specs.Represented.{fieldOf}
 use Rattle.arith.proofs.Represented.{field-isField}
@@ -16,7 +18,7 @@ use Rattle.poly.proofs.division.remainder.Statement.{statement}
 use Rattle.poly.proofs.division.remainder.Tie as tie
 
 abbrev Inv-loop : tie.InvT-loop
-Inv-loop field f₀ g e i₀ f i = Dividing (fieldOf field) g f₀ f i
+Inv-loop field f₀ g e i₀ f i = Dividing (fieldOf field) 1 g f₀ f i
 
 abbrev μ-loop : tie.MeasureT-loop
 μ-loop field f₀ g e i₀ f i = i
@@ -90,11 +92,9 @@ loop-again c =
     (monic-digit I (s .pre .1) (getD (l .loop .f) (l .loop .i - 1) 0) below)
     (reduced-put (fieldOf (a .field)) (now (a .g)) n (l .loop .f) (l .loop .i - 1) (omega arith)
     (omega (arith, l .loop .inv .within, l .loop .inv .size))
-    (getD (l .loop .f) (l .loop .i - 1) 0)
-    (k .negative .ensures)
-    (c .before .before .add-multiple .ensures)
-    refl)
-    below
+    ((fieldOf (a .field) .mul) 1 (getD (l .loop .f) (l .loop .i - 1) 0))
+    (k .negative .ensures ∙ ap (negative (fieldOf (a .field))) (sym (number-one-mul I below)))
+    (c .before .before .add-multiple .ensures))
 
 same-length : tie.Need-same-length Inv-loop μ-loop
 same-length c = c .before .loop .inv .size
