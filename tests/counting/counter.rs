@@ -1,0 +1,76 @@
+// What the counting copy calls at each store (tests/counting/copy): the stores of one call, by the addresses that they go
+// to. A store of a single term is one of a byte of the lent work bytes.
+use std::cell::RefCell;
+use std::mem::size_of;
+use std::ops::Range;
+
+#[derive(Clone, Default)]
+pub struct Counts {
+    // the stores into the work bytes in their order: the place there, and the value
+    pub work: Vec<(usize, u8)>,
+    // of single bytes into the answer bytes
+    pub answer: usize,
+    // of single bytes anywhere else
+    pub elsewhere: usize,
+    // of wider numbers: sums of products, powers
+    pub wider: usize,
+    // the bytes of the largest array that was made
+    pub room: usize,
+}
+
+#[derive(Default)]
+struct Counting {
+    work: Range<usize>,
+    answer: Range<usize>,
+    counts: Counts,
+}
+
+thread_local! {
+    static COUNTING: RefCell<Counting> = RefCell::default();
+}
+
+fn addresses(bytes: &[u8]) -> Range<usize> {
+    let start = bytes.as_ptr() as usize;
+    start..start + bytes.len()
+}
+
+// A value was stored at the place.
+pub fn stored<T: Copy>(place: &T) {
+    let address = place as *const T as usize;
+    COUNTING.with_borrow_mut(|counting| {
+        let counts = &mut counting.counts;
+        if size_of::<T>() != 1 {
+            counts.wider += 1;
+        } else if counting.work.contains(&address) {
+            let value = unsafe { *(place as *const T as *const u8) };
+            counts.work.push((address - counting.work.start, value));
+        } else if counting.answer.contains(&address) {
+            counts.answer += 1;
+        } else {
+            counts.elsewhere += 1;
+        }
+    })
+}
+
+// An array was made.
+pub fn room<T, const N: usize>(array: [T; N]) -> [T; N] {
+    COUNTING.with_borrow_mut(|counting| {
+        counting.counts.room = counting.counts.room.max(size_of::<[T; N]>());
+    });
+    array
+}
+
+// What a call on lent bytes answers, and what it stored.
+pub fn count<T>(
+    answer: &mut [u8],
+    work: &mut [u8],
+    call: impl FnOnce(&mut [u8], &mut [u8]) -> T,
+) -> (T, Counts) {
+    COUNTING.set(Counting {
+        work: addresses(work),
+        answer: addresses(answer),
+        counts: Counts::default(),
+    });
+    let told = call(answer, work);
+    (told, COUNTING.take().counts)
+}

@@ -1,0 +1,443 @@
+// The stores of the search for a period's power, counted by running. The counting copy of the sources, which
+// tests/counting/copy makes anew for each run, rates periods of N = p^w·N' terms as the call does, and stores single terms
+// at most N·(2 + w·(p − 1)) times, the final zeros apart; it prints stores and bounds, which docs/READING.md shows. Two
+// wrong copies, with right answers, are caught.
+mod common;
+
+use arith::GaloisField;
+use common::calls::Told;
+use common::inputs::{self, dividing, divisor, power, register};
+use common::lent::{answers, answers_by};
+use common::poly::{self, Poly};
+use common::random::Random;
+use common::rater::{self, power_rating, Input, Rating};
+use common::route::{file_of, Factor, Record};
+use common::sequence::Terms;
+use common::{expect, primes, run, Outcome};
+use counting::Counts;
+use meaning::{FileOutcome, PowerRating};
+use refusals::numbering::refusal_number;
+
+const ANSWER: usize = 4097 + 13;
+const HALVES: usize = 8192;
+const WORK: usize = HALVES + 13;
+// the bytes of 256 sums of 16 bits
+const SUMS: usize = 512;
+
+// A period with one factor, and how it is to be rated.
+struct Period {
+    p: u64,
+    f: Poly,
+    terms: Terms,
+    rating: Result<Rating, u64>,
+}
+
+impl Period {
+    // A period whose rating is found by the second rater.
+    fn of(p: u64, f: &[u64], terms: &[u64]) -> Self {
+        Period {
+            p,
+            f: f.to_vec(),
+            terms: terms.to_vec(),
+            rating: rater::rate(&inputs::period(p, f, terms)),
+        }
+    }
+
+    // n terms, rated with the power r of f.
+    fn with_power(random: &mut Random, p: u64, f: &[u64], r: u64, n: usize) -> Self {
+        Period {
+            p,
+            f: f.to_vec(),
+            terms: register(random, p, f, r, n),
+            rating: Ok(power_rating(p, f, r)),
+        }
+    }
+
+    fn input(&self) -> Input {
+        inputs::period(self.p, &self.f, &self.terms)
+    }
+
+    // The exponent w of N = p^w·N'.
+    fn exponent(&self) -> usize {
+        let (p, mut n, mut w) = (self.p as usize, self.terms.len(), 0);
+        while n % p == 0 {
+            n /= p;
+            w += 1;
+        }
+        w
+    }
+
+    fn bound(&self) -> usize {
+        self.terms.len() * (2 + self.exponent() * (self.p as usize - 1))
+    }
+
+    fn name(&self) -> String {
+        let (p, n, f) = (self.p, self.terms.len(), &self.f);
+        let rated = self.rating.as_ref().map(|rating| rating.powers[0]);
+        format!("p {p}, {n} terms, factor {f:?}, rated {rated:?}")
+    }
+}
+
+// A copy's call, as `rate_period`.
+type Call = fn(u64, &[u8], &[u8], &mut [u8], &mut [u8]) -> PowerRating;
+
+// What a copy's call tells, in the form in which the exported one does.
+fn told(rating: PowerRating) -> Told {
+    let mut told = Told::marks(0);
+    match rating {
+        PowerRating::Refused(r) => told.status = refusal_number(r),
+        PowerRating::Rated {
+            power,
+            degree,
+            bound,
+        } => (told.powers[0], told.degree, told.bound) = (power, degree, bound),
+    }
+    told
+}
+
+// The exported call and the copy's answer as expected, in what they tell and in every lent byte.
+fn same_answers(call: Call, period: &Period) -> Result<(), String> {
+    let (input, f) = (period.input(), poly::to_bytes(&period.f));
+    answers(&input, &period.rating)?;
+    let copy = |input: &Input, answer: &mut [u8], work: &mut [u8]| {
+        told(call(input.p, &f, &input.terms, answer, work))
+    };
+    answers_by(copy, &input, &period.rating)
+}
+
+// What is stored while a copy's call rates a period.
+fn counts(call: Call, period: &Period) -> Counts {
+    let (f, terms) = (poly::to_bytes(&period.f), poly::to_bytes(&period.terms));
+    let (mut answer, mut work) = ([0xa5; ANSWER], [0xa5; WORK]);
+    let rate = |answer: &mut [u8], work: &mut [u8]| call(period.p, &f, &terms, answer, work);
+    counting::count(&mut answer, &mut work, rate).1
+}
+
+// The number of single terms stored: the stores into the work bytes, which are all in the two halves, without the last
+// 8,192, which are the final zeros, one for each byte.
+fn stores(counts: &Counts, period: &Period) -> Result<usize, String> {
+    let name = || period.name();
+    let beyond = counts.work.iter().find(|(place, _)| *place >= HALVES);
+    expect(beyond, None, || format!("{}: beyond the halves", name()))?;
+    let Some(stores) = counts.work.len().checked_sub(HALVES) else {
+        return Err(format!("{}: without the final zeros", name()));
+    };
+    let mut last = counts.work[stores..].to_vec();
+    last.sort();
+    let zeros: Vec<(usize, u8)> = (0..HALVES).map(|place| (place, 0)).collect();
+    expect(last == zeros, true, || {
+        format!("{}: the final zeros", name())
+    })?;
+    Ok(stores)
+}
+
+// The number of single terms that a copy's call stores, where it is within the bound.
+fn stores_within(call: Call, period: &Period) -> Result<usize, String> {
+    let (stores, bound) = (stores(&counts(call, period), period)?, period.bound());
+    if stores <= bound {
+        Ok(stores)
+    } else {
+        Err(format!(
+            "{}: {stores} stores, {bound} allowed",
+            period.name()
+        ))
+    }
+}
+
+// A copy's search, as `period_power`; what it finds is left out.
+type Search = fn(GaloisField, &mut [u8], &[u8], &[u8]);
+
+fn search(field: GaloisField, work: &mut [u8], f: &[u8], terms: &[u8]) {
+    period_way::period_power(field, work, f, terms);
+}
+
+fn search_and_keep(field: GaloisField, work: &mut [u8], f: &[u8], terms: &[u8]) {
+    keeps_terms_period_way::period_power(field, work, f, terms);
+}
+
+// What is stored while a copy searches, without the checks before and the answer after.
+fn searched(search: Search, period: &Period) -> Counts {
+    let (f, terms) = (poly::to_bytes(&period.f), poly::to_bytes(&period.terms));
+    let (field, mut work) = (GaloisField::of_prime(period.p), [0xa5; WORK]);
+    let power = |_: &mut [u8], work: &mut [u8]| search(field, work, &f, &terms);
+    counting::count(&mut [], &mut work, power).1
+}
+
+// The search stores no byte outside of the work bytes, and makes no array larger than that of the sums of a block.
+fn no_other_room(search: Search, period: &Period) -> Result<(), String> {
+    let counts = searched(search, period);
+    expect((counts.elsewhere, counts.room <= SUMS), (0, true), || {
+        format!("{}: bytes elsewhere, and room", period.name())
+    })
+}
+
+// The file of a period.
+fn file(period: &Period) -> Vec<u8> {
+    let factor = Factor::of_polynomial(&poly::to_bytes(&period.f), 0);
+    let mut records = vec![
+        Record::of(1, &[0, 0, 0, 7]),
+        Record::of(2, &[period.p as u8]),
+        Record::of(3, &[1]),
+        Record::of(4, &factor.body()),
+    ];
+    let terms = poly::to_bytes(&period.terms);
+    let (whole, rest) = terms.split_at(terms.len() / 64 * 64);
+    records.extend(whole.chunks(64).map(|body| Record::of(5, body)));
+    records.extend(rest.chunks(1).map(|body| Record::of(6, body)));
+    records.push(Record::of(8, &[]));
+    file_of(&records)
+}
+
+// How often terms are stored more when a period is rated as a file: what is stored elsewhere, less what the call stores
+// there on the terms themselves, and less the coefficients of the factor. File and call answer alike, and store alike into
+// the work bytes.
+fn more_in_a_file(period: &Period) -> Result<usize, String> {
+    let name = || format!("a file, {}", period.name());
+    let file = file(period);
+    let (mut answer, mut work) = ([0xa5; ANSWER], [0xa5; WORK]);
+    let rate = |answer: &mut [u8], work: &mut [u8]| rate_file::rate_file(&file, answer, work);
+    let (rating, stored) = counting::count(&mut answer, &mut work, rate);
+    let found = match rating.outcome {
+        FileOutcome::Powers { .. } => Ok(rating.powers[0]),
+        FileOutcome::Refused(r) => Err(refusal_number(r)),
+        _ => return Err(format!("{}: rated by another way", name())),
+    };
+    let expected = period.rating.as_ref().map(|rating| rating.powers[0]);
+    expect(found, expected.map_err(|r| *r), name)?;
+    let called = counts(rate_period::rate_period, period);
+    expect(stored.work == called.work, true, name)?;
+    let more = stored
+        .elsewhere
+        .checked_sub(called.elsewhere + period.f.len());
+    more.ok_or_else(|| format!("{}: fewer stores than the call", name()))
+}
+
+// A line of the table: what is rated, and periods whose terms are stored equally often.
+struct Line {
+    input: String,
+    periods: Vec<Period>,
+}
+
+fn marked(row: &str, p: u64, f: &[u64], terms: &[u64]) -> Line {
+    Line {
+        input: format!("row {row}"),
+        periods: vec![Period::of(p, f, terms)],
+    }
+}
+
+// Periods of n terms with each of the powers of f.
+fn powers(random: &mut Random, p: u64, f: &[u64], name: &str, n: usize, powers: &[u64]) -> Line {
+    let words: Vec<String> = powers.iter().map(|r| r.to_string()).collect();
+    let periods = powers
+        .iter()
+        .map(|&r| Period::with_power(random, p, f, r, n));
+    Line {
+        periods: periods.collect(),
+        input: format!("{name}, r {}", words.join(", ")),
+    }
+}
+
+// A period of n terms without a rule, which no power of f annihilates.
+fn refused(random: &mut Random, p: u64, f: &[u64], n: usize) -> Period {
+    Period {
+        p,
+        f: f.to_vec(),
+        terms: inputs::terms(random, p, n),
+        rating: Err(17),
+    }
+}
+
+// The rows B to F, and long periods: 4,096 terms, or the largest multiple of a power of p below.
+fn lines() -> Vec<Line> {
+    let random = &mut Random::of_seed(70);
+    let (one, three) = ([1, 1], [1, 1, 1]);
+    let twelve = divisor(random, 2, 12, 4095);
+    let mut lines = vec![
+        marked("B", 2, &one, &[0, 0, 0, 1]),
+        marked("C", 2, &one, &[1, 1, 1, 1]),
+        marked("D", 2, &one, &[0, 0, 0, 0]),
+        marked("E", 3, &[2, 1], &[0, 1, 2]),
+        marked("F", 2, &three, &[0, 0, 0, 1]),
+        powers(
+            random,
+            2,
+            &one,
+            "x + 1",
+            4096,
+            &[4096, 4095, 3000, 2049, 2048, 1],
+        ),
+        powers(random, 2, &one, "x + 1", 4096, &[0]),
+        Line {
+            input: "x² + x + 1, refused".to_string(),
+            periods: vec![refused(random, 2, &three, 4096)],
+        },
+        powers(random, 2, &three, "x² + x + 1", 3072, &[1024, 513, 1]),
+        powers(random, 2, &twelve, "of degree 12", 4095, &[1]),
+    ];
+    for p in [3, 5, 61, 251] {
+        let mut line = powers(random, p, &[p - 1, 1], "x − 1", 4096, &[1, 0]);
+        line.input += " or refused";
+        line.periods.push(refused(random, p, &[p - 1, 1], 4096));
+        lines.push(line);
+    }
+    for (p, n, tried) in [
+        (3, 2187, [2187, 1094, 1]),
+        (5, 3125, [3125, 1563, 1]),
+        (61, 3721, [3721, 1861, 1]),
+        (251, 4016, [251, 126, 1]),
+    ] {
+        for r in tried {
+            lines.push(powers(random, p, &[p - 1, 1], "x − 1", n, &[r]));
+        }
+    }
+    lines
+}
+
+// A number with a comma between thousands.
+fn grouped(n: usize) -> String {
+    if n < 1000 {
+        n.to_string()
+    } else {
+        format!("{},{:03}", grouped(n / 1000), n % 1000)
+    }
+}
+
+// The line of the table.
+fn row(line: &Line) -> Result<String, String> {
+    let period = &line.periods[0];
+    let mut found = vec![];
+    for period in &line.periods {
+        found.push(stores_within(rate_period::rate_period, period)?);
+    }
+    expect(found.iter().all(|n| *n == found[0]), true, || {
+        format!("{}: equal stores, {found:?}", line.input)
+    })?;
+    let words = [
+        period.p as usize,
+        period.terms.len(),
+        period.exponent(),
+        found[0],
+        period.bound(),
+        more_in_a_file(period)?,
+    ];
+    let words = words.map(grouped).join(" | ");
+    Ok(format!("| {} | {words} |", line.input))
+}
+
+// What is stored beside the terms.
+fn besides(counts: &Counts) -> String {
+    let [answer, elsewhere, wider] = [counts.answer, counts.elsewhere, counts.wider].map(grouped);
+    format!("8,192 zeros, answer {answer}, other bytes {elsewhere}, wider {wider}")
+}
+
+// Prints the table, each line of which docs/READING.md has, and after each line what else is stored.
+fn table() -> Outcome {
+    let mut missing = vec![];
+    let lines = lines();
+    println!("stores: | Input | p | N | w | Stores | Bound | More in a file | and beside");
+    for line in &lines {
+        let row = row(line)?;
+        let counts = counts(rate_period::rate_period, &line.periods[0]);
+        println!("stores: {row} {}", besides(&counts));
+        let reading = include_str!("../docs/READING.md");
+        if !reading.lines().any(|line| line == row) {
+            missing.push(row);
+        }
+    }
+    expect(missing, vec![], || "missing in docs/READING.md".to_string())?;
+    Ok(lines.len() as u64)
+}
+
+// Tries something with all periods of the table.
+fn with_each(mut test: impl FnMut(&Period) -> Result<(), String>) -> Outcome {
+    let mut cases = 0;
+    for period in lines().iter().flat_map(|line| &line.periods) {
+        test(period)?;
+        cases += 1;
+    }
+    Ok(cases)
+}
+
+fn equal_answers() -> Outcome {
+    with_each(|period| same_answers(rate_period::rate_period, period))
+}
+
+// There is no room for terms but the halves, and of a call the search alone stores into them.
+fn search_alone(period: &Period) -> Result<(), String> {
+    no_other_room(search, period)?;
+    let called = counts(rate_period::rate_period, period);
+    expect(searched(search, period).work == called.work, true, || {
+        format!("{}: the call stores as its search does", period.name())
+    })
+}
+
+fn only_the_halves() -> Outcome {
+    with_each(search_alone)
+}
+
+// Periods with factors of all degrees and any power, for every prime.
+fn other_periods() -> Outcome {
+    const EACH: u64 = 12;
+    let mut random = Random::of_seed(71);
+    for p in primes() {
+        for _ in 0..EACH {
+            let (f, e, q) = dividing(&mut random, p, 100, 4096);
+            let n = e * q * random.between(1, 4096 / (e * q));
+            let r = power(&mut random, p, q);
+            let period = Period::with_power(&mut random, p, &f, r, n as usize);
+            same_answers(rate_period::rate_period, &period)?;
+            stores_within(rate_period::rate_period, &period)?;
+            search_alone(&period)?;
+        }
+    }
+    Ok(EACH * primes().len() as u64)
+}
+
+// The terms of a file are gathered from its records, once each.
+fn files() -> Outcome {
+    with_each(|period| {
+        let name = || format!("a file, {}: terms gathered", period.name());
+        expect(more_in_a_file(period)?, period.terms.len(), name)
+    })
+}
+
+// A wrong copy answers right, so that it is the count that tells: at w = 0, where nothing is left of the bound.
+fn caught(call: Call, tell: impl Fn(&Period) -> Result<(), String>) -> Outcome {
+    let mut cases = 0;
+    for period in lines().iter().flat_map(|line| &line.periods) {
+        same_answers(call, period)?;
+        if period.exponent() > 0 {
+            continue;
+        }
+        if tell(period).is_ok() {
+            return Err(format!("{}: not caught", period.name()));
+        }
+        cases += 1;
+    }
+    Ok(cases)
+}
+
+fn twice_loaded() -> Outcome {
+    let call = loads_twice_rate_period::rate_period;
+    caught(call, |period| stores_within(call, period).map(|_| ()))
+}
+
+fn kept_elsewhere() -> Outcome {
+    let call = keeps_terms_rate_period::rate_period;
+    caught(call, |period| no_other_room(search_and_keep, period))
+}
+
+fn main() {
+    run(
+        "stores",
+        &[
+            ("the table of stores and bounds", table),
+            ("the copy answers as the call does", equal_answers),
+            ("no room but the halves", only_the_halves),
+            ("other periods", other_periods),
+            ("files", files),
+            ("a copy that loads twice", twice_loaded),
+            ("a copy that keeps the terms elsewhere", kept_elsewhere),
+        ],
+    )
+}
