@@ -1,6 +1,6 @@
 // The stores of the search for a period's power, counted by running. The counting copy of the sources, which
 // tests/counting/copy makes anew for each run, rates periods of N = p^w·N' terms as the call does, and stores single terms
-// at most N·(2 + w·(p − 1)) times, the final zeros apart; it prints stores and bounds, which docs/READING.md shows. Two
+// at most N·(2 + w·(p − 1)) times, the final zeros apart; it prints stores and bounds, which docs/READING.md shows. Three
 // wrong copies, with right answers, are caught.
 mod common;
 
@@ -21,8 +21,8 @@ use refusals::numbering::refusal_number;
 const ANSWER: usize = 4097 + 13;
 const HALVES: usize = 8192;
 const WORK: usize = HALVES + 13;
-// the bytes of 256 sums of 16 bits
-const SUMS: usize = 512;
+// the only array of the search: the 256 sums of a block, of 16 bits each, and the file in which they are made
+const SUMS: (&str, usize) = ("/lent/blocks.rs", 512);
 
 // A period with one factor, and how it is to be rated.
 struct Period {
@@ -155,6 +155,10 @@ fn search_and_keep(field: GaloisField, work: &mut [u8], f: &[u8], terms: &[u8]) 
     keeps_terms_period_way::period_power(field, work, f, terms);
 }
 
+fn search_and_keep_wider(field: GaloisField, work: &mut [u8], f: &[u8], terms: &[u8]) {
+    keeps_wider_period_way::period_power(field, work, f, terms);
+}
+
 // What is stored while a copy searches, without the checks before and the answer after.
 fn searched(search: Search, period: &Period) -> Counts {
     let (f, terms) = (poly::to_bytes(&period.f), poly::to_bytes(&period.terms));
@@ -163,11 +167,19 @@ fn searched(search: Search, period: &Period) -> Counts {
     counting::count(&mut [], &mut work, power).1
 }
 
-// The search stores no byte outside of the work bytes, and makes no array larger than that of the sums of a block.
-fn no_other_room(search: Search, period: &Period) -> Result<(), String> {
-    let counts = searched(search, period);
-    expect((counts.elsewhere, counts.room <= SUMS), (0, true), || {
-        format!("{}: bytes elsewhere, and room", period.name())
+// The search stores no byte outside of the work bytes.
+fn no_bytes_elsewhere(search: Search, period: &Period) -> Result<(), String> {
+    expect(searched(search, period).elsewhere, 0, || {
+        format!("{}: bytes elsewhere", period.name())
+    })
+}
+
+// The search makes no array but that of the sums of a block.
+fn no_other_array(search: Search, period: &Period) -> Result<(), String> {
+    let rooms = searched(search, period).rooms;
+    let other = |(file, size): &&(String, usize)| !file.ends_with(SUMS.0) || *size != SUMS.1;
+    expect(rooms.iter().find(other), None, || {
+        format!("{}: an array", period.name())
     })
 }
 
@@ -332,19 +344,24 @@ fn besides(counts: &Counts) -> String {
 
 // Prints the table, each line of which docs/READING.md has, and after each line what else is stored.
 fn table() -> Outcome {
-    let mut missing = vec![];
+    let mut rows = vec![];
     let lines = lines();
     println!("stores: | Input | p | N | w | Stores | Bound | More in a file | and beside");
     for line in &lines {
         let row = row(line)?;
         let counts = counts(rate_period::rate_period, &line.periods[0]);
         println!("stores: {row} {}", besides(&counts));
-        let reading = include_str!("../docs/READING.md");
-        if !reading.lines().any(|line| line == row) {
-            missing.push(row);
-        }
+        rows.push(row);
     }
-    expect(missing, vec![], || "missing in docs/READING.md".to_string())?;
+    let reading = include_str!("../docs/READING.md").lines();
+    let shown = reading
+        .skip_while(|line| !line.starts_with("| Input | p | N | w |"))
+        .skip(2)
+        .take_while(|line| !line.is_empty());
+    let shown = Vec::from_iter(shown.map(str::to_string));
+    expect(rows, shown, || {
+        "the table of docs/READING.md".to_string()
+    })?;
     Ok(lines.len() as u64)
 }
 
@@ -364,7 +381,8 @@ fn equal_answers() -> Outcome {
 
 // There is no room for terms but the halves, and of a call the search alone stores into them.
 fn search_alone(period: &Period) -> Result<(), String> {
-    no_other_room(search, period)?;
+    no_bytes_elsewhere(search, period)?;
+    no_other_array(search, period)?;
     let called = counts(rate_period::rate_period, period);
     expect(searched(search, period).work == called.work, true, || {
         format!("{}: the call stores as its search does", period.name())
@@ -424,7 +442,13 @@ fn twice_loaded() -> Outcome {
 
 fn kept_elsewhere() -> Outcome {
     let call = keeps_terms_rate_period::rate_period;
-    caught(call, |period| no_other_room(search_and_keep, period))
+    caught(call, |period| no_bytes_elsewhere(search_and_keep, period))?;
+    caught(call, |period| no_other_array(search_and_keep, period))
+}
+
+fn kept_wider() -> Outcome {
+    let call = keeps_wider_rate_period::rate_period;
+    caught(call, |period| no_other_array(search_and_keep_wider, period))
 }
 
 fn main() {
@@ -438,6 +462,7 @@ fn main() {
             ("files", files),
             ("a copy that loads twice", twice_loaded),
             ("a copy that keeps the terms elsewhere", kept_elsewhere),
+            ("a copy that keeps terms as wider numbers", kept_wider),
         ],
     )
 }

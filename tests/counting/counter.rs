@@ -1,8 +1,10 @@
 // What the counting copy calls at each store (tests/counting/copy): the stores of one call, by the addresses that they go
 // to. A store of a single term is one of a byte of the lent work bytes.
 use std::cell::RefCell;
+use std::collections::BTreeSet;
 use std::mem::size_of;
 use std::ops::Range;
+use std::panic::Location;
 
 #[derive(Clone, Default)]
 pub struct Counts {
@@ -14,8 +16,8 @@ pub struct Counts {
     pub elsewhere: usize,
     // of wider numbers: sums of products, powers
     pub wider: usize,
-    // the bytes of the largest array that was made
-    pub room: usize,
+    // the arrays that were made: the file of the place, and the bytes
+    pub rooms: BTreeSet<(String, usize)>,
 }
 
 #[derive(Default)]
@@ -52,11 +54,11 @@ pub fn stored<T: Copy>(place: &T) {
     })
 }
 
-// An array was made.
+// An array was made, at the place that calls this.
+#[track_caller]
 pub fn room<T, const N: usize>(array: [T; N]) -> [T; N] {
-    COUNTING.with_borrow_mut(|counting| {
-        counting.counts.room = counting.counts.room.max(size_of::<[T; N]>());
-    });
+    let file = Location::caller().file().to_string();
+    COUNTING.with_borrow_mut(|counting| counting.counts.rooms.insert((file, size_of::<[T; N]>())));
     array
 }
 

@@ -137,7 +137,8 @@ module _ {F : Field} (I : IsField F) where
     lead-kept l h =
         poly-append I (kept F c s f g) (1 ∷ [])
         ∙ ap₂ (λ u n. u ⊞ x^ n ⊠ poly I (1 ∷ [])) (poly-kept l h) (length-kept F c s f g l)
-        ∙ add-right-comm (polyRing I) (poly I f) (x^ s ⊠ (scalar ⊠ poly I g)) (x^ (length f) ⊠ poly I (1 ∷ []))
+        ∙ add-right-comm (polyRing I) (poly I f) (x^ s ⊠ (scalar ⊠ poly I g))
+        (x^ (length f) ⊠ poly I (1 ∷ []))
         ∙ ap (λ u. u ⊞ x^ s ⊠ (scalar ⊠ poly I g)) (sym (poly-append I f (1 ∷ [])))
 
     lead-changed :

@@ -1,7 +1,8 @@
 -- The first of the polynomials that fit, from what the Berlekamp-Massey model knows after all terms.
 --
 -- With f of degree L after m terms and g, the earlier one, of degree e: two that fit differ at a place from e
--- to e + 2L − m − 1 (`fits-window` of `algebra`), and multiples of g make f 0 there, from the highest place down.
+-- to e + 2L − m − 1 (`fits-window` of `algebra`), and multiples of g make f 0 there, from the highest place
+-- down.
 --
 --   reduceAt F g s f   == f − a·x^s·g for the coefficient a of f at place e + s, with as many numbers as f
 --   reduced F g w f    == this for s from w − 1 down to 0

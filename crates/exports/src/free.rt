@@ -3,7 +3,8 @@ use meaning::FreeRating;
 use refusals::numbering::refusal_number;
 ghost use Rattle.meaning.specs.Exports.{FreeExported};
 
-// Rates known terms with no factor named: leaves the degree, and 1 for the word `one` or 0 for `some`.
+// Rates known terms with no factor named: leaves the degree, and 1 for the word `one` or 0 for `some`. In the
+// answer stands the first polynomial of that degree that fits, compared from the highest coefficient down.
 #[no_mangle]
 pub extern "C" fn rater_rate_free(
     p: u64,

@@ -12,8 +12,8 @@ use lib.Dec.{T}
 use Rattle.meaning.specs.Field.{Field}
 use Rattle.meaning.specs.Polynomial.{Polynomial, degree}
 use Rattle.arith.specs.Inverse.{inverse}
-use Rattle.poly.specs.division.Division.{LeadingDivisible, Divided}
+use Rattle.poly.specs.division.Division.{Divisible, Divided}
 
 pub record Remaindered (b : Bool) (F : Field) (g : Polynomial) (f f′ : List ℕ) : Type 0 where
-  pub divided : T b → LeadingDivisible F f g → Divided F (inverse F (getD g (degree g) 0)) g f f′
-  pub kept : (T b → LeadingDivisible F f g → ⊥) → f′ ≡ f
+  pub divided : T b → Divisible F f g → Divided F (inverse F (getD g (degree g) 0)) g f f′
+  pub kept : (T b → Divisible F f g → ⊥) → f′ ≡ f

@@ -24,7 +24,7 @@ use Rattle.bridge.proofs.IrreducibleTests.{CommonDegree, common-nothing, common
 use Rattle.arith.specs.Represented.{fieldOf, WellFormed}
 use Rattle.arith.specs.declared.field.GaloisField.{GaloisField}
 use Rattle.arith.proofs.Represented.{field-isField}
-use Rattle.poly.specs.division.Division.{LeadingDivisible, Divided}
+use Rattle.poly.specs.division.Division.{Divisible, Divided}
 use Rattle.poly.specs.common_divisor.Common.{Trimmed, Euclidean, Turned, Common}
 use Rattle.poly.proofs.division.Dividing.{divided-congruent}
 
@@ -38,7 +38,7 @@ module _ {F : Field} (I : IsField F) {a b : Polynomial} (E : Euclidean F a b) wh
   degree-b : degree b ≡ e
   degree-b = length-degree b (omega (arith, some))
 
-  pub euclid-divisible : LeadingDivisible F a b
+  pub euclid-divisible : Divisible F a b
   euclid-divisible = record { divisor = E .divisor; nonzero = E .nonzero; elements = E .dividend }
 
   module _ {c : ℕ} {a′ : List ℕ} (d : Divided F c b a a′) where

@@ -1,10 +1,8 @@
 -- Division by a polynomial whose leading coefficient is not 0, one coefficient of the quotient after the
 -- other.
 --
---   monic-divisible  == a monic divisor has such a leading coefficient
 --   Digit F c g a    == c·a times the leading coefficient of g is a: c·a is the coefficient of the quotient
---                       where a stands; `monic-digit`: c is 1 where g is monic; `inverse-digit`: the inverse
---                       of the leading coefficient
+--                       where a stands; `inverse-digit`: c is the inverse of the leading coefficient
 --   Dividing F c g f w i == what the loop keeps: w below i, and g times c times what stands in w from i on,
 --                       as many places lower as the degree of g, add up to f
 --   dividing-start, dividing-next, dividing-end == at the start, one coefficient more, at the end
@@ -33,8 +31,7 @@ use Rattle.bridge.proofs.Interpretation.{number-mul-assoc}
 use Rattle.bridge.proofs.Interpretation.{add-below, size-positive}
 use Rattle.bridge.proofs.Polynomials.{getD-below, getD-elements, elements-cons}
 use Rattle.bridge.proofs.Polynomials.{scale-elements, times-elements, length-plus, length-scale, length-times}
-use Rattle.bridge.proofs.Polynomials.{monic-last, leading-getD, leading-nonempty, degree-length}
-use Rattle.bridge.proofs.Multiples.{monic-leads}
+use Rattle.bridge.proofs.Polynomials.{leading-getD, leading-nonempty, degree-length}
 use Rattle.bridge.proofs.Coefficients.{getD-sum, getD-multiple, getD-zeros}
 use Rattle.bridge.proofs.Continuations.{take-elements}
 use Rattle.bridge.proofs.Remainders.{Congruent, congruent-sum}
@@ -42,7 +39,7 @@ use Rattle.arith.specs.Slices.{combined}
 use Rattle.arith.proofs.Slices.{length-combined, getD-combined, getD-paste-inside, getD-paste-before}
 use Rattle.arith.proofs.Slices.{getD-paste-after}
 use Rattle.lent.proofs.Parts.{put-paste}
-use Rattle.poly.specs.division.Division.{Divisible, LeadingDivisible, Divided}
+use Rattle.poly.specs.division.Division.{Divisible, Divided}
 use Rattle.arith.specs.Inverse.{inverse}
 use Rattle.arith.proofs.Inverse.{inverse-product}
 
@@ -104,19 +101,7 @@ pub record Reduced (F : Field) (g : Polynomial) (q : ℕ) (w : List ℕ) (i : �
       ≡ (F .add) (getD w j 0) ((F .mul) (negative F q) (getD g (j - (i - degree g)) 0))
   pub after : (j : ℕ) → i ≤ j → getD w′ j 0 ≡ getD w j 0
 
-pub monic-divisible : {F : Field} {f g : List ℕ} → Divisible F f g → LeadingDivisible F f g
-monic-divisible {F} {g = g} d =
-    let x = monic-leads F g (d .monic) in
-    record { divisor = x .elements; nonzero = x .nonzero; elements = d .elements }
-
-pub monic-digit : {F : Field} (I : IsField F) {f g : List ℕ} → Divisible F f g → (a : ℕ) → a < F .size
-    → Digit F 1 g a
-monic-digit {F} I {g = g} d a l =
-    ap₂ (F .mul) (number-one-mul I l) (monic-last F g (d .monic))
-    ∙ number-mul-comm I a 1
-    ∙ number-one-mul I l
-
-pub inverse-digit : {F : Field} (I : IsField F) {f g : List ℕ} → LeadingDivisible F f g → (a : ℕ)
+pub inverse-digit : {F : Field} (I : IsField F) {f g : List ℕ} → Divisible F f g → (a : ℕ)
     → a < F .size
     → Digit F (inverse F (getD g (degree g) 0)) g a
 inverse-digit {F} I {g = g} d a l =
@@ -129,7 +114,7 @@ inverse-digit {F} I {g = g} d a l =
     ∙ ap (λ z. (F .mul) z a) e
     ∙ number-one-mul I l
 
-module _ {F : Field} (I : IsField F) {g : Polynomial} {f : List ℕ} (d : LeadingDivisible F f g) where
+module _ {F : Field} (I : IsField F) {g : Polynomial} {f : List ℕ} (d : Divisible F f g) where
   some : 0 < length g
   some = leading-nonempty g (d .nonzero)
 

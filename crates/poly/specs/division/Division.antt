@@ -1,7 +1,6 @@
 -- What the contracts of the division cite.
 --
---   Divisible F f g   == f is a polynomial over F, and g is monic over F
---   LeadingDivisible F f g == both are polynomials over F, and the leading coefficient of g is not 0
+--   Divisible F f g   == both are polynomials over F, and the leading coefficient of g is not 0
 --   Divided F c g f f′ == f′ has the remainder of f by g in its first places, as many as the degree of g, and
 --                        c times what stands after them is the quotient: f is the product of quotient and g,
 --                        plus the remainder
@@ -12,13 +11,9 @@ use Prim.Native.Nat.{ℕ}
 use lib.ListN.{length, take, drop}
 use lib.Dec.{T}
 use Rattle.meaning.specs.Field.{Field, areElements}
-use Rattle.meaning.specs.Polynomial.{Polynomial, degree, leading, isMonicOver, plus, scale, times}
+use Rattle.meaning.specs.Polynomial.{Polynomial, degree, leading, plus, scale, times}
 
 pub record Divisible (F : Field) (f : List ℕ) (g : Polynomial) : Type 0 where
-  pub monic : T (isMonicOver F g)
-  pub elements : T (areElements F f)
-
-pub record LeadingDivisible (F : Field) (f : List ℕ) (g : Polynomial) : Type 0 where
   pub divisor : T (areElements F g)
   pub nonzero : leading g ≢ 0
   pub elements : T (areElements F f)
