@@ -191,6 +191,13 @@ def shown(file):
     return "".join(line + "\n" for line in lines)
 
 
+def payload(file):
+    """p, the mode and the terms of an accepted file."""
+    records, _ = split(file)
+    first = {kind: body for kind, body in reversed(records)}
+    return first[2][0], first[3][0], b"".join(body for kind, body in records if kind in (5, 6))
+
+
 # Bytes
 
 

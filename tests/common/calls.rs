@@ -88,6 +88,15 @@ mod exported {
             profile: *mut u8,
             size: usize,
         ) -> u64;
+        pub fn rater_catalogue_entry(i: usize) -> u64;
+        pub fn rater_find_entry(
+            terms: *const u8,
+            count: usize,
+            work: *mut u8,
+            work_size: usize,
+            entry: *mut u64,
+            power: *mut u64,
+        ) -> u64;
     }
 }
 
@@ -149,6 +158,33 @@ pub fn profile(p: u64, terms: &[u8], profile: &mut [u8]) -> Answer<()> {
             profile.len(),
         )
     })
+}
+
+// Entry i of the catalogue.
+pub fn catalogue_entry(i: usize) -> u64 {
+    unsafe { exported::rater_catalogue_entry(i) }
+}
+
+// The entry and the power that the search of the catalogue finds. The lent numbers hold marks beforehand, which a
+// refusal has to leave.
+pub fn find_entry(terms: &[u8], work: &mut [u8]) -> Answer<(u64, u64)> {
+    const MARKS: (u64, u64) = (0xa5c3_96e1_87d2_b4f0, 0x1f2e_3d4c_5b6a_7988);
+    let (mut entry, mut power) = MARKS;
+    let status = unsafe {
+        exported::rater_find_entry(
+            terms.as_ptr(),
+            terms.len(),
+            work.as_mut_ptr(),
+            work.len(),
+            &mut entry,
+            &mut power,
+        )
+    };
+    match answer(status) {
+        Ok(()) => Ok((entry, power)),
+        Err(n) if (entry, power) == MARKS => Err(n),
+        Err(n) => panic!("refused by {n} with the lent numbers {entry} and {power}"),
+    }
 }
 
 // What a rating call tells: its status, 0 or the number of the refusal, and the numbers that were lent to it. They

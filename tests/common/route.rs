@@ -138,6 +138,22 @@ pub struct Contents {
     pub terms: Vec<u8>,
 }
 
+// A file that holds this: the terms in blocks, and those left over one by one.
+pub fn file_with(c: &Contents) -> Vec<u8> {
+    let mut records = vec![
+        Record::of(1, &[0, 0, 0, 7]),
+        Record::of(2, &[c.p]),
+        Record::of(3, &[c.mode]),
+    ];
+    records.extend(c.factors.iter().map(|f| Record::of(4, &f.body())));
+    let blocks = c.terms.chunks_exact(64);
+    let singles = blocks.remainder();
+    records.extend(blocks.map(|block| Record::of(5, block)));
+    records.extend(singles.iter().map(|&term| Record::of(6, &[term])));
+    records.push(Record::of(8, &[]));
+    file_of(&records)
+}
+
 // What a file holds, or the refusal by 1 to 5.
 pub fn contents(file: &[u8]) -> Result<Contents, u64> {
     let records = walk(file)?;

@@ -34,3 +34,5 @@ pub mod Records
 pub mod WrittenFactors
 pub mod FileRatings
 pub mod Bytes
+pub mod Catalogue
+pub mod CatalogueTable

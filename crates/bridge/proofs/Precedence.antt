@@ -25,7 +25,7 @@ use Rattle.meaning.specs.Search.{range, firstThat}
 use Rattle.meaning.specs.Field.{Field}
 use Rattle.meaning.specs.Polynomial.{Polynomial, eachHead, monics}
 use Rattle.meaning.specs.Free.{Precedes}
-use Rattle.bridge.proofs.Searches.{T-true, T-false, T-decided, member-range}
+use Rattle.bridge.proofs.Searches.{T-decided, member-range, first-nil, first-passes, first-fails}
 
 pub precedes-not : {f g : Polynomial} → Precedes f g → Precedes g f → ⊥
 precedes-not {f} {g} x y = go (decLt (x .place) (y .place)) (decLt (y .place) (x .place))
@@ -129,18 +129,6 @@ pub record FirstPassing (t : Polynomial → Bool) (l : List Polynomial) (a : Pol
   pub first : (b : Polynomial) → List·Memᴰ b l → T (t b) → (b ≡ a) ⊎ Precedes a b
 
 module _ (t : Polynomial → Bool) where
-  head-passes : (b : Polynomial) (l : List Polynomial) → T (t b) → firstThat t (b ∷ l) ≡ some b
-  unfolding firstThat
-  head-passes b l h = rw (T-true {b = t b} h, firstThat)
-
-  head-fails : (b : Polynomial) (l : List Polynomial) → ¬ T (t b) → firstThat t (b ∷ l) ≡ firstThat t l
-  unfolding firstThat
-  head-fails b l h = rw (T-false {b = t b} h, firstThat)
-
-  firstThat-nil : {a : Polynomial} → firstThat t [] ≡ some a → ⊥
-  unfolding firstThat
-  firstThat-nil e = Option·none-ne-some _ e
-
   pub first-found :
       (l : List Polynomial) (a : Polynomial) → Sorted l → FirstPassing t l a → firstThat t l ≡ some a
   unfolding Sorted
@@ -158,17 +146,18 @@ module _ (t : Polynomial → Bool) where
           → Dec (T (t b))
           → firstThat t (b ∷ l) ≡ some a
       go n _ (yes h) =
-          head-passes b l h ∙ ap {B = Option Polynomial} some (at-head n (y .first b (List·Memᴰ·head refl) h))
+          first-passes t b l h
+          ∙ ap {B = Option Polynomial} some (at-head n (y .first b (List·Memᴰ·head refl) h))
       go (List·Memᴰ·head e) _ (no h) = absurd (h (subst (λ c. T (t c)) e (y .passes)))
       go (List·Memᴰ·tail n) rest (no h) =
-          head-fails b l h
+          first-fails t b l h
           ∙ rest
           (record { member = n; passes = y .passes; first = λ c k q. y .first c (List·Memᴰ·tail k) q })
 
   pub found-first :
       (l : List Polynomial) {a : Polynomial} → Sorted l → firstThat t l ≡ some a → FirstPassing t l a
   unfolding Sorted
-  found-first [] x e = absurd (firstThat-nil e)
+  found-first [] x e = absurd (Option·none-ne-some _ (sym (first-nil t) ∙ e))
   found-first (b ∷ l) {a} x e = go (found-first l (x .1)) (T-decided (t b))
     where
       here : T (t b) → b ≡ a → FirstPassing t (b ∷ l) a
@@ -192,8 +181,8 @@ module _ (t : Polynomial → Bool) where
           later c (List·Memᴰ·tail n) q = y .first c n q
 
       go : (firstThat t l ≡ some a → FirstPassing t l a) → Dec (T (t b)) → FirstPassing t (b ∷ l) a
-      go _ (yes h) = here h (Option·some-injective b a (sym (head-passes b l h) ∙ e))
-      go rest (no h) = there h (rest (sym (head-fails b l h) ∙ e))
+      go _ (yes h) = here h (Option·some-injective b a (sym (first-passes t b l h) ∙ e))
+      go rest (no h) = there h (rest (sym (first-fails t b l h) ∙ e))
 
   pub firstThat-some :
       (l : List Polynomial) (a : Polynomial)
@@ -208,6 +197,6 @@ module _ (t : Polynomial → Bool) where
           → (List·Memᴰ a l → T (t a) → (c : Polynomial) × (firstThat t l ≡ some c))
           → Dec (T (t b))
           → (c : Polynomial) × (firstThat t (b ∷ l) ≡ some c)
-      go _ _ (yes h) = (b, head-passes b l h)
+      go _ _ (yes h) = (b, first-passes t b l h)
       go (List·Memᴰ·head e) _ (no h) = absurd (h (subst (λ c. T (t c)) e p))
-      go (List·Memᴰ·tail n) rest (no h) = let (c, q) = rest n p in (c, head-fails b l h ∙ q)
+      go (List·Memᴰ·tail n) rest (no h) = let (c, q) = rest n p in (c, first-fails t b l h ∙ q)

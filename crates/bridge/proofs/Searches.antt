@@ -7,6 +7,12 @@
 --   none-cons, none-uncons == no element passes: neither the first nor one of the others
 --   none-at        == a test that passes on no element fails at each place
 --   all-range, range-all, some-range, range-some == the same for a range, by its bounds; `-first` from 0 on
+--   first-passes, first-fails, first-nil == the first that passes, by the head of the list
+--   first-at, first-later == the same by places: of the list from place i on
+--   selected-same, selected-member, member-selected == the elements of a range that are selected: they depend
+--                     on the values of the test there alone, and are the members that pass
+--   first-selected, none-selected == the first of these that passes another test passes both, and no number
+--                     before it does; where there is none, no number does
 --   least-some     == what `least` finds is the least number that passes, and at most the bound
 --   least-none     == where it finds none, no number up to the bound passes
 --   least-found, least-missing == the converses
@@ -27,11 +33,14 @@ use mathlib.Core.Bool.{Bool, true, false, not, _&&_, _||_}
 use mathlib.Core.List.{List, [], _∷_, map, List·Memᴰ, List·Memᴰ·head, List·Memᴰ·tail}
 use mathlib.Core.List.{List·Nodup, Pairwise·nil, Pairwise·cons}
 use mathlib.Core.Option.{Option, none, some, Option·some-injective, Option·none-ne-some, Option·some-ne-none}
-use lib.ListN.{length, getD, length-map, List·getD-map}
+use lib.ListN.{length, getD, drop, length-map, List·getD-map}
+use lib.Seq.{drop-cons}
 use lib.Dec.{T}
 use Rattle.meaning.specs.Search.{range, holdsForAll, holdsForSome, least, mapOption, bind, isNone, together}
+use Rattle.meaning.specs.Search.{firstThat, selected}
 use Rattle.meaning.specs.Result.{Check, Result, refused, answered, firstOf, settle, valueOf, mapResult}
-use Rattle.meaning.proofs.Tables.{firstOf-skip, firstOf-stop, settle-none, least-zero}
+use Rattle.meaning.proofs.Tables.{firstOf-skip, firstOf-stop, settle-none, least-zero, firstThat-here}
+use Rattle.meaning.proofs.Tables.{selected-here}
 use Rattle.meaning.proofs.Passes.{Passes, firstOf-passes, firstOf-decides, holds, before}
 use Rattle.algebra.proofs.Number.{Least}
 
@@ -254,6 +263,163 @@ module _ (t : ℕ → Bool) where
 
   pub first-all : (n : ℕ) → ((i : ℕ) → i < n → T (t i)) → T (holdsForAll t (range 0 n))
   first-all n h = range-all 0 n (λ i _ m. h i (omega arith))
+
+-- The first that passes
+module _ {A : Type 0} (t : A → Bool) where
+  pub first-nil : firstThat t [] ≡ none
+  unfolding firstThat
+  first-nil = refl
+
+  pub first-passes : (a : A) (l : List A) → T (t a) → firstThat t (a ∷ l) ≡ some a
+  first-passes a l h = firstThat-here t a l (T-true h)
+
+  pub first-fails : (a : A) (l : List A) → ¬ T (t a) → firstThat t (a ∷ l) ≡ firstThat t l
+  unfolding firstThat
+  first-fails a l h = rw (T-false {b = t a} h, firstThat)
+
+  module _ (l : List A) (i : ℕ) (d : A) (k : i < length l) where
+    pub first-at : T (t (getD l i d)) → firstThat t (drop i l) ≡ some (getD l i d)
+    first-at h = ap (firstThat t) (drop-cons l i d k) ∙ first-passes (getD l i d) (drop (suc i) l) h
+
+    pub first-later : ¬ T (t (getD l i d)) → firstThat t (drop i l) ≡ firstThat t (drop (suc i) l)
+    first-later h = ap (firstThat t) (drop-cons l i d k) ∙ first-fails (getD l i d) (drop (suc i) l) h
+
+-- The elements that pass
+selected-there : {A : Type 0} (t : A → Bool) (a : A) (l : List A) → ¬ T (t a)
+    → selected t (a ∷ l) ≡ selected t l
+unfolding selected
+selected-there t a l h = rw (T-false {b = t a} h, selected)
+
+pub selected-same :
+    (t u : ℕ → Bool) (a n : ℕ)
+    → ((i : ℕ) → a ≤ i → i < a + n → t i ≡ u i)
+    → selected t (range a n) ≡ selected u (range a n)
+unfolding selected range
+selected-same t u a zero h = refl
+selected-same t u a (suc n) h =
+    go (selected-same t u (suc a) n (λ i l k. h i (omega arith) (omega arith))) (T-decided (u a))
+  where
+    same : t a ≡ u a
+    same = h a (omega arith) (omega arith)
+
+    go :
+        selected t (range (suc a) n) ≡ selected u (range (suc a) n)
+        → Dec (T (u a))
+        → selected t (a ∷ range (suc a) n) ≡ selected u (a ∷ range (suc a) n)
+    go rest (yes y) =
+        selected-here t a (range (suc a) n) (same ∙ T-true y)
+        ∙ ap (_∷_ a) rest
+        ∙ sym (selected-here u a (range (suc a) n) (T-true y))
+    go rest (no y) =
+        selected-there t a (range (suc a) n) (λ z. y (subst T same z))
+        ∙ rest
+        ∙ sym (selected-there u a (range (suc a) n) y)
+
+pub selected-member :
+    {A : Type 0} (t : A → Bool) (l : List A) {a : A} → List·Memᴰ a (selected t l) → List·Memᴰ a l × T (t a)
+unfolding selected
+selected-member t (b ∷ l) {a} m = go (selected-member t l) (T-decided (t b))
+  where
+    here : T (t b) → List·Memᴰ a (b ∷ selected t l) → (List·Memᴰ a (selected t l) → List·Memᴰ a l × T (t a))
+        → List·Memᴰ a (b ∷ l) × T (t a)
+    here h (List·Memᴰ·head e) rest = (List·Memᴰ·head e, subst (λ c. T (t c)) (sym e) h)
+    here h (List·Memᴰ·tail k) rest = let (x, y) = rest k in (List·Memᴰ·tail x, y)
+
+    go : (List·Memᴰ a (selected t l) → List·Memᴰ a l × T (t a)) → Dec (T (t b))
+        → List·Memᴰ a (b ∷ l) × T (t a)
+    go rest (yes h) = here h (subst (List·Memᴰ a) (selected-here t b l (T-true h)) m) rest
+    go rest (no h) =
+        let (x, y) = rest (subst (List·Memᴰ a) (selected-there t b l h) m) in (List·Memᴰ·tail x, y)
+
+pub member-selected :
+    {A : Type 0} (t : A → Bool) (l : List A) {a : A} → List·Memᴰ a l → T (t a) → List·Memᴰ a (selected t l)
+member-selected t (b ∷ l) {a} m h = go m (member-selected t l) (T-decided (t b))
+  where
+    go : List·Memᴰ a (b ∷ l) → (List·Memᴰ a l → T (t a) → List·Memᴰ a (selected t l)) → Dec (T (t b))
+        → List·Memᴰ a (selected t (b ∷ l))
+    go (List·Memᴰ·head e) rest (yes y) =
+        subst (List·Memᴰ a) (sym (selected-here t b l (T-true y))) (List·Memᴰ·head e)
+    go (List·Memᴰ·tail k) rest (yes y) =
+        subst (List·Memᴰ a) (sym (selected-here t b l (T-true y))) (List·Memᴰ·tail (rest k h))
+    go (List·Memᴰ·head e) rest (no y) = absurd (y (subst (λ c. T (t c)) e h))
+    go (List·Memᴰ·tail k) rest (no y) = subst (List·Memᴰ a) (sym (selected-there t b l y)) (rest k h)
+
+pub none-selected :
+    (t u : ℕ → Bool) (a n : ℕ)
+    → firstThat t (selected u (range a n)) ≡ none
+    → (k : ℕ)
+    → a ≤ k
+    → k < a + n
+    → T (u k)
+    → ¬ T (t k)
+none-selected t u a n e k l m h p =
+    let member = member-selected u (range a n) (range-member a n l m) h in
+    first-none (selected u (range a n)) e member
+  where
+    first-none : (c : List ℕ) → firstThat t c ≡ none → List·Memᴰ k c → ⊥
+    first-none (b ∷ c) e (List·Memᴰ·head q) =
+        Option·some-ne-none b (sym (first-passes t b c (subst (λ i. T (t i)) q p)) ∙ e)
+    first-none (b ∷ c) e (List·Memᴰ·tail i) = go (first-none c) (T-decided (t b))
+      where
+        go : (firstThat t c ≡ none → List·Memᴰ k c → ⊥) → Dec (T (t b)) → ⊥
+        go rest (yes y) = Option·some-ne-none b (sym (first-passes t b c y) ∙ e)
+        go rest (no y) = rest (sym (first-fails t b c y) ∙ e) i
+
+pub record FirstSelected (t u : ℕ → Bool) (a n m : ℕ) : Type 0 where
+  pub atLeast : a ≤ m
+  pub less : m < a + n
+  pub chosen : T (u m)
+  pub passes : T (t m)
+  pub first : (k : ℕ) → a ≤ k → k < m → T (u k) → ¬ T (t k)
+
+pub first-selected :
+    (t u : ℕ → Bool) (a n : ℕ) {m : ℕ}
+    → firstThat t (selected u (range a n)) ≡ some m
+    → FirstSelected t u a n m
+unfolding selected range
+first-selected t u a zero e = absurd (Option·none-ne-some _ (sym (first-nil t) ∙ e))
+first-selected t u a (suc n) {m} e = go (first-selected t u (suc a) n) (T-decided (u a)) (T-decided (t a))
+  where
+    rest : List ℕ
+    rest = selected u (range (suc a) n)
+
+    later : FirstSelected t u (suc a) n m → (T (u a) → ¬ T (t a)) → FirstSelected t u a (suc n) m
+    later x h =
+        record {
+          atLeast = omega (arith, x .atLeast);
+          less = omega (arith, x .less);
+          chosen = x .chosen;
+          passes = x .passes;
+          first = λ k l j y. elim (eq-or-lt-of-le l) [
+            | inl q ↦ subst (λ i. ¬ T (t i)) q (h (subst (λ i. T (u i)) (sym q) y))
+            | inr q ↦ x .first k q j y
+          ];
+        }
+
+    go : (firstThat t rest ≡ some m → FirstSelected t u (suc a) n m) → Dec (T (u a)) → Dec (T (t a))
+        → FirstSelected t u a (suc n) m
+    go step (no h) d =
+        later (step (ap (firstThat t) (sym (selected-there u a (range (suc a) n) h)) ∙ e)) (λ y. absurd (h y))
+    go step (yes h) (no y) =
+        later
+        (step
+        (sym (first-fails t a rest y)
+        ∙ ap (firstThat t) (sym (selected-here u a (range (suc a) n) (T-true h)))
+        ∙ e))
+        (λ _. y)
+    go step (yes h) (yes y) =
+        let same : a ≡ m =
+        Option·some-injective a m
+        (sym (first-passes t a rest y)
+        ∙ ap (firstThat t) (sym (selected-here u a (range (suc a) n) (T-true h)))
+        ∙ e) in
+        record {
+          atLeast = omega arith;
+          less = omega arith;
+          chosen = subst (λ i. T (u i)) same h;
+          passes = subst (λ i. T (t i)) same y;
+          first = λ k l j _. absurd (omega arith);
+        }
 
 -- Options
 pub none-isNone : {A : Type 0} {o : Option A} → o ≡ none → T (isNone o)

@@ -2,7 +2,7 @@
 -- computed`. Each other name opens one file, or a part of it.
 -- Assumes nothing.
 use Rattle.meaning.specs.Search.{range, holdsForAll, holdsForSome, firstThat, mapOption, bind, isNone}
-use Rattle.meaning.specs.Search.{least, together}
+use Rattle.meaning.specs.Search.{least, together, selected}
 use Rattle.meaning.specs.Field.{prime, isPrime, largestPrime, primeInRange, isElement, areElements}
 use Rattle.meaning.specs.Field.{multiple, negative}
 use Rattle.meaning.specs.Polynomial.{degree, leading, isMonic, isMonicOver, plus, scale, times, power}
@@ -11,7 +11,7 @@ use Rattle.meaning.specs.Polynomial.{irreducible}
 use Rattle.meaning.specs.Sequence.{actAt, known, periodic, annihilatesKnown, annihilatesPeriod}
 use Rattle.meaning.specs.Sequence.{actOnKnown, actOnPeriod, cut, next, continuation}
 use Rattle.meaning.specs.Result.{mapResult, firstOf, valueOf, settle, figuresOf, written, cleared}
-use Rattle.meaning.specs.Result.{answerAfter, workAfter}
+use Rattle.meaning.specs.Result.{answerAfter, clearing, clears, workAfter}
 use Rattle.meaning.specs.Conditions.{named, totalDegree, notPrime, countOutOfRange, placeOutOfRange}
 use Rattle.meaning.specs.Conditions.{termOutOfField, factorCountOutOfRange, degreeOutOfRange}
 use Rattle.meaning.specs.Conditions.{factorDegreeOutOfRange, continuationDegreeOutOfRange}
@@ -28,6 +28,8 @@ use Rattle.meaning.specs.Free.{fitsDegree, leastDegree, isUnique, freePo
 use Rattle.meaning.specs.Free.{rateFree}
 use Rattle.meaning.specs.Meter.{freeFigures, startMeter, meterFull, termTable, takeTerm, meterReading}
 use Rattle.meaning.specs.Meter.{unlessRefused, profileEntry, readingEntry, profileOf}
+use Rattle.meaning.specs.Catalogue.{bitsUpTo, entryPolynomial, catalogue, entryPower, entryFigures}
+use Rattle.meaning.specs.Catalogue.{firstEntry, entryTable, findEntry}
 use Rattle.meaning.specs.Continuation.{continueTable, filled, continueSequence}
 use Rattle.meaning.specs.Irreducibility.{irreducibleTable, askIrreducible}
 use Rattle.meaning.specs.Route.{lookUp, bodyLengths, admitted, stopped, before, walk, bodies, appended}
@@ -45,7 +47,7 @@ use Rattle.meaning.specs.Answers.{padded, setPadded, labelPowers, filePa
 use Rattle.meaning.specs.Calls.{bufferAfter, bodyAfter}
 
 unfoldable pub openSearch : Unit {0}
-unfolding range holdsForAll holdsForSome firstThat mapOption bind isNone least together
+unfolding range holdsForAll holdsForSome firstThat mapOption bind isNone least together selected
 openSearch = tt
 
 unfoldable pub openField : Unit {0}
@@ -69,7 +71,8 @@ unfolding continuation
 openSequence-2 = tt
 
 unfoldable pub openResult : Unit {0}
-unfolding mapResult firstOf valueOf settle figuresOf written cleared answerAfter workAfter
+unfolding mapResult firstOf valueOf settle figuresOf written cleared answerAfter clearing clears
+    workAfter
 openResult = tt
 
 unfoldable pub openConditions-1 : Unit {0}
@@ -112,6 +115,10 @@ openMeter = tt
 unfoldable pub openProfile : Unit {0}
 unfolding readingEntry profileOf
 openProfile = tt
+
+unfoldable pub openCatalogue : Unit {0}
+unfolding bitsUpTo entryPolynomial catalogue entryPower entryFigures firstEntry entryTable findEntry
+openCatalogue = tt
 
 unfoldable pub openContinuation : Unit {0}
 unfolding continueTable filled continueSequence
@@ -167,7 +174,7 @@ unfolding openPower openPeriod openPortion-1 openPortion-2 openFree openMeter op
 opened-3 = tt
 
 unfoldable pub opened-4 : Unit {0}
-unfolding openContinuation openIrreducibility openRoute-1 openRoute-2 openFile-1
+unfolding openCatalogue openContinuation openIrreducibility openRoute-1 openRoute-2 openFile-1
 opened-4 = tt
 
 unfoldable pub opened-5 : Unit {0}

@@ -1,7 +1,7 @@
 -- What an answer tells determines it: no two answers tell the same. With the equations of the contracts,
 -- whatever meets a contract is one answer.
 --
---   refusalOf n   == the refusal with the number n, none for a number that is not 1 to 18
+--   refusalOf n   == the refusal with the number n, none for a number that is not 1 to 19
 --   refusal-number, refusal-found == the numbers of the list are those of the refusals
 --   …-determined  == two answers that tell the same are the same
 --   period-call-determined and its like == two runs of a call on the same input agree in the answer and in
@@ -23,6 +23,7 @@ use Rattle.meaning.specs.declared.FreeRating.{FreeRating}
 use Rattle.meaning.specs.declared.Meter.{Meter}
 use Rattle.meaning.specs.declared.MeterStart.{MeterStart}
 use Rattle.meaning.specs.declared.MeterStep.{MeterStep}
+use Rattle.meaning.specs.declared.EntryRating.{EntryRating}
 use Rattle.meaning.specs.declared.Filling.{Filling}
 use Rattle.meaning.specs.declared.FileOutcome.{FileOutcome}
 use Rattle.meaning.specs.declared.FileRating.{FileRating}
@@ -34,17 +35,20 @@ use Rattle.meaning.specs.declared.Refusal.the-variants.{DegreeOutOfRange
 use Rattle.meaning.specs.declared.Refusal.the-variants.{Reducible}
 use Rattle.meaning.specs.declared.Refusal.the-variants.{EqualFactors, UpperPowers, TooFewTerms}
 use Rattle.meaning.specs.declared.Refusal.the-variants.{LentTooShort, NotAnnihilated, MeterFull}
+use Rattle.meaning.specs.declared.Refusal.the-variants.{NoEntry}
 use Rattle.meaning.specs.Search.{mapOption, holdsForAll}
 use Rattle.meaning.specs.Route.{lookUp}
 use Rattle.meaning.specs.Result.{Result, refused, answered, Rated}
 use Rattle.meaning.specs.Power.{PowerFigures}
 use Rattle.meaning.specs.Free.{FreeFigures}
 use Rattle.meaning.specs.Meter.{MeterModel, Holding}
+use Rattle.meaning.specs.Catalogue.{EntryFigures}
 use Rattle.meaning.specs.Calls.{LentAfter, IrreducibleCall, PeriodCall, PortionCall, SetCall}
 use Rattle.meaning.specs.Calls.{FreeCall, StartCall, TermCall, ReadingCall, ContinueCall, FileCall}
+use Rattle.meaning.specs.Calls.{EntryCall, CatalogueCall}
 use Rattle.meaning.specs.Calls.{RecordCall}
 use Rattle.meaning.specs.Answers.{numberOf, toldIrreducible, toldFilling, toldPower, toldFree, SetTold}
-use Rattle.meaning.specs.Answers.{toldStart, toldSet}
+use Rattle.meaning.specs.Answers.{toldStart, toldEntry, toldSet}
 use Rattle.meaning.specs.Answers.{FileTold, withPowers, withOne, withSome, toldFile, toldRecord}
 
 unfoldable pub refusals : List (ℕ × Refusal)
@@ -67,6 +71,7 @@ refusals =
     ∷ (16, LentTooShort)
     ∷ (17, NotAnnihilated)
     ∷ (18, MeterFull)
+    ∷ (19, NoEntry)
     ∷ []
 
 unfoldable pub refusalOf : ℕ → Option Refusal
@@ -92,6 +97,7 @@ refusal-number TooFewTerms = refl
 refusal-number LentTooShort = refl
 refusal-number NotAnnihilated = refl
 refusal-number MeterFull = refl
+refusal-number NoEntry = refl
 
 some-same : {A : Type 0} (a b : A) → some a ≡ some b → a ≡ b
 some-same a b e = cc
@@ -323,6 +329,28 @@ pub reading-call-determined :
     → r ≡ s
 reading-call-determined {p = p} {ts = ts} {terms = terms} {work = work} {r = r} {s = s} h c d =
     free-determined r s (c .reading p ts terms work h ∙ sym (d .reading p ts terms work h))
+
+entry : Result EntryFigures → Option EntryRating
+entry (refused n) = refusing EntryRating.Refused n
+entry (answered a) = some (EntryRating.Found (a .entry) (a .power))
+
+entry-told : (r : EntryRating) → entry (toldEntry r) ≡ some r
+unfolding entry toldEntry
+entry-told (EntryRating.Found n r) = refl
+entry-told (EntryRating.Refused r) = refusing-number EntryRating.Refused r
+
+pub entry-call-determined :
+    {ts work w x : List ℕ} {r s : EntryRating}
+    → EntryCall ts work r w
+    → EntryCall ts work s x
+    → (r ≡ s) × (w ≡ x)
+entry-call-determined {r = r} {s = s} c d = (
+  determined toldEntry entry entry-told r s (c .finding ∙ sym (d .finding)),
+  c .workBytes ∙ sym (d .workBytes),
+)
+
+pub catalogue-call-determined : {i r s : ℕ} → CatalogueCall i r → CatalogueCall i s → r ≡ s
+catalogue-call-determined c d = c .answer ∙ sym (d .answer)
 
 pub continue-call-determined :
     {p : ℕ} {g start buffer : List ℕ} {place : ℕ} {b c : List ℕ} {r s : Filling}

@@ -9,6 +9,7 @@ pub mod Boundaries
 pub mod MultipleRows
 pub mod Orders
 pub mod MeterRows
+pub mod CatalogueRows
 pub mod FirstFits
 pub mod Lines
 pub mod Lent

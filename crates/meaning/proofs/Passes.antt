@@ -43,6 +43,7 @@ pub record Passes (table : List Check) : Type 0 where
   pub lentEnough : holds 16 table ≡ false
   pub annihilated : holds 17 table ≡ false
   pub meterOpen : holds 18 table ≡ false
+  pub entryFound : holds 19 table ≡ false
 
 firstOf-holds : (n : ℕ) (table : List Check) → firstOf table ≡ none → holds n table ≡ false
 firstOf-holds n [] h = refl
@@ -71,6 +72,7 @@ firstOf-passes table h =
       lentEnough = firstOf-holds 16 table h;
       annihilated = firstOf-holds 17 table h;
       meterOpen = firstOf-holds 18 table h;
+      entryFound = firstOf-holds 19 table h;
     }
 
 infixr 20 _&_

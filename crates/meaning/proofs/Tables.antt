@@ -1,13 +1,15 @@
 -- Laws of searches and tables: what a test that passes or fails makes of them.
 -- Assumes nothing.
-use Prim.Native.Nat.{ℕ, zero, suc}
+use Prim.Native.Nat.{ℕ, zero, suc, _≤_}
 use mathlib.Core.Path.{_≡_, refl, sym, _∙_}
 use mathlib.Core.Bool.{Bool, true, false, true≢false}
 use mathlib.Core.List.{List, [], _∷_}
 use mathlib.Core.Option.{Option, none, some}
-use lib.Dec.{T}
-use Rattle.meaning.specs.Search.{least, holdsForAll, holdsForSome, isNone}
-use Rattle.meaning.specs.Result.{Check, firstOf, settle, valueOf}
+use lib.Dec.{T, eqb}
+use borrow.Author.Tests.{ne-eqb}
+use native.Mathlib.Omega.{arith}
+use Rattle.meaning.specs.Search.{least, holdsForAll, holdsForSome, firstThat, selected, isNone}
+use Rattle.meaning.specs.Result.{Check, firstOf, settle, valueOf, clearing, clears}
 
 -- a condition that does not hold is passed over
 pub firstOf-skip : (c : Check) (table : List Check) → (c .1) tt ≡ false → firstOf (c ∷ table) ≡ firstOf table
@@ -49,3 +51,26 @@ pub least-zero : (b : ℕ) (t : ℕ → Bool) → t 0 ≡ true → least b t ≡
 unfolding least
 least-zero zero t e = rw (e, least)
 least-zero (suc b) t e = rw (e, least)
+
+-- the first element passes
+pub firstThat-here : {A : Type 0} (t : A → Bool) (a : A) (l : List A) → t a ≡ true
+    → firstThat t (a ∷ l) ≡ some a
+unfolding firstThat
+firstThat-here t a l e = rw (e, firstThat)
+
+pub selected-here : {A : Type 0} (t : A → Bool) (a : A) (l : List A) → t a ≡ true
+    → selected t (a ∷ l) ≡ a ∷ selected t l
+unfolding selected
+selected-here t a l e = rw (e, selected)
+
+pub some-skip : {A : Type 0} (t : A → Bool) (a : A) (l : List A) → t a ≡ false
+    → holdsForSome t (a ∷ l) ≡ holdsForSome t l
+unfolding holdsForSome
+some-skip t a l e = rw (e, holdsForSome)
+
+-- 1 to 16 leave the work bytes as they were
+pub keeps-low : (n : ℕ) → n ≤ 16 → clears n ≡ false
+unfolding clears clearing holdsForSome
+keeps-low n l =
+    some-skip (eqb n) 17 (19 ∷ []) (ne-eqb n 17 (λ e. omega arith))
+    ∙ some-skip (eqb n) 19 [] (ne-eqb n 19 (λ e. omega arith))

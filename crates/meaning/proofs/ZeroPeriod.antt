@@ -36,12 +36,12 @@ one-on-zeros : (p n k : ℕ) → actAt (prime p) (1 ∷ []) (periodic (zeros n))
 unfolding actAt periodic prime
 one-on-zeros p n k = rw (zero-at n, zero-mod, zero-mod)
 
-power-zero : (p : ℕ) (f : Polynomial) (n : ℕ) → periodPower (prime p) f (zeros n) ≡ some 0
+pub power-zero : (p : ℕ) (f : Polynomial) (n : ℕ) → periodPower (prime p) f (zeros n) ≡ some 0
 unfolding periodPower annihilatesPeriod power
 power-zero p f n = least-zero _ _ (holdsForAll-every _ (λ k. eq-eqb _ 0 (one-on-zeros p n k)) _)
 
 -- 7 passes
-count-passes : (n : ℕ) → 1 ≤ n → n ≤ 4096 → countOutOfRange (length (zeros n)) ≡ false
+pub count-passes : (n : ℕ) → 1 ≤ n → n ≤ 4096 → countOutOfRange (length (zeros n)) ≡ false
 unfolding countOutOfRange
 count-passes n l h = rw (length-replicate {A = ℕ} n 0, ne-eqb n 0 (omega arith), le-ltb 4096 n h)
 
@@ -51,7 +51,7 @@ unfolding areElements holdsForAll isElement prime
 zeros-elements p zero = refl
 zeros-elements p (suc n) = rw (lt-ltb 0 (suc p) (omega arith), holdsForAll) (zeros-elements p n)
 
-terms-pass : (p n : ℕ) → notPrime p ≡ false → termOutOfField (prime p) (zeros n) ≡ false
+pub terms-pass : (p n : ℕ) → notPrime p ≡ false → termOutOfField (prime p) (zeros n) ≡ false
 unfolding termOutOfField notPrime primeInRange isPrime largestPrime
 terms-pass zero n h = absurd (true≢false h)
 terms-pass (suc p) n h = rw (zeros-elements p n)

@@ -2,8 +2,8 @@
 -- an answer. The contracts and the theorems speak of the answers through these definitions alone.
 --
 --   numberOf r        == the number of the refusal in the list of paper 01
---   toldIrreducible, toldFilling, toldPower, toldFree, toldStart, toldSet, toldFile, toldRecord == the result
---                          that an answer tells; of a start the meter itself
+--   toldIrreducible, toldFilling, toldPower, toldFree, toldStart, toldEntry, toldSet, toldFile, toldRecord ==
+--                          the result that an answer tells; of a start the meter itself
 --   SetTold, FileTold == what the answers of a set and of a file tell beside their eight powers; `count` is
 --                        the number of powers
 --   setFiguresTold, fileFiguresTold == what they should tell of the figures
@@ -22,12 +22,14 @@ use Rattle.meaning.specs.declared.Refusal.the-variants.{DegreeOutOfRange
 use Rattle.meaning.specs.declared.Refusal.the-variants.{Reducible}
 use Rattle.meaning.specs.declared.Refusal.the-variants.{EqualFactors, UpperPowers, TooFewTerms}
 use Rattle.meaning.specs.declared.Refusal.the-variants.{LentTooShort, NotAnnihilated, MeterFull}
+use Rattle.meaning.specs.declared.Refusal.the-variants.{NoEntry}
 use Rattle.meaning.specs.declared.Irreducibility.{Irreducibility}
 use Rattle.meaning.specs.declared.PowerRating.{PowerRating}
 use Rattle.meaning.specs.declared.SetOutcome.{SetOutcome}
 use Rattle.meaning.specs.declared.FreeRating.{FreeRating}
 use Rattle.meaning.specs.declared.Meter.{Meter}
 use Rattle.meaning.specs.declared.MeterStart.{MeterStart}
+use Rattle.meaning.specs.declared.EntryRating.{EntryRating}
 use Rattle.meaning.specs.declared.Filling.{Filling}
 use Rattle.meaning.specs.declared.FileOutcome.{FileOutcome}
 use Rattle.meaning.specs.declared.RecordOutcome.{RecordOutcome}
@@ -35,6 +37,7 @@ use Rattle.meaning.specs.Result.{Result, refused, answered}
 use Rattle.meaning.specs.Power.{PowerFigures}
 use Rattle.meaning.specs.Portion.{SetFigures}
 use Rattle.meaning.specs.Free.{FreeFigures}
+use Rattle.meaning.specs.Catalogue.{EntryFigures}
 use Rattle.meaning.specs.File.{FileFigures, Label, powers, unique, several}
 
 unfoldable pub numberOf : Refusal → ℕ
@@ -56,6 +59,7 @@ numberOf TooFewTerms = 15
 numberOf LentTooShort = 16
 numberOf NotAnnihilated = 17
 numberOf MeterFull = 18
+numberOf NoEntry = 19
 
 unfoldable pub toldIrreducible : Irreducibility → Result Bool
 toldIrreducible Irreducibility.Irreducible = answered true
@@ -78,6 +82,10 @@ toldFree (FreeRating.Refused r) = refused (numberOf r)
 unfoldable pub toldStart : MeterStart → Result Meter
 toldStart (MeterStart.Started m) = answered m
 toldStart (MeterStart.Refused r) = refused (numberOf r)
+
+unfoldable pub toldEntry : EntryRating → Result EntryFigures
+toldEntry (EntryRating.Found n r) = answered (record { entry = n; power = r })
+toldEntry (EntryRating.Refused r) = refused (numberOf r)
 
 pub record SetTold : Type 0 where
   pub degree : ℕ

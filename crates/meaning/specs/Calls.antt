@@ -9,6 +9,7 @@
 --   SetCall             == rate_set            FreeCall        == rate_free
 --   StartCall           == start_meter         TermCall        == take_term (`TermTaken` for terms held)
 --   ReadingCall         == reading
+--   EntryCall           == find_entry          CatalogueCall   == catalogue_entry
 --   ContinueCall        == continue_sequence   FileCall        == rate_file
 --   RecordCall          == record (the route reader)                ProgramCall == what the program prints
 --
@@ -18,7 +19,7 @@ use Prim.Native.Nat.{ℕ}
 use mathlib.Core.Path.{_≡_}
 use mathlib.Core.Bool.{Bool}
 use mathlib.Core.List.{List, [], _∷_, _++_}
-use lib.ListN.{length, set}
+use lib.ListN.{length, getD, set}
 use Rattle.meaning.specs.declared.Irreducibility.{Irreducibility}
 use Rattle.meaning.specs.declared.PowerRating.{PowerRating}
 use Rattle.meaning.specs.declared.SetRating.{SetRating}
@@ -26,6 +27,7 @@ use Rattle.meaning.specs.declared.FreeRating.{FreeRating}
 use Rattle.meaning.specs.declared.Meter.{Meter}
 use Rattle.meaning.specs.declared.MeterStart.{MeterStart}
 use Rattle.meaning.specs.declared.MeterStep.{MeterStep}
+use Rattle.meaning.specs.declared.EntryRating.{EntryRating}
 use Rattle.meaning.specs.declared.Filling.{Filling}
 use Rattle.meaning.specs.declared.FileRating.{FileRating}
 use Rattle.meaning.specs.declared.RecordOutcome.{RecordOutcome}
@@ -37,6 +39,7 @@ use Rattle.meaning.specs.Period.{ratePeriod}
 use Rattle.meaning.specs.Portion.{ratePortion, rateSet}
 use Rattle.meaning.specs.Free.{rateFree}
 use Rattle.meaning.specs.Meter.{startMeter, takeTerm, meterReading, MeterModel, Holding, unlessRefused}
+use Rattle.meaning.specs.Catalogue.{catalogue, findEntry}
 use Rattle.meaning.specs.Continuation.{continueSequence}
 use Rattle.meaning.specs.Irreducibility.{askIrreducible}
 use Rattle.meaning.specs.Route.{RouteRecord, boxOf, readRecord}
@@ -44,7 +47,7 @@ use Rattle.meaning.specs.File.{rateFile}
 use Rattle.meaning.specs.Print.{printed}
 use Rattle.meaning.specs.Answers.{toldIrreducible, toldFilling, toldPower, toldFree, toldStart, toldSet}
 use Rattle.meaning.specs.Answers.{setFiguresTold, toldFile, fileFiguresTold, toldRecord, setPadded}
-use Rattle.meaning.specs.Answers.{filePadded}
+use Rattle.meaning.specs.Answers.{toldEntry, filePadded}
 
 pub record LentAfter {A : Type 0} (result : Result (Rated A)) (answer work answer′ work′ : List ℕ)
     : Type 0 where
@@ -101,6 +104,14 @@ pub record ReadingCall (model : MeterModel) (m : Meter) (r : FreeRating) : Type 
   pub reading : (p : ℕ) (ts terms work : List ℕ)
       → Holding model p ts m terms work
       → toldFree r ≡ meterReading p ts
+
+pub record EntryCall (ts work : List ℕ) (r : EntryRating) (work′ : List ℕ) : Type 0 where
+  pub finding : toldEntry r ≡ findEntry ts (length work)
+  pub workBytes : work′ ≡ workAfter (findEntry ts (length work)) work
+
+-- entry i of the catalogue, from 0 on; 0, which is no entry, beyond the last
+pub record CatalogueCall (i : ℕ) (r : ℕ) : Type 0 where
+  pub answer : r ≡ getD catalogue i 0
 
 -- the buffer afterwards: unchanged by a refusal
 unfoldable pub bufferAfter : Result (List ℕ) → List ℕ → List ℕ

@@ -18,6 +18,7 @@
 --   FreeExported p ts … == `rater_rate_free`: the degree and the number of the word in the two lent numbers
 --   ProfileExported p ts … == `rater_profile`: the entries of the profile at the front of the lent bytes, as
 --                         many as these have room for, and the rest as it was
+--   EntryExported ts … == `rater_find_entry`: the entry and its power in the two lent numbers
 --   Filled r …         == `rater_continue_sequence` with the result r
 --   yesAfter r n       == the lent number n afterwards: 1 for yes, 0 for no, and n as it was where refused
 --   Question r n s n′  == `rater_is_irreducible` with the result r answers the status s, and leaves n′ in the
@@ -27,11 +28,12 @@ use mathlib.Core.Path.{_≡_}
 use mathlib.Core.Bool.{Bool, true, false}
 use mathlib.Core.List.{List, [], _++_}
 use lib.ListN.{length, take, drop}
-use Rattle.meaning.specs.Result.{Result, refused, answered, Rated, figuresOf, written}
+use Rattle.meaning.specs.Result.{Result, refused, answered, Rated, figuresOf, written, workAfter}
 use Rattle.meaning.specs.Power.{PowerFigures}
 use Rattle.meaning.specs.Portion.{SetFigures}
 use Rattle.meaning.specs.Free.{FreeFigures, rateFree}
 use Rattle.meaning.specs.Meter.{startMeter, unlessRefused, profileOf}
+use Rattle.meaning.specs.Catalogue.{EntryFigures, findEntry}
 use Rattle.meaning.specs.Answers.{padded}
 use Rattle.meaning.specs.Calls.{LentAfter, bufferAfter}
 use Rattle.meaning.specs.FlatBytes.{bytesOfAll}
@@ -92,6 +94,17 @@ pub record ProfileExported (p : ℕ) (ts profile : List ℕ) (status : ℕ) (pro
   pub told : status ≡ statusOf (startMeter p)
   pub lent : profile′
       ≡ unlessRefused (startMeter p) profile (written (profileOf p [] (take (length profile / 4) ts)) profile)
+
+-- THE CATALOGUE (entry i is answered as `CatalogueCall` says)
+pub record EntryTold (result : Result EntryFigures) (entry power status entry′ power′ : ℕ) : Type 0 where
+  pub told : status ≡ statusOf result
+  pub entryAfter : entry′ ≡ numberAfter (λ a. a .entry) result entry
+  pub powerAfter : power′ ≡ numberAfter (λ a. a .power) result power
+
+pub record EntryExported (ts work : List ℕ) (entry power status : ℕ) (work′ : List ℕ) (entry′ power′ : ℕ)
+    : Type 0 where
+  pub figures : EntryTold (findEntry ts (length work)) entry power status entry′ power′
+  pub workBytes : work′ ≡ workAfter (findEntry ts (length work)) work
 
 -- THE CONTINUATION
 pub record Filled (result : Result (List ℕ)) (buffer : List ℕ) (status : ℕ) (buffer′ : List ℕ) : Type 0 where

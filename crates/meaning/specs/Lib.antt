@@ -9,6 +9,7 @@ pub mod Period
 pub mod Portion
 pub mod Free
 pub mod Meter
+pub mod Catalogue
 pub mod Continuation
 pub mod Irreducibility
 pub mod Route

@@ -13,13 +13,16 @@
 --   written, cleared  == the lent bytes afterwards: coefficients first and the rest as it was; 8,192 zeros
 --                        and the rest as it was
 --   answerAfter r b   == the answer bytes b after the result r: unchanged by a refusal
---   workAfter r b     == the work bytes b after the result r: unchanged by every refusal but 17
+--   clearing          == the numbers of the refusals that leave the work bytes cleared, as an answer does
+--   clears n          == n is one of them
+--   workAfter r b     == the work bytes b after the result r: unchanged by every refusal but those
 use Prim.Native.Nat.{ℕ}
 use mathlib.Core.Bool.{Bool, true, false}
 use mathlib.Core.List.{List, [], _∷_, _++_}
 use mathlib.Core.Option.{Option, none, some}
 use lib.ListN.{length, drop, replicate}
 use lib.Dec.{eqb}
+use Rattle.meaning.specs.Search.{holdsForSome}
 use Rattle.meaning.specs.Polynomial.{Polynomial}
 
 pub data Result (A : Type 0) : Type 0 where
@@ -61,6 +64,12 @@ unfoldable pub answerAfter : {A : Type 0} → Result (Rated A) → List ℕ → 
 answerAfter (refused n) bytes = bytes
 answerAfter (answered a) bytes = written (a .polynomial) bytes
 
+unfoldable pub clearing : List ℕ
+clearing = 17 ∷ 19 ∷ []
+
+unfoldable pub clears : ℕ → Bool
+clears n = holdsForSome (eqb n) clearing
+
 unfoldable pub workAfter : {A : Type 0} → Result A → List ℕ → List ℕ
-workAfter (refused n) bytes = elim (eqb n 17) [ true ↦ cleared bytes | false ↦ bytes ]
+workAfter (refused n) bytes = elim (clears n) [ true ↦ cleared bytes | false ↦ bytes ]
 workAfter (answered a) bytes = cleared bytes

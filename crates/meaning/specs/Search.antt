@@ -4,6 +4,7 @@
 --   holdsForAll t l  == the test t passes on every element of l; true on the empty list
 --   holdsForSome t l == the test t passes on some element of l; false on the empty list
 --   firstThat t l    == the first element of l that passes the test t, or none
+--   selected t l     == the elements of l that pass the test t, in their order
 --   mapOption f o    == f of the value of o, or none where o has none
 --   isNone o         == o has no value
 --   least b t        == the least number r from 0 to b that passes t, or none; never a bound in place of an
@@ -30,6 +31,10 @@ holdsForSome t (a ∷ l) = elim (t a) [ true ↦ true | false ↦ holdsForSome t
 unfoldable pub firstThat : {A : Type 0} → (A → Bool) → List A → Option A
 firstThat t [] = none
 firstThat t (a ∷ l) = elim (t a) [ true ↦ some a | false ↦ firstThat t l ]
+
+unfoldable pub selected : {A : Type 0} → (A → Bool) → List A → List A
+selected t [] = []
+selected t (a ∷ l) = elim (t a) [ true ↦ a ∷ selected t l | false ↦ selected t l ]
 
 unfoldable pub mapOption : {A B : Type 0} → (A → B) → Option A → Option B
 mapOption f none = none

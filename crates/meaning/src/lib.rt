@@ -1,7 +1,7 @@
 // The answers of the public calls. There is no code here: the contracts and the theorems speak of these types
 // through the definitions of specs/Answers.antt, which give each case the number and the values of paper 01.
 
-// Why a call is turned down, in the order of the numbered list (1 to 18).
+// Why a call is turned down, in the order of the numbered list (1 to 19).
 pub enum Refusal {
     // 1: the file has more than 16,384 bytes
     FileTooLong,
@@ -40,6 +40,8 @@ pub enum Refusal {
     NotAnnihilated,
     // 18: the meter already holds 4,096 terms
     MeterFull,
+    // 19: no entry of the catalogue has a power that annihilates the period
+    NoEntry,
 }
 
 // Whether a polynomial is irreducible.
@@ -98,6 +100,13 @@ pub enum MeterStart {
 pub struct MeterStep {
     pub reading: FreeRating,
     pub meter: Meter,
+}
+
+// What a search of the catalogue finds: the first entry with a power that annihilates the period, and the
+// least such power.
+pub enum EntryRating {
+    Found { entry: u64, power: u64 },
+    Refused(Refusal),
 }
 
 // Whether a buffer was filled with a continued sequence.

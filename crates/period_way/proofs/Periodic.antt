@@ -4,7 +4,7 @@ use Prim.Native.Nat.{ℕ, _*_, _-_, _^_, _≤_, _<_, min}
 use mathlib.Core.Path.{_≡_, sym, ap, subst, _∙_}
 use mathlib.Core.Bool.{Bool, true, false, not}
 use mathlib.Core.List.{List}
-use mathlib.Core.Option.{Option, none, some}
+use mathlib.Core.Option.{Option, none, some, Option·some-ne-none}
 use native.Mathlib.Nat as ℕ
 use native.Mathlib.Omega.{arith}
 use lib.ListN.{length, take}
@@ -78,7 +78,7 @@ module _ {field : GaloisField} (good : WellFormed field) (f : Polynomial) (ts : 
       (sym (l .isLevel))
       (found .finds (true-T (whole ∙ h)))
 
-  period-none :
+  pub period-none :
       allZero (strideOnPeriod (fieldOf field) f (level .power) ts) ≡ false
       → periodPower (fieldOf field) f ts ≡ none
   period-none h = isNone-none (true-T (found .decides ∙ ap not (whole ∙ h)))
@@ -131,6 +131,8 @@ module _
           record {
             power = sym (period-none good f (half w 0 n) x level divided (sym (acted .zero) ∙ e));
             kept = placed-kept (acted .placed);
+            again =
+                λ _. ap (half w₁ 0) (half-length halves) ∙ placed-same n (halves .few) (acted .placed);
           }
 
       pub searched-some :
@@ -149,6 +151,7 @@ module _
                 ∙ ap (take (level .power * degree f)) (placed-same n (halves .few) (acted .placed))))
                 ∙ sym (period-some good f (half w 0 n) x level divided (sym (acted .zero) ∙ e));
             kept = kept-trans (placed-kept (acted .placed)) (y .kept);
+            again = λ z. absurd (Option·some-ne-none _ z);
           }
 
 -- a period that was loaded, searched and cleared

@@ -7,6 +7,7 @@ ghost use Prim.Native.Nat.{_≤_};
 ghost use lib.ListN.{length};
 ghost use Rattle.arith.specs.Represented.{fieldOf, WellFormed};
 ghost use Rattle.lent.specs.halves.Halves.{Halves, half};
+ghost use Rattle.powers.specs.levels.Levels.{Dividing};
 ghost use Rattle.period_way.specs.Period.{PeriodInput, PeriodSearched, PeriodFound};
 use action::act_on_period;
 use arith::GaloisField;
@@ -14,6 +15,7 @@ use lent::clear;
 use lent::halves::load;
 use lent::smaller;
 use powers::digit_search::least_power;
+use powers::levels::Level;
 use powers::levels::level_dividing;
 
 // The power of a factor that is rated, or nothing where no power allowed annihilates.
@@ -23,9 +25,27 @@ pub enum Found {
 }
 
 // The least power of f that annihilates the period of n terms in half 0. With N = p^w·m and m not divisible
-// by p, the power p^w decides whether there is one: it acts on the whole period first. Then the first
-// p^w·deg f terms are a portion whose power is that of the period. Uses both halves, and leaves all beyond
-// them as it was.
+// by p, the power p^w, which `level` is, decides whether there is one: it acts on the whole period first.
+// Then the first p^w·deg f terms are a portion whose power is that of the period. Uses both halves, and
+// leaves all beyond them as it was; where there is no such power, the terms too.
+pub fn search_level(field: GaloisField, work: &mut [u8], n: usize, f: &[u8], level: Level) -> Found
+    requires { ⌜ WellFormed field ⌝ }
+    requires { ⌜ Halves (now work) 0 n ⌝ }
+    requires { ⌜ PeriodInput (fieldOf field) (now f) (half (now work) 0 n) ⌝ }
+    requires { ⌜ Dividing (field .size) n level ⌝ }
+    ensures { λ r. ⌜ PeriodSearched (fieldOf field) (now (f .entry)) (half (now (work .entry)) 0 n)
+        (now (work .entry)) (now (work .exit)) r ⌝ }
+{
+    let q = level.power;
+    if act_on_period(field, work, 0, n, f, q) {
+        let count = smaller(n, q * (f.len() - 1));
+        Found::Power(least_power(field, work, 0, count, f, level) as u64)
+    } else {
+        Found::Nothing
+    }
+}
+
+// The same, with the level that belongs to n.
 fn search_period(field: GaloisField, work: &mut [u8], n: usize, f: &[u8]) -> Found
     requires { ⌜ WellFormed field ⌝ }
     requires { ⌜ Halves (now work) 0 n ⌝ }
@@ -34,13 +54,7 @@ fn search_period(field: GaloisField, work: &mut [u8], n: usize, f: &[u8]) -> Fou
         (now (work .entry)) (now (work .exit)) r ⌝ }
 {
     let level = level_dividing(field.size as usize, n);
-    let q = level.power;
-    if act_on_period(field, work, 0, n, f, q) {
-        let count = smaller(n, q * (f.len() - 1));
-        Found::Power(least_power(field, work, 0, count, f, level) as u64)
-    } else {
-        Found::Nothing
-    }
+    search_level(field, work, n, f, level)
 }
 
 // The least power of f that annihilates the endless repetition of the terms, or nothing. Leaves the first

@@ -4,10 +4,9 @@ use Prim.Native.Nat.{ℕ}
 use mathlib.Core.Path.{_≡_, _∙_}
 use mathlib.Core.Bool.{false}
 use mathlib.Core.List.{List}
-use lib.Dec.{eqb}
 use lib.ListN.{length}
 use Rattle.meaning.specs.declared.FileRating.{FileRating}
-use Rattle.meaning.specs.Result.{refused, answered, mapResult}
+use Rattle.meaning.specs.Result.{refused, answered, mapResult, clears}
 use Rattle.meaning.specs.Route.{records, boxOf}
 use Rattle.meaning.specs.File.{rateRecords, rateFile}
 use Rattle.meaning.specs.Calls.{FileCall}
@@ -36,7 +35,7 @@ module _ (file : List ℕ) where
     unfolding mapResult
     file-refused v = refused-file file answer work (records-known file v)
 
-  pub file-number : {n : ℕ} → refused n ≡ verdictOf (records file) → eqb n 17 ≡ false
+  pub file-number : {n : ℕ} → refused n ≡ verdictOf (records file) → clears n ≡ false
   unfolding mapResult
   file-number v = rw (records-known file v) at (records-whole file)
 

@@ -9,7 +9,7 @@ use lib.ListN.{length}
 use Rattle.meaning.specs.declared.Refusal.{Refusal}
 use Rattle.meaning.specs.declared.FreeRating.{FreeRating}
 use Rattle.meaning.specs.Search.{holdsForSome}
-use Rattle.meaning.specs.Result.{Result, refused, mapResult, Rated, figuresOf, firstOf}
+use Rattle.meaning.specs.Result.{Result, refused, mapResult, Rated, figuresOf, firstOf, clearing, clears}
 use Rattle.meaning.specs.Free.{FreeFigures, freeTable, rateFree}
 use Rattle.meaning.specs.Answers.{toldFree}
 use Rattle.meaning.specs.Calls.{FreeCall}
@@ -17,11 +17,11 @@ use Rattle.refusals.specs.declared.Verdict.{Verdict}
 use Rattle.refusals.specs.Verdicts.{numberIn}
 use Rattle.refusals.proofs.Settled.{settle-refused}
 use Rattle.massey.proofs.FreeWay.{FreeAccepted, free-accepted}
-use Rattle.refusals.proofs.Lent.{names, never-refused, lent-refused}
+use Rattle.refusals.proofs.Lent.{clearingIn, never-clears, lent-refused}
 
-no-seventeen : (p : ℕ) (ts : List ℕ) (answer work : ℕ) → names 17 (freeTable p ts answer work) ≡ false
-unfolding freeTable holdsForSome
-no-seventeen p ts answer work = refl
+none-clears : (p : ℕ) (ts : List ℕ) (answer work : ℕ) → clearingIn (freeTable p ts answer work) ≡ false
+unfolding freeTable holdsForSome clears clearing
+none-clears p ts answer work = refl
 
 -- what a refused rating tells
 told-refused : {n : ℕ} {result : Result (Rated FreeFigures)}
@@ -49,5 +49,5 @@ module _ (p : ℕ) (ts answer work : List ℕ) {v : Verdict}
       let d = settle-refused (freeTable p ts (length answer) (length work)) _ e q in
       record {
         rating = told-refused d;
-        lent = lent-refused d (never-refused 17 _ (no-seventeen p ts (length answer) (length work)) e q);
+        lent = lent-refused d (never-clears _ (none-clears p ts (length answer) (length work)) e q);
       }

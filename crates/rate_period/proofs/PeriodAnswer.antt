@@ -21,7 +21,7 @@ use Rattle.meaning.specs.declared.PowerRating.{PowerRating}
 use Rattle.meaning.specs.Search.{bind, isNone, holdsForSome}
 use Rattle.meaning.specs.Field.{Field, prime, primeInRange}
 use Rattle.meaning.specs.Polynomial.{Polynomial, monicMultiple}
-use Rattle.meaning.specs.Result.{Result, Rated, refused, firstOf, settle}
+use Rattle.meaning.specs.Result.{Result, Rated, refused, firstOf, settle, clearing, clears}
 use Rattle.meaning.specs.Power.{PowerFigures, powerRating}
 use Rattle.meaning.specs.Period.{periodPower, periodAnswer, ratePeriod}
 use Rattle.meaning.specs.Answers.{numberOf}
@@ -41,7 +41,7 @@ use Rattle.period_way.specs.Period.{told, PeriodInput, PeriodFound}
 use Rattle.period_way.proofs.Sizes.{period-small}
 use Rattle.period_way.specs.one_factor.OneFactor.{ratingFound, Answerable, FoundRated, Multiple, RatedAs}
 use Rattle.bridge.proofs.Accepted.{lent-enough}
-use Rattle.refusals.proofs.Lent.{never-refused}
+use Rattle.refusals.proofs.Lent.{never-clears}
 use Rattle.period_way.proofs.one_factor.OneFactor.{call-rating, call-lent, settled-none, settled-some}
 use Rattle.period_way.proofs.one_factor.OneFactor.{factor-monic, factor-positive, refused-as, given-ten}
 use Rattle.period_way.proofs.one_factor.OneFactor.{given-eleven}
@@ -141,10 +141,10 @@ module _ (p : ℕ) (f ts answer work : List ℕ) (m : Multiple p f ts) {v : Verd
       → v ≡ Verdict.Refused x
       → RatedAs (periodAnswer p false false f ts (length answer) (length work)) answer work
       (PowerRating.Refused x) answer work
-  unfolding periodRest lentTable holdsForSome
+  unfolding periodRest lentTable holdsForSome clears clearing
   period-refused q =
       refused-as (period-early p f ts (length answer) (length work) m e q)
-      (never-refused 17 (periodRest p f (length answer) (length work)) refl e q)
+      (never-clears (periodRest p f (length answer) (length work)) refl e q)
 
   pub period-rated :
       {F : Field} {found : Found} {r : PowerRating} {answer′ work′ : List ℕ}
@@ -169,14 +169,14 @@ module _ (p : ℕ) (f ts answer work : List ℕ) {v : Verdict} (e : numberIn v
       {x : Refusal}
       → v ≡ Verdict.Refused x
       → PeriodCall p f ts answer work (PowerRating.Refused x) answer work
-  unfolding ratePeriod periodAnswer givenTable termsTable oneFactorTable holdsForSome
+  unfolding ratePeriod periodAnswer givenTable termsTable oneFactorTable holdsForSome clears clearing
   given-refused q =
       let g = monicMultiple (prime p) f in
       let z =
       ap (λ table. settle table (λ _. bind (periodPower (prime p) g ts) (powerRating (prime p) g)))
       (period-parts p ts (length answer) (length work) f g)
       ∙ settle-given (givenTable p f ts) _ _ e q in
-      let y = refused-as z (never-refused 17 (givenTable p f ts) refl e q) in
+      let y = refused-as z (never-clears (givenTable p f ts) refl e q) in
       record { rating = y .rating; lent = y .lent }
 
   pub given-rated :

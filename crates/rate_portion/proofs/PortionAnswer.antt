@@ -22,7 +22,7 @@ use Rattle.meaning.specs.Search.{bind, holdsForSome}
 use Rattle.meaning.specs.Field.{Field, prime, primeInRange}
 use Rattle.meaning.specs.Polynomial.{Polynomial, product, monicMultiple}
 use Rattle.meaning.specs.Sequence.{annihilatesKnown}
-use Rattle.meaning.specs.Result.{Result, Rated, refused, firstOf, settle}
+use Rattle.meaning.specs.Result.{Result, Rated, refused, firstOf, settle, clearing, clears}
 use Rattle.meaning.specs.Conditions.{named}
 use Rattle.meaning.specs.Power.{PowerFigures, powerRating}
 use Rattle.meaning.specs.Portion.{leastAt, portionAnswer, ratePortion}
@@ -47,7 +47,7 @@ use Rattle.set_way.proofs.actions.Inputs.{input-monics}
 use Rattle.set_way.proofs.portion.Portions.{portion-small}
 use Rattle.period_way.specs.one_factor.OneFactor.{ratingFound, Answerable, FoundRated, Multiple, RatedAs}
 use Rattle.bridge.proofs.Accepted.{lent-enough}
-use Rattle.refusals.proofs.Lent.{never-refused}
+use Rattle.refusals.proofs.Lent.{never-clears}
 use Rattle.period_way.proofs.one_factor.OneFactor.{call-rating, call-lent, settled-none, settled-some}
 use Rattle.period_way.proofs.one_factor.OneFactor.{factor-monic, factor-positive, refused-as, given-ten}
 use Rattle.period_way.proofs.one_factor.OneFactor.{given-eleven}
@@ -185,10 +185,10 @@ module _ (p : ℕ) (f : List ℕ) (u : ℕ) (ts answer work : List ℕ) (m : Mul
       → v ≡ Verdict.Refused x
       → RatedAs (portionAnswer p false false f u ts (length answer) (length work)) answer work
       (PowerRating.Refused x) answer work
-  unfolding portionRest powersTable lentTable holdsForSome
+  unfolding portionRest powersTable lentTable holdsForSome clears clearing
   portion-refused q =
       refused-as (portion-early p f u ts (length answer) (length work) m e q)
-      (never-refused 17 (portionRest p f u ts (length answer) (length work)) refl e q)
+      (never-clears (portionRest p f u ts (length answer) (length work)) refl e q)
 
   pub portion-rated :
       {F : Field} {found : Found} {r : PowerRating} {answer′ work′ : List ℕ}
@@ -213,7 +213,7 @@ module _ (p : ℕ) (f : List ℕ) (u : ℕ) (ts answer work : List ℕ) {v : Ver
       {x : Refusal}
       → v ≡ Verdict.Refused x
       → PortionCall p f u ts answer work (PowerRating.Refused x) answer work
-  unfolding ratePortion portionAnswer givenTable termsTable oneFactorTable holdsForSome
+  unfolding ratePortion portionAnswer givenTable termsTable oneFactorTable holdsForSome clears clearing
   given-refused q =
       let g = monicMultiple (prime p) f in
       let z =
@@ -221,7 +221,7 @@ module _ (p : ℕ) (f : List ℕ) (u : ℕ) (ts answer work : List ℕ) {v : Ver
       (λ table. settle table (λ _. bind (leastAt (prime p) ((g, u) ∷ []) ts 0) (powerRating (prime p) g)))
       (portion-parts p ts (length answer) (length work) f g u)
       ∙ settle-given (givenTable p f ts) _ _ e q in
-      let y = refused-as z (never-refused 17 (givenTable p f ts) refl e q) in
+      let y = refused-as z (never-clears (givenTable p f ts) refl e q) in
       record { rating = y .rating; lent = y .lent }
 
   pub given-rated :

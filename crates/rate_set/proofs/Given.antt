@@ -25,7 +25,7 @@ use Rattle.meaning.specs.Field.{Field, prime, primeInRange}
 use Rattle.meaning.specs.Polynomial.{Polynomial, monicMultiple}
 use Rattle.meaning.specs.Conditions.{named, factorCountOutOfRange, factorDegreeOutOfRange}
 use Rattle.meaning.specs.Conditions.{coefficientOutOfRange}
-use Rattle.meaning.specs.Result.{firstOf, settle}
+use Rattle.meaning.specs.Result.{firstOf, settle, clearing, clears}
 use Rattle.meaning.specs.Portion.{setPowers, setRating, setAnswer, rateSet}
 use Rattle.meaning.specs.Slices.{listsOf}
 use Rattle.meaning.specs.Calls.{SetCall}
@@ -42,7 +42,7 @@ use Rattle.refusals.specs.declared.Verdict.{Verdict}
 use Rattle.refusals.specs.Verdicts.{numberIn, termsTable, factorsTable, givenSetTable}
 use Rattle.refusals.proofs.Settled.{verdict-passes, settle-given}
 use Rattle.refusals.proofs.Ways.{set-parts}
-use Rattle.refusals.proofs.Lent.{never-refused, lent-refused}
+use Rattle.refusals.proofs.Lent.{never-clears, lent-refused}
 use Rattle.rate_set.specs.Multiples.{Multiples, SetRatedAs}
 use Rattle.rate_set.proofs.SetWay.{refused-call}
 use Rattle.rate_set.proofs.Parts.{Each, parts-first}
@@ -141,7 +141,7 @@ module _ (p : ℕ) (fs : List Polynomial) (us ts answer work : List ℕ) {v : Ve
       → v ≡ Verdict.Refused x
       → (s .outcome ≡ SetOutcome.Refused x) × (s .powers ≡ replicate 8 0)
       → SetCall p fs us ts answer work s answer work
-  unfolding rateSet setAnswer givenSetTable termsTable factorsTable holdsForSome
+  unfolding rateSet setAnswer givenSetTable termsTable factorsTable holdsForSome clears clearing
   given-set-refused q o =
       let gs = map (monicMultiple (prime p)) fs in
       let z =
@@ -150,7 +150,7 @@ module _ (p : ℕ) (fs : List Polynomial) (us ts answer work : List ℕ) {v : Ve
       (setPowers (prime p) (named gs us) ts)))
       (set-parts p ts (length answer) (length work) fs gs us (length-map fs (monicMultiple (prime p))))
       ∙ settle-given (givenSetTable p fs ts) _ _ e q in
-      let y = refused-call o z (lent-refused z (never-refused 17 (givenSetTable p fs ts) refl e q)) in
+      let y = refused-call o z (lent-refused z (never-clears (givenSetTable p fs ts) refl e q)) in
       record { rating = y .rating; powers = y .powers; lent = y .lent }
 
   pub given-set-rated :

@@ -25,7 +25,7 @@ use Rattle.meaning.specs.Polynomial.{Polynomial, degree, product}
 use Rattle.meaning.specs.Sequence.{annihilatesKnown}
 use Rattle.meaning.specs.Conditions.{named, factorCountOutOfRange, totalDegree}
 use Rattle.meaning.specs.Result.{Result, refused, answered, mapResult, firstOf, valueOf, Rated, figuresOf}
-use Rattle.meaning.specs.Result.{written, cleared}
+use Rattle.meaning.specs.Result.{written, cleared, clearing, clears}
 use Rattle.meaning.specs.Portion.{SetFigures, setPowers, setRating, setAnswer, factorsOf}
 use Rattle.meaning.specs.Answers.{numberOf, toldSet, setFiguresTold, padded, setPadded}
 use Rattle.meaning.specs.Calls.{LentAfter}
@@ -48,7 +48,7 @@ use Rattle.set_way.proofs.actions.Inputs.{input-monics}
 use Rattle.set_way.proofs.Answers.{answer-annihilated, answer-powers}
 use Rattle.set_way.proofs.Sizes.{set-count, set-product, named-padded}
 use Rattle.bridge.proofs.Accepted.{lent-enough}
-use Rattle.refusals.proofs.Lent.{names, never-refused, lent-refused, lent-seventeen}
+use Rattle.refusals.proofs.Lent.{clearingIn, never-clears, lent-refused, lent-seventeen}
 use Rattle.refusals.proofs.Lent.{lent-rated}
 use Rattle.rate_set.specs.Multiples.{Multiples, SetRatedAs}
 
@@ -104,11 +104,11 @@ rated-call {fs = fs} us {answer = answer} {F = F} rs {n = n} (o, z) size e i k y
       lent = lent-rated e (y .answer ∙ ap (λ h. written h answer) g) w;
     }
 
-no-seventeen :
+none-clears :
     (p : ℕ) (fs : List Polynomial) (us ts : List ℕ) (answer work : ℕ)
-    → names 17 (setRest p fs us ts answer work) ≡ false
-unfolding setRest multiplesTable powersTable lentTable holdsForSome
-no-seventeen p fs us ts answer work = refl
+    → clearingIn (setRest p fs us ts answer work) ≡ false
+unfolding setRest multiplesTable powersTable lentTable holdsForSome clears clearing
+none-clears p fs us ts answer work = refl
 
 module _ (p : ℕ) (fs : List Polynomial) (us ts : List ℕ) (answer work : ℕ) (m : Multiples p fs ts) where
   -- the result with the monic multiples
@@ -197,7 +197,7 @@ module _ (p : ℕ) (fs : List Polynomial) (us ts answer work : List ℕ) (m : Mu
   set-refused q o =
       let k = set-early p fs us ts (length answer) (length work) m e q in
       refused-call o k
-      (lent-refused k (never-refused 17 _ (no-seventeen p fs us ts (length answer) (length work)) e q))
+      (lent-refused k (never-clears _ (none-clears p fs us ts (length answer) (length work)) e q))
 
   module _ (q : v ≡ Verdict.Accepted) {F : Field} (h : F ≡ prime p) (I : IsField F) {r : SetPowers}
       {work′ : List ℕ} (y : SetFound F fs us ts work work′ r) where

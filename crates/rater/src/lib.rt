@@ -3,7 +3,9 @@
 // Of a meter that was not made by a start and by terms nothing is said.
 
 // on numbers and slices
+pub use catalogue::catalogue_entry;
 pub use continue_sequence::continue_sequence;
+pub use find_entry::find_entry;
 pub use meter::reading;
 pub use meter::start_meter;
 pub use meter::take_term;

@@ -26,5 +26,6 @@ pub fn refusal_number(r: Refusal) -> u64
         Refusal::LentTooShort => 16,
         Refusal::NotAnnihilated => 17,
         Refusal::MeterFull => 18,
+        Refusal::NoEntry => 19,
     }
 }

@@ -69,7 +69,7 @@ use Rattle.theorems.specs.Answering.{PeriodAnswers, PortionAnswers, SetA
 use Rattle.theorems.specs.Answering.{ContinueAnswers, IrreducibleAnswers, PrimeAnswers}
 use Rattle.theorems.proofs.Ways.{one-total, period-promise, portion-promise, set-promise, free-promise}
 use Rattle.theorems.proofs.Telling.{settle-tells, map-tells, Listed, meets, Sized, lent-after}
-use Rattle.theorems.proofs.Telling.{rating-answers}
+use Rattle.theorems.proofs.Telling.{rating-answers, within}
 
 -- where the answer tells the figures themselves
 pub figures-themselves : {A : Type 0} (x : Result A) → x ≡ mapResult (λ a. a) x
@@ -77,7 +77,7 @@ unfolding mapResult
 figures-themselves (refused n) = refl
 figures-themselves (answered a) = refl
 
-present : {A : Type 0} (o : Option A) → isNone o ≡ false → (a : A) × (o ≡ some a)
+pub present : {A : Type 0} (o : Option A) → isNone o ≡ false → (a : A) × (o ≡ some a)
 unfolding isNone
 present none e = absurd (true≢false e)
 present (some a) e = (a, refl)
@@ -192,12 +192,13 @@ module _ (p : ℕ) (f : Polynomial) (ts answer work : List ℕ) where
       }
 
 pub period-answers : PeriodAnswers
+unfolding holdsForAll
 period-answers p f ts answer work =
     record {
       each =
           λ r answer′ work′ c.
           rating-answers periodNumbers (λ a. a .degree) (λ a. a) (periodResult p f ts answer work)
-          (toldPower r) answer work answer′ work′ (c .rating ∙ figures-themselves _)
+          (toldPower r) answer work answer′ work′ (c .rating ∙ figures-themselves _) (within periodNumbers tt)
           (period-told p f ts (length answer) (length work)) (period-sized p f ts answer work) (c .lent);
       some = period-some p f ts answer work;
       one = λ r s _ _ _ _ c d. period-call-determined c d;
@@ -278,12 +279,14 @@ module _ (p : ℕ) (f : Polynomial) (v : ℕ) (ts answer work : List ℕ) where
       }
 
 pub portion-answers : PortionAnswers
+unfolding holdsForAll
 portion-answers p f v ts answer work =
     record {
       each =
           λ r answer′ work′ c.
           rating-answers portionNumbers (λ a. a .degree) (λ a. a) (portionResult p f v ts answer work)
           (toldPower r) answer work answer′ work′ (c .rating ∙ figures-themselves _)
+          (within portionNumbers tt)
           (portion-tells p f v ts (length answer) (length work)) (portion-sized p f v ts answer work)
           (c .lent);
       some = portion-some p f v ts answer work;
@@ -397,12 +400,13 @@ module _ (p : ℕ) (fs : List Polynomial) (vs ts answer work : List ℕ) where
       }
 
 pub set-answers : SetAnswers
+unfolding holdsForAll
 set-answers p fs vs ts answer work =
     record {
       each =
           λ r answer′ work′ c.
           rating-answers setNumbers (λ a. a .degree) setFiguresTold (setResult p fs vs ts answer work)
-          (toldSet (r .outcome)) answer work answer′ work′ (c .rating)
+          (toldSet (r .outcome)) answer work answer′ work′ (c .rating) (within setNumbers tt)
           (set-told p fs vs ts (length answer) (length work)) (set-sized p fs vs ts answer work) (c .lent);
       some = set-some p fs vs ts answer work;
       one = λ r s _ _ _ _ c d. set-call-determined c d;
@@ -484,12 +488,13 @@ module _ (p : ℕ) (ts answer work : List ℕ) where
       }
 
 pub free-answers : FreeAnswers
+unfolding holdsForAll
 free-answers p ts answer work =
     record {
       each =
           λ r answer′ work′ c.
           rating-answers freeNumbers (λ a. a .degree) (λ a. a) (freeResult p ts answer work)
-          (toldFree r) answer work answer′ work′ (c .rating ∙ figures-themselves _)
+          (toldFree r) answer work answer′ work′ (c .rating ∙ figures-themselves _) (within freeNumbers tt)
           (free-tells p ts (length answer) (length work)) (free-sized p ts answer work)
           (c .lent);
       some = free-some p ts answer work;

@@ -34,8 +34,10 @@ use Rattle.bridge.proofs.FileRatings.{known-mode, accepted-file, refused-file, 
 use Rattle.bridge.proofs.FileRatings.{free-map, pairs-nonempty}
 use Rattle.theorems.specs.Answering.{Answered, OneOf, Tells, modeNumbers, readerNumbers, fileNumbers}
 use Rattle.theorems.specs.Answering.{fileDegree, FileAnswers, RecordAnswers, ProgramAnswers}
+use Rattle.theorems.specs.Answering.{periodNumbers, setNumbers, freeNumbers}
 use Rattle.theorems.specs.Files.{RatedBy, freeTold}
 use Rattle.theorems.proofs.Telling.{map-tells, Listed, meets, Sized, lent-after, rating-answers}
+use Rattle.theorems.proofs.Telling.{Within, within}
 use Rattle.theorems.proofs.Answering.{period-tells, set-tells, free-tells, period-lent, set-lent}
 use Rattle.theorems.proofs.Answering.{free-lent}
 use Rattle.theorems.proofs.Files.{file-promise}
@@ -293,6 +295,22 @@ module _ (file answer work : List ℕ) where
         lent = file-lent file (length answer) (length work);
       }
 
+-- the numbers of a file are 1 to 17
+mode-within : (m : Mode) → Within (modeNumbers m)
+unfolding holdsForAll
+mode-within periodMode = within periodNumbers tt
+mode-within setMode = within setNumbers tt
+mode-within freeMode = within freeNumbers tt
+
+pub file-within : (x : Result (List RouteRecord)) → Within (fileNumbers x)
+unfolding holdsForAll holdsForSome
+file-within (refused k) = within readerNumbers tt
+file-within (answered rs) = go (modeOf (byteOf 3 rs))
+  where
+    go : (o : Option Mode) → Within (elim o [ none ↦ [] | some m ↦ modeNumbers m ])
+    go none n h = absurd h
+    go (some m) n h = mode-within m n h
+
 pub file-answers : FileAnswers
 file-answers file answer work =
     record {
@@ -300,6 +318,7 @@ file-answers file answer work =
           λ r answer′ work′ c.
           rating-answers _ fileDegree fileFiguresTold (result file answer work)
           (toldFile (r .outcome)) answer work answer′ work′ (c .rating)
+          (file-within (records file))
           (file-tells file (length answer) (length work)) (file-sized file answer work)
           (c .lent);
       some = file-some file answer work;

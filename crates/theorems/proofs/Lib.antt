@@ -8,6 +8,7 @@ pub mod FileAnswers
 pub mod Program
 pub mod OtherLanguages
 pub mod Meters
+pub mod Catalogue
 pub mod Promises
 pub mod Instance
 pub mod Examples

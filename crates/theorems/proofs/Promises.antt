@@ -1,14 +1,13 @@
 -- All promises hold.
 -- Assumes nothing.
-use mathlib.Core.List.{List, []}
-use mathlib.Core.Option.{Option, none, some}
+use native.Mathlib.Omega.{arith}
 use Rattle.meaning.specs.Search.{holdsForSome}
-use Rattle.meaning.specs.Result.{Result, refused, answered}
-use Rattle.meaning.specs.Route.{RouteRecord, Mode, periodMode, setMode, freeMode, modeOf, byteOf, records}
+use Rattle.meaning.specs.Route.{records}
 use Rattle.theorems.specs.Ratings.{GF, RepeatPromise}
 use Rattle.theorems.specs.Answering.{periodNumbers, portionNumbers, setNumbers, freeNumbers}
 use Rattle.theorems.specs.Answering.{continueNumbers, irreducibleNumbers, readerNumbers, fileNumbers}
-use Rattle.theorems.specs.Answering.{modeNumbers, OneOf, NeverZero}
+use Rattle.theorems.specs.Answering.{NeverZero}
+use Rattle.theorems.specs.Catalogue.{searchNumbers}
 use Rattle.theorems.specs.Promises.{Promises}
 use Rattle.bridge.proofs.Interpretation.{characteristic-two}
 use Rattle.bridge.proofs.RepeatBounds.{repeatBound-exists, repeatBound-bounds}
@@ -18,7 +17,7 @@ use Rattle.theorems.proofs.Answering.{continue-answers, irreducible-ans
 use Rattle.theorems.proofs.Answering.{period-told, portion-tells, set-told, free-tells, continue-told}
 use Rattle.theorems.proofs.Answering.{irreducible-tells}
 use Rattle.theorems.proofs.FileAnswers.{file-answers, record-answers, program-answers, file-tells}
-use Rattle.theorems.proofs.FileAnswers.{read-tells}
+use Rattle.theorems.proofs.FileAnswers.{read-tells, file-within}
 use Rattle.theorems.proofs.Words.{field-of, prime-words, irreducible-words, prime-promise}
 use Rattle.theorems.proofs.Words.{irreducible-promise, continue-promise, multiple-promise}
 use Rattle.theorems.proofs.Words.{multiples-promise}
@@ -29,6 +28,8 @@ use Rattle.theorems.proofs.Program.{record-promise, program-as-call, pr
 use Rattle.theorems.proofs.OtherLanguages.{period-export, portion-export, set-export, free-export}
 use Rattle.theorems.proofs.OtherLanguages.{continue-export, irreducible-export}
 use Rattle.theorems.proofs.Meters.{start-answers, meter-promise, profile-export}
+use Rattle.theorems.proofs.Catalogue.{search-answers, search-tells, entry-answers, catalogue-promise}
+use Rattle.theorems.proofs.Catalogue.{entry-promise, search-export}
 
 repeat-bounded : RepeatPromise
 repeat-bounded p f r h m l i =
@@ -39,22 +40,6 @@ repeat-bounded p f r h m l i =
       found = bound .1;
       bounds = λ c. repeatBound-bounds I f m l i r (bound .0) c (bound .1);
     }
-
--- no number of a file is 0
-mode-zero : (m : Mode) → ¬ OneOf 0 (modeNumbers m)
-unfolding holdsForSome
-mode-zero periodMode = no-zero periodNumbers tt
-mode-zero setMode = no-zero setNumbers tt
-mode-zero freeMode = no-zero freeNumbers tt
-
-file-zero : (x : Result (List RouteRecord)) → ¬ OneOf 0 (fileNumbers x)
-unfolding holdsForSome
-file-zero (refused n) = no-zero readerNumbers tt
-file-zero (answered rs) = go (modeOf (byteOf 3 rs))
-  where
-    go : (o : Option Mode) → ¬ OneOf 0 (elim o [ none ↦ [] | some m ↦ modeNumbers m ])
-    go none h = h
-    go (some m) h = mode-zero m h
 
 never-zero : NeverZero
 unfolding holdsForSome
@@ -79,9 +64,10 @@ never-zero =
           λ p f. tells-zero irreducibleNumbers _ (no-zero irreducibleNumbers tt) (irreducible-tells p f);
       file =
           λ file answer work.
-          tells-zero (fileNumbers (records file)) _ (file-zero (records file))
+          tells-zero (fileNumbers (records file)) _ (λ h. omega (arith, file-within (records file) 0 h .0))
           (file-tells file answer work);
       reader = λ file n. tells-zero readerNumbers _ (no-zero readerNumbers tt) (read-tells file n);
+      search = λ ts work. tells-zero searchNumbers _ (no-zero searchNumbers tt) (search-tells ts work);
     }
 
 pub promises : Promises
@@ -98,6 +84,8 @@ promises =
       record-answers = record-answers;
       program-answers = program-answers;
       start-answers = start-answers;
+      search-answers = search-answers;
+      entry-answers = entry-answers;
       never-zero = never-zero;
       period = period-promise;
       portion = portion-promise;
@@ -112,6 +100,8 @@ promises =
       prime-words = prime-words;
       irreducible-words = irreducible-words;
       meter = meter-promise;
+      catalogue = catalogue-promise;
+      entry = entry-promise;
       cut-anywhere = cut-anywhere;
       files = file-promise;
       records = record-promise;
@@ -124,4 +114,5 @@ promises =
       continue-export = continue-export;
       irreducible-export = irreducible-export;
       profile-export = profile-export;
+      search-export = search-export;
     }

@@ -12,23 +12,23 @@ use native.Mathlib.Omega.{arith}
 use native.Mathlib.Decide.{ℕ-discrete}
 use mathlib.Core.Path.{_≡_, refl, sym, ap, subst, _∙_}
 use mathlib.Core.Logic.{_⊎_, inl, inr}
-use mathlib.Core.Bool.{Bool, true, false, not}
+use mathlib.Core.Bool.{Bool, true, false, not, _&&_}
 use mathlib.Core.List.{List, [], _∷_, map}
 use mathlib.Core.Option.{Option, none, some, Option·some-injective, Option·none-ne-some}
 use lib.ListN.{length, take, drop, replicate, length-append, length-drop, length-replicate}
 use lib.Seq.{take-at, drop-at}
-use lib.Dec.{T, T-not, eqb, eqb-refl, eqb→eq}
-use borrow.Author.Tests.{ne-eqb}
+use lib.Dec.{T, T-not, eqb, eqb-refl, eqb→eq, leb, leb→le}
 use Rattle.meaning.specs.declared.Refusal.{Refusal}
 use Rattle.meaning.specs.Search.{holdsForAll, holdsForSome, isNone}
 use Rattle.meaning.specs.Result.{Check, Result, Rated, answered, refused, firstOf, settle, figuresOf}
-use Rattle.meaning.specs.Result.{mapResult, valueOf, answerAfter, workAfter, written, cleared}
+use Rattle.meaning.specs.Result.{mapResult, valueOf, answerAfter, clearing, clears, workAfter, written}
+use Rattle.meaning.specs.Result.{cleared}
 use Rattle.meaning.specs.Answers.{numberOf}
 use Rattle.meaning.specs.Calls.{LentAfter}
 use Rattle.meaning.proofs.Determined.{refusalOf, refusal-found}
-use Rattle.meaning.proofs.Tables.{firstOf-skip, firstOf-stop, settle-none}
+use Rattle.meaning.proofs.Tables.{firstOf-skip, firstOf-stop, settle-none, keeps-low}
 use Rattle.meaning.proofs.Passes.{Passes, firstOf-passes}
-use Rattle.bridge.proofs.Searches.{some-head, some-tail, some-member, all-member}
+use Rattle.bridge.proofs.Searches.{T-and, some-head, some-tail, some-member, all-member}
 use Rattle.bridge.proofs.Searches.{never-answered, refused-same, answered-same}
 use Rattle.theorems.specs.Answering.{Answered, OneOf, Tells, RatingAnswers}
 
@@ -88,6 +88,16 @@ tells-zero numbers x z (inr (n, q, h)) e = z (subst (λ k. OneOf k numbers) (ref
 pub no-zero : (numbers : List ℕ) → T (not (holdsForSome (eqb 0) numbers)) → ¬ OneOf 0 numbers
 no-zero numbers h = T-not (holdsForSome (eqb 0) numbers) h
 
+-- the numbers of a list are 1 to 17, by a test of the list
+abbrev pub Within : List ℕ → Type 0
+Within numbers = (n : ℕ) → OneOf n numbers → (1 ≤ n) × (n ≤ 17)
+
+pub within : (numbers : List ℕ) → T (holdsForAll (λ k. leb 1 k && leb k 17) numbers) → Within numbers
+within numbers h n t =
+    let (k, i, z) = some-member (eqb n) numbers t in
+    let (low, high) = T-and (leb 1 k) (leb k 17) (all-member (λ k. leb 1 k && leb k 17) numbers h k i) in
+    subst (λ j. (1 ≤ j) × (j ≤ 17)) (sym (eqb→eq n k z)) (leb→le 1 k low, leb→le k 17 high)
+
 -- SOME ANSWER TELLS IT
 
 -- the numbers are numbers of refusals
@@ -135,27 +145,25 @@ pub lent-after : {A : Type 0} (x : Result (Rated A)) (answer work : List ℕ)
     → LentAfter x answer work (answerAfter x answer) (workAfter x work)
 lent-after x answer work = record { answerBytes = refl; workBytes = refl }
 
-work-untouched : (A : Type 0) (n : ℕ) (work : List ℕ)
-    → (n ≡ 17 → ⊥)
-    → workAfter {A = A} (refused n) work ≡ work
+pub work-untouched : (A : Type 0) (n : ℕ) (work : List ℕ) → n ≤ 16 → workAfter {A = A} (refused n) work ≡ work
 unfolding workAfter
-work-untouched A n work l = rw (ne-eqb n 17 l, workAfter)
+work-untouched A n work l = rw (keeps-low n l, workAfter)
 
 work-17 : (A : Type 0) (n : ℕ) (work : List ℕ) → n ≡ 17 → workAfter {A = A} (refused n) work ≡ cleared work
-unfolding workAfter
-work-17 A n work e = rw (e, workAfter)
+unfolding workAfter clears clearing holdsForSome
+work-17 A n work e = ap (λ k. workAfter {A = A} (refused k) work) e
 
-cleared-front : (work : List ℕ) → take 8192 (cleared work) ≡ replicate 8192 0
+pub cleared-front : (work : List ℕ) → take 8192 (cleared work) ≡ replicate 8192 0
 unfolding cleared
 cleared-front work =
     take-at (replicate 8192 0) (drop 8192 work) 8192 (length-replicate {A = ℕ} 8192 0)
 
-cleared-beyond : (work : List ℕ) → drop 8192 (cleared work) ≡ drop 8192 work
+pub cleared-beyond : (work : List ℕ) → drop 8192 (cleared work) ≡ drop 8192 work
 unfolding cleared
 cleared-beyond work =
     drop-at (replicate 8192 0) (drop 8192 work) 8192 (length-replicate {A = ℕ} 8192 0)
 
-cleared-length : (work : List ℕ) → 8192 ≤ length work → length (cleared work) ≡ length work
+pub cleared-length : (work : List ℕ) → 8192 ≤ length work → length (cleared work) ≡ length work
 unfolding cleared
 cleared-length work l =
     length-append (replicate 8192 0) (drop 8192 work)
@@ -213,20 +221,22 @@ pub rating-answers :
     {A B : Type 0} (numbers : List ℕ) (degreeIn : B → ℕ) (g : A → B) (result : Result (Rated A))
     (told : Result B) (answer work answer′ work′ : List ℕ)
     → told ≡ mapResult g (figuresOf result)
+    → Within numbers
     → Tells numbers result
     → Sized (λ a. degreeIn (g a)) result (length answer) (length work)
     → LentAfter result answer work answer′ work′
     → RatingAnswers numbers degreeIn told answer work answer′ work′
 unfolding mapResult figuresOf answerAfter workAfter
-rating-answers {A} numbers degreeIn g (refused n) told answer work answer′ work′ e t sized lent =
-    refused-lent numbers degreeIn n told answer work answer′ work′ e (elim t [
+rating-answers {A} numbers degreeIn g (refused n) told answer work answer′ work′ e low t sized lent =
+    let named : OneOf n numbers = elim t [
       | inl (a, q) ↦ never-answered q
       | inr (m, q, h) ↦ subst (λ k. OneOf k numbers) (sym (refused-same q)) h
-    ]) (lent .answerBytes)
+    ] in
+    refused-lent numbers degreeIn n told answer work answer′ work′ e named (lent .answerBytes)
     (λ s.
     (lent .workBytes ∙ work-17 (Rated A) n work s, sized .lent (inr (ap refused s)) .1))
-    (λ s. lent .workBytes ∙ work-untouched (Rated A) n work s)
-rating-answers numbers degreeIn g (answered b) told answer work answer′ work′ e t sized lent =
+    (λ s. lent .workBytes ∙ work-untouched (Rated A) n work (omega (arith, low n named .1)))
+rating-answers numbers degreeIn g (answered b) told answer work answer′ work′ e low t sized lent =
     let cleared-work : work′ ≡ cleared work = lent .workBytes in
     let room = sized .lent (inl (b, refl)) in
     let d = degreeIn (g (b .figures)) in

@@ -30,6 +30,7 @@ use Rattle.meaning.specs.Result.{Result, refused, answered}
 use Rattle.meaning.specs.Period.{ratePeriod}
 use Rattle.meaning.specs.Portion.{ratePortion, rateSet}
 use Rattle.meaning.specs.Free.{rateFree}
+use Rattle.meaning.specs.Catalogue.{findEntry}
 use Rattle.meaning.specs.Continuation.{continueSequence}
 use Rattle.meaning.specs.Irreducibility.{askIrreducible}
 use Rattle.meaning.specs.Route.{RouteRecord, Mode, periodMode, setMode, freeMode, modeOf, byteOf, records}
@@ -229,3 +230,4 @@ pub record NeverZero : Type 0 where
   pub irreducibility : (p : ℕ) (f : Polynomial) → askIrreducible p f ≢ refused 0
   pub file : (file : List ℕ) (answer work : ℕ) → rateFile file answer work ≢ refused 0
   pub reader : (file : List ℕ) (n : ℕ) → readRecord file n ≢ refused 0
+  pub search : (ts : List ℕ) (work : ℕ) → findEntry ts work ≢ refused 0

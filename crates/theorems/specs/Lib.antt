@@ -4,4 +4,5 @@ pub mod Answering
 pub mod Files
 pub mod OtherLanguages
 pub mod Meters
+pub mod Catalogue
 pub mod Promises

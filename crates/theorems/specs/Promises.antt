@@ -8,6 +8,7 @@
 --   Files            == route files, the reader, the program
 --   OtherLanguages   == the exported calls
 --   Meters           == the meter: demand 1 of its calls, what it shows, the exported profile
+--   Catalogue        == the catalogue and its search: demand 1, what it holds, what is found, the export
 --
 -- How to read the signs in these files:
 --   (a : A) → B      == for every a of A, B holds; A → B: where A holds, B does
@@ -35,6 +36,8 @@ use Rattle.theorems.specs.Files.{FilePromise, RecordPromise, ProgramAsCa
 use Rattle.theorems.specs.OtherLanguages.{PeriodExport, PortionExport, SetExport, FreeExport}
 use Rattle.theorems.specs.OtherLanguages.{ContinueExport, IrreducibleExport}
 use Rattle.theorems.specs.Meters.{StartAnswers, MeterPromise, ProfileExport}
+use Rattle.theorems.specs.Catalogue.{SearchAnswers, EntryAnswers, CataloguePromise, EntryPromise}
+use Rattle.theorems.specs.Catalogue.{SearchExport}
 
 pub record Promises : Type 0 where
   -- demand 1
@@ -49,6 +52,8 @@ pub record Promises : Type 0 where
   pub record-answers : RecordAnswers
   pub program-answers : ProgramAnswers
   pub start-answers : StartAnswers
+  pub search-answers : SearchAnswers
+  pub entry-answers : EntryAnswers
   pub never-zero : NeverZero
   -- demand 2
   pub period : PeriodPromise
@@ -65,6 +70,9 @@ pub record Promises : Type 0 where
   pub irreducible-words : IrreducibleWords
   -- the meter, with demand 1 of a term
   pub meter : MeterPromise
+  -- the catalogue and its search
+  pub catalogue : CataloguePromise
+  pub entry : EntryPromise
   -- demand 3
   pub cut-anywhere : CutAnywherePromise
   -- route files, the reader, the program
@@ -80,3 +88,4 @@ pub record Promises : Type 0 where
   pub continue-export : ContinueExport
   pub irreducible-export : IrreducibleExport
   pub profile-export : ProfileExport
+  pub search-export : SearchExport

@@ -73,6 +73,7 @@ number-byte Refusal.TooFewTerms = omega arith
 number-byte Refusal.LentTooShort = omega arith
 number-byte Refusal.NotAnnihilated = omega arith
 number-byte Refusal.MeterFull = omega arith
+number-byte Refusal.NoEntry = omega arith
 
 module _ {a : FreeRating} where
   pub status-unique : {d : ℕ} → a ≡ FreeRating.Unique d → 0 ≡ statusOf (toldFree a)

@@ -5,7 +5,7 @@
 --   call-rating, call-lent == what a call answers and leaves, where its result is that of the power found
 --   settled-none, settled-some == the result where the verdict accepts: 17 is the last condition of the table
 --   factor-monic, factor-positive == of a monic factor that 10 lets pass
---   refused-as        == a refusal by another number than 17 is told, and leaves all as it was
+--   refused-as        == a refusal that does not clear the work bytes is told, and leaves all as it was
 --   given-leads, given-multiple == a factor that 6, 10 and 11 let pass leads, and its monic multiple is one
 --                        that 6, 7, 8 and 10 let pass
 --
@@ -19,14 +19,14 @@ use native.Mathlib.Nat.{sub-zero}
 use native.Mathlib.Omega.{arith}
 use lib.ListN.{length, take, drop, length-append}
 use lib.Seq.{take-at}
-use lib.Dec.{T, eqb}
+use lib.Dec.{T}
 use Rattle.meaning.specs.declared.Refusal.{Refusal}
 use Rattle.meaning.specs.declared.PowerRating.{PowerRating}
-use Rattle.meaning.specs.Search.{bind}
+use Rattle.meaning.specs.Search.{bind, holdsForSome}
 use Rattle.meaning.specs.Field.{Field, prime, primeInRange}
 use Rattle.meaning.specs.Polynomial.{Polynomial, degree, power, isMonicOver, monicMultiple}
 use Rattle.meaning.specs.Result.{Result, refused, answered, mapResult, Check, firstOf, valueOf, settle, Rated}
-use Rattle.meaning.specs.Result.{figuresOf, cleared, answerAfter, workAfter}
+use Rattle.meaning.specs.Result.{figuresOf, cleared, answerAfter, clearing, clears, workAfter}
 use Rattle.meaning.specs.Conditions.{factorDegreeOutOfRange, coefficientOutOfRange}
 use Rattle.meaning.specs.Power.{PowerFigures, repeatBound, powerRating}
 use Rattle.meaning.specs.Answers.{numberOf, toldPower}
@@ -113,7 +113,7 @@ module _ {F : Field} {f : Polynomial} {found : Found} where
 work-found :
     {F : Field} (I : IsField F) (f : Polynomial) (o : Option ℕ) (work : List ℕ)
     → workAfter (ratingFound F f o) work ≡ cleared work
-unfolding workAfter ratingFound
+unfolding workAfter clears clearing holdsForSome ratingFound
 work-found {F} I f none work = refl
 work-found {F} I f (some r) work =
     let (b, e) = repeatBound-exists F f r (I .characteristic .prime .large) in
@@ -174,7 +174,7 @@ module _ {p : ℕ} {f : Polynomial} (a : Accepted p f) where
 pub refused-as :
     {result : Result (Rated PowerFigures)} {answer work : List ℕ} {x : Refusal}
     → result ≡ refused (numberOf x)
-    → eqb (numberOf x) 17 ≡ false
+    → clears (numberOf x) ≡ false
     → RatedAs result answer work (PowerRating.Refused x) answer work
 unfolding toldPower figuresOf mapResult
 refused-as e other = record { rating = sym (ap figuresOf e); lent = lent-refused e other }

@@ -4,7 +4,6 @@ use Prim.Native.Nat.{ℕ}
 use mathlib.Core.Path.{_≡_, refl, ap, _∙_}
 use mathlib.Core.Bool.{false}
 use mathlib.Core.List.{List}
-use lib.Dec.{eqb}
 use lib.ListN.{length}
 use Rattle.meaning.specs.declared.PowerRating.{PowerRating}
 use Rattle.meaning.specs.declared.FreeRating.{FreeRating}
@@ -12,7 +11,7 @@ use Rattle.meaning.specs.declared.SetRating.{SetRating}
 use Rattle.meaning.specs.declared.FileRating.{FileRating}
 use Rattle.meaning.specs.Polynomial.{Polynomial}
 use Rattle.meaning.specs.Result.{Result, refused, answered, mapResult, Rated, figuresOf}
-use Rattle.meaning.specs.Result.{answerAfter, workAfter}
+use Rattle.meaning.specs.Result.{answerAfter, clears, workAfter}
 use Rattle.meaning.specs.Power.{PowerFigures}
 use Rattle.meaning.specs.Portion.{SetFigures, rateSet}
 use Rattle.meaning.specs.Period.{ratePeriod}
@@ -126,11 +125,11 @@ pub rated-as : {sender : ℕ} {x y : Result (Rated FileFigures)} {answer work : 
     → RatedFile sender x answer work r answer′ work′
 rated-as e h = rw e h
 
--- a refusal by another number than 17
+-- a refusal that does not clear the work bytes
 pub refused-rated : {sender n : ℕ} {result : Result (Rated FileFigures)} {answer work : List ℕ}
     {r : FileRating}
     → result ≡ refused n
-    → eqb n 17 ≡ false
+    → clears n ≡ false
     → Tells sender (refused n) r
     → RatedFile sender result answer work r answer work
 unfolding figuresOf mapResult

@@ -6,12 +6,11 @@ use native.Mathlib.Omega.{arith}
 use mathlib.Core.Path.{_≡_, refl, sym, ap, _∙_}
 use mathlib.Core.Bool.{false}
 use mathlib.Core.List.{List, [], _∷_, map, flatten}
-use lib.Dec.{eqb}
 use lib.ListN.{length, getD, length-append}
 use Rattle.meaning.specs.declared.Refusal.{Refusal}
 use Rattle.meaning.specs.Search.{holdsForSome}
 use Rattle.meaning.specs.Field.{prime}
-use Rattle.meaning.specs.Result.{refused, firstOf}
+use Rattle.meaning.specs.Result.{refused, firstOf, clearing, clears}
 use Rattle.meaning.specs.Period.{ratePeriod}
 use Rattle.meaning.specs.Portion.{rateSet}
 use Rattle.meaning.specs.Free.{rateFree}
@@ -23,7 +22,7 @@ use Rattle.route.specs.framing.Framing.{recordsFrom}
 use Rattle.refusals.specs.declared.Verdict.{Verdict}
 use Rattle.refusals.specs.Verdicts.{numberIn, termsTable}
 use Rattle.refusals.proofs.Settled.{verdict-passes}
-use Rattle.refusals.proofs.Lent.{never-refused}
+use Rattle.refusals.proofs.Lent.{never-clears}
 use Rattle.rate_file.specs.factors.Written.{factorsIn, polynomialsIn, writtenTable}
 use Rattle.rate_file.proofs.factors.Places.{factors-count}
 use Rattle.bridge.proofs.WrittenFactors.{AllFull}
@@ -42,12 +41,12 @@ unfolding flatten
 first-within [] = omega arith
 first-within (a ∷ l) = omega (arith, length-append a (flatten l))
 
--- the terms are not refused by 17
+-- a refusal of the terms leaves the work bytes as they were
 pub terms-number : (p : ℕ) (ts : List ℕ) {v : Verdict} {x : Refusal} → numberIn v ≡ firstOf (termsTable p ts)
     → v ≡ Verdict.Refused x
-    → eqb (numberOf x) 17 ≡ false
-unfolding termsTable holdsForSome
-terms-number p ts e q = never-refused 17 (termsTable p ts) refl e q
+    → clears (numberOf x) ≡ false
+unfolding termsTable holdsForSome clears clearing
+terms-number p ts e q = never-clears (termsTable p ts) refl e q
 
 -- p and the terms as they were read, the terms cut after 4,097, and u the verdict on them
 module _ (file ts : List ℕ) (p : ℕ) (ok : AcceptedRecords (recordsFrom file 0))
@@ -134,9 +133,9 @@ module _ (file ts : List ℕ) (answer work : ℕ) {p : ℕ} (ok : Rateable p fil
               (several e .1)
               q
 
-      pub factors-number : {x : Refusal} → v ≡ Verdict.Refused x → eqb (numberOf x) 17 ≡ false
-      unfolding writtenTable holdsForSome
-      factors-number q = never-refused 17 (writtenTable p (factorsIn file)) refl ev q
+      pub factors-number : {x : Refusal} → v ≡ Verdict.Refused x → clears (numberOf x) ≡ false
+      unfolding writtenTable holdsForSome clears clearing
+      factors-number q = never-clears (writtenTable p (factorsIn file)) refl ev q
 
       module _ (q : v ≡ Verdict.Accepted) where
         degrees : holdsForSome (fileDegreeOutOfRange (prime p)) (factorsIn file) ≡ false

@@ -3,7 +3,7 @@
 --   length-found      == the length of a body whose kind is in the list
 --   framed-flat       == whole records, put one after another, are the records of these bytes
 --   AnswersWhole x rs == where the result x is an answer, it is the records rs, and they are whole; a refusal
---                        is not by 17
+--                        does not clear the work bytes
 -- Assumes nothing.
 use Prim.Native.Nat.{ℕ}
 use native.Mathlib.Omega.{arith}
@@ -11,11 +11,10 @@ use mathlib.Core.Path.{_≡_, refl, sym, ap, _∙_}
 use mathlib.Core.Bool.{false}
 use mathlib.Core.List.{List, [], _∷_, _++_}
 use mathlib.Core.Option.{some}
-use borrow.Author.Tests.{ne-eqb}
-use lib.Dec.{eqb}
 use lib.Seq.{take-at, drop-at}
-use Rattle.meaning.specs.Result.{Result, refused, answered}
+use Rattle.meaning.specs.Result.{Result, refused, answered, clears}
 use Rattle.meaning.specs.Route.{RouteRecord, lookUp, bodyLengths}
+use Rattle.meaning.proofs.Tables.{keeps-low}
 use Rattle.bridge.proofs.Records.{flat, Whole, Walked}
 use Rattle.route.specs.framing.Framing.{orElse, bodyLength, framed}
 use Rattle.route.proofs.framing.Frames.{framed-cons}
@@ -35,11 +34,11 @@ framed-flat (r ∷ rs) w =
     ∙ (λ i. record { kind = r .kind; body = body i } ∷ (rest ∙ framed-flat rs (w .1)) i)
 
 abbrev pub AnswersWhole : Result (List RouteRecord) → List RouteRecord → Type 0
-AnswersWhole (refused n) rs = eqb n 17 ≡ false
+AnswersWhole (refused n) rs = clears n ≡ false
 AnswersWhole (answered qs) rs = (qs ≡ rs) × Whole qs
 
 pub walked-whole : (bytes : List ℕ) (x : Result (List RouteRecord)) → Walked x bytes
     → AnswersWhole x (framed bytes 0)
-walked-whole bytes (refused n) h = ne-eqb n 17 (λ e. omega arith)
+walked-whole bytes (refused n) h = keeps-low n (omega arith)
 walked-whole bytes (answered qs) h =
     (sym (framed-flat qs (h .1)) ∙ ap (λ (l : List ℕ). framed l 0) (h .0), h .1)

@@ -1,10 +1,9 @@
 // tools/profile: the shipped example, files against the second rater, a line where a file has no profile,
 // arguments and outputs, and no C compiler.
-mod common;
-
-use common::random::Random;
-use common::route::{self, Contents, Factor, Record};
-use common::{expect, output_of, primes, rater, sequence, Outcome};
+use super::{ended, stops, Ended};
+use crate::common::random::Random;
+use crate::common::route::{self, file_with, Contents, Factor};
+use crate::common::{expect, primes, rater, sequence, Outcome, Test};
 use std::fs;
 use std::os::unix::fs::symlink;
 use std::path::Path;
@@ -16,33 +15,8 @@ const SHARED: &str = "target/staticlib/libexports.so";
 const BUILT: &str = "target/tests";
 const RANDOM_FILES: u64 = 20;
 
-// How the tool ended: its status, and what it wrote to its two outputs.
-type Ended = (Option<i32>, String, String);
-
-fn ended(command: &mut Command, input: &[u8]) -> Result<Ended, String> {
-    let output = output_of(command, input)?;
-    let text = |bytes: &[u8]| String::from_utf8_lossy(bytes).into_owned();
-    Ok((
-        output.status.code(),
-        text(&output.stdout),
-        text(&output.stderr),
-    ))
-}
-
 fn tool(arguments: &[&str], input: &[u8]) -> Result<Ended, String> {
     ended(Command::new(TOOL).args(arguments), input)
-}
-
-// Nothing printed, the status, and one line that begins and ends so.
-fn stops(found: Ended, status: i32, begin: &str, end: &str) -> Result<(), String> {
-    let (code, output, said) = found;
-    let one =
-        said.lines().count() == 1 && said.starts_with(begin) && said.trim_end().ends_with(end);
-    expect(
-        (code, output.as_str(), one),
-        (Some(status), "", true),
-        || format!("{begin}..{end}: {said}"),
-    )
 }
 
 // The rows of the columns without their header, each as words.
@@ -69,21 +43,6 @@ fn expected(p: u64, terms: &[u8]) -> Vec<Vec<String>> {
             .collect()
     };
     (1..=terms.len()).map(row).collect()
-}
-
-fn file_of(c: &Contents) -> Vec<u8> {
-    let mut records = vec![
-        Record::of(1, &[0, 0, 0, 7]),
-        Record::of(2, &[c.p]),
-        Record::of(3, &[c.mode]),
-    ];
-    records.extend(c.factors.iter().map(|f| Record::of(4, &f.body())));
-    let blocks = c.terms.chunks_exact(64);
-    let singles = blocks.remainder();
-    records.extend(blocks.map(|block| Record::of(5, block)));
-    records.extend(singles.iter().map(|&term| Record::of(6, &[term])));
-    records.push(Record::of(8, &[]));
-    route::file_of(&records)
 }
 
 // The example: its first lines, where L jumps, all its rows, and the picture of the README.
@@ -152,7 +111,7 @@ fn against_the_second_rater() -> Outcome {
             factors,
             terms,
         };
-        let (code, columns, said) = tool(&[], &file_of(&held))?;
+        let (code, columns, said) = tool(&[], &file_with(&held))?;
         expect((code, said.as_str()), (Some(0), ""), || format!("{held:?}"))?;
         expect(rows(&columns), expected(p, &held.terms), || {
             format!("{held:?}")
@@ -164,7 +123,7 @@ fn against_the_second_rater() -> Outcome {
         factors: vec![],
         terms: random.elements(251, 4096),
     };
-    let (code, columns, said) = tool(&[], &file_of(&held))?;
+    let (code, columns, said) = tool(&[], &file_with(&held))?;
     expect((code, said.as_str()), (Some(0), ""), || {
         "4,096 terms".into()
     })?;
@@ -180,11 +139,11 @@ fn no_profile() -> Outcome {
         factors: vec![],
         terms: vec![0, 1, 4],
     };
-    let file = file_of(&good);
+    let file = file_with(&good);
     let with = |change: &dyn Fn(&mut Contents)| {
         let mut changed = good.clone();
         change(&mut changed);
-        file_of(&changed)
+        file_with(&changed)
     };
     let reasons = [
         "16,384 bytes",
@@ -281,15 +240,13 @@ fn no_compiler() -> Outcome {
     Ok(3)
 }
 
-fn main() {
-    common::run(
-        "profile",
-        &[
-            ("the example", example),
-            ("against the second rater", against_the_second_rater),
-            ("files without a profile", no_profile),
-            ("arguments", arguments),
-            ("no C compiler", no_compiler),
-        ],
-    )
-}
+pub const TESTS: [(&str, Test); 5] = [
+    ("profile: the example", example),
+    (
+        "profile: against the second rater",
+        against_the_second_rater,
+    ),
+    ("profile: files without one", no_profile),
+    ("profile: arguments", arguments),
+    ("profile: no C compiler", no_compiler),
+];

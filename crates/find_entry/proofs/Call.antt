@@ -1,0 +1,147 @@
+-- The call: what the verdict refuses, and what it answers where the verdict accepts.
+--
+--   entryChecks      == the refusals of the search without 19. Those of the free way for p = 2 decide them
+--                       (`entry-verdict`), since 2 is a prime
+--   entry-refused    == the call that the verdict refuses
+--   lent-halves, loaded-period, searched-room == what loading, searching and clearing ask
+--   entry-call       == the call with what the search of the loaded terms tells
+-- Assumes nothing.
+use Prim.Native.Nat.{ℕ, _≤_}
+use mathlib.Core.Path.{_≡_, refl, sym, ap, subst, _∙_}
+use mathlib.Core.Bool.{Bool, false}
+use mathlib.Core.List.{List, [], _∷_}
+use mathlib.Core.Option.{Option, none, some}
+use native.Mathlib.Omega.{arith}
+use lib.ListN.{length}
+use lib.Dec.{T}
+use Rattle.meaning.specs.declared.EntryRating.{EntryRating}
+use Rattle.meaning.specs.declared.Refusal.{Refusal}
+use Rattle.meaning.specs.Search.{holdsForSome, isNone}
+use Rattle.meaning.specs.Field.{prime, primeInRange, areElements}
+use Rattle.meaning.specs.Result.{refused, Check, firstOf, valueOf, clearing, clears, workAfter}
+use Rattle.meaning.specs.Result.{cleared}
+use Rattle.meaning.specs.Conditions.{notPrime, countOutOfRange, termOutOfField, lentTooShort}
+use Rattle.meaning.specs.Free.{freeTable}
+use Rattle.meaning.specs.Catalogue.{EntryFigures, firstEntry, entryTable, findEntry}
+use Rattle.meaning.specs.Answers.{numberOf, toldEntry}
+use Rattle.meaning.specs.Calls.{EntryCall}
+use Rattle.meaning.proofs.Computed.{computed}
+use Rattle.meaning.proofs.Tables.{firstOf-skip}
+use Rattle.meaning.proofs.Passes.{Passes}
+use Rattle.bridge.proofs.Accepted.{count-accepted, terms-accepted, lent-enough}
+use Rattle.lent.specs.halves.Halves.{half, Halves, Placed}
+use Rattle.lent.proofs.halves.Bytes.{placed-kept, kept-trans, cleared-kept}
+use Rattle.refusals.specs.declared.Verdict.{Verdict}
+use Rattle.refusals.specs.Verdicts.{numberIn}
+use Rattle.refusals.proofs.Settled.{verdict-passes, settle-early, settle-last, settle-over}
+use Rattle.refusals.proofs.Lent.{never-clears}
+use Rattle.find_entry.specs.Search.{BinaryPeriod, foundIn, EntryFound}
+
+pub two-prime : T (primeInRange 2)
+unfolding computed
+two-prime = tt
+
+unfoldable entryChecks : List ℕ → ℕ → List Check
+entryChecks ts work =
+    (7, λ _. countOutOfRange (length ts))
+    ∷ (8, λ _. termOutOfField (prime 2) ts)
+    ∷ (16, λ _. lentTooShort 4097 work)
+    ∷ []
+
+six-passes : notPrime 2 ≡ false
+unfolding computed
+six-passes = refl
+
+entry-verdict :
+    (ts : List ℕ) (work : ℕ) {x : Option ℕ}
+    → x ≡ firstOf (freeTable 2 ts 4097 work)
+    → x ≡ firstOf (entryChecks ts work)
+unfolding freeTable entryChecks
+entry-verdict ts work k = k ∙ firstOf-skip _ _ six-passes
+
+abbrev nineteen : List ℕ → Unit {0} → Bool
+nineteen ts _ = isNone (firstEntry ts)
+
+-- an answer and 19 leave the work bytes cleared
+work-found : (o : Option EntryFigures) (work : List ℕ) → workAfter (foundIn o) work ≡ cleared work
+unfolding workAfter clears clearing holdsForSome foundIn
+work-found none work = refl
+work-found (some a) work = refl
+
+work-kept : (n : ℕ) (work : List ℕ) → clears n ≡ false → workAfter {A = EntryFigures} (refused n) work ≡ work
+unfolding workAfter
+work-kept n work h = rw (h, workAfter)
+
+module _ (ts work : List ℕ) {v : Verdict} (k : numberIn v ≡ firstOf (freeTable 2 ts 4097 (length work))) where
+  pub entry-refused : {x : Refusal} → v ≡ Verdict.Refused x → EntryCall ts work (EntryRating.Refused x) work
+  unfolding findEntry entryTable entryChecks toldEntry clears clearing holdsForSome
+  entry-refused {x} q =
+      let e : findEntry ts (length work) ≡ refused (numberOf x) =
+      settle-early (entryChecks ts (length work)) (19, nineteen ts) (λ _. firstEntry ts)
+      (entry-verdict ts (length work) k) q in
+      let h : clears (numberOf x) ≡ false =
+      never-clears (entryChecks ts (length work)) refl (entry-verdict ts (length work) k) q in
+      record {
+        finding = sym e;
+        workBytes = sym (work-kept (numberOf x) work h) ∙ ap (λ r. workAfter r work) (sym e);
+      }
+
+  module _ (q : v ≡ Verdict.Accepted) where
+    passes : Passes (entryChecks ts (length work))
+    passes = verdict-passes (entryChecks ts (length work)) (entry-verdict ts (length work) k) q
+
+    count : (1 ≤ length ts) × (length ts ≤ 4096)
+    unfolding entryChecks
+    count = count-accepted (length ts) (passes .countInRange)
+
+    room : 8192 ≤ length work
+    unfolding entryChecks
+    room = lent-enough 4097 (length work) (passes .lentEnough) .1
+
+    binary : T (areElements (prime 2) ts)
+    unfolding entryChecks
+    binary = terms-accepted 2 ts (passes .termsInField)
+
+    pub lent-halves : Halves work 0 (length ts)
+    lent-halves = record { enough = room; which = omega arith; few = count .1 }
+
+    finds : findEntry ts (length work) ≡ foundIn (firstEntry ts)
+    unfolding findEntry entryTable entryChecks foundIn isNone valueOf
+    finds = go (firstEntry ts) refl
+      where
+        go : (o : Option EntryFigures) → firstEntry ts ≡ o
+            → findEntry ts (length work) ≡ foundIn (firstEntry ts)
+        go none e =
+            settle-last (entryChecks ts (length work)) (19, nineteen ts) (λ _. firstEntry ts)
+            (entry-verdict ts (length work) k) q (ap isNone e)
+            ∙ ap foundIn (sym e)
+        go (some a) e =
+            settle-over (entryChecks ts (length work)) (19, nineteen ts) (λ _. firstEntry ts)
+            (entry-verdict ts (length work) k) q (ap isNone e)
+            ∙ ap valueOf e
+            ∙ ap foundIn (sym e)
+
+    module _ {w₁ : List ℕ} (loaded : Placed work 0 1 ts w₁) where
+      pub loaded-period : BinaryPeriod w₁ (length ts)
+      loaded-period =
+          record {
+            halves =
+                record { enough = omega (arith, room, loaded .size); which = omega arith; few = count .1 };
+            atLeastOne = count .0;
+            binary = subst (λ l. T (areElements (prime 2) l)) (sym (loaded .made)) binary;
+          }
+
+      module _ {w₂ : List ℕ} {r : EntryRating} (found : EntryFound (half w₁ 0 (length ts)) w₁ w₂ r) where
+        pub searched-room : 8192 ≤ length w₂
+        searched-room = omega (arith, room, loaded .size, found .kept .size)
+
+        pub entry-call : {w₃ : List ℕ} → w₃ ≡ cleared w₂ → EntryCall ts work r w₃
+        entry-call e =
+            record {
+              finding = found .told ∙ ap (λ l. foundIn (firstEntry l)) (loaded .made) ∙ sym finds;
+              workBytes =
+                  e
+                  ∙ cleared-kept (kept-trans (placed-kept loaded) (found .kept))
+                  ∙ sym (work-found (firstEntry ts) work)
+                  ∙ ap (λ x. workAfter x work) (sym finds);
+            }

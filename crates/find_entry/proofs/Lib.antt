@@ -1,0 +1,4 @@
+pub mod Unpacking
+pub mod Looking
+pub mod Entries
+pub mod Call

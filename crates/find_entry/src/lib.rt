@@ -1,0 +1,157 @@
+// The search of the catalogue for a binary period: the first entry with a power that annihilates it, and the
+// least such power. The first 8,192 work bytes are two halves of 4,096; the terms are loaded into half 0
+// once, and stand there until an entry is found.
+use arith::GaloisField;
+use catalogue::catalogue_entry;
+use lent::blocks::act_block;
+use lent::clear;
+use lent::halves::load;
+use lent::smaller;
+use meaning::EntryRating;
+use meaning::Refusal;
+use period_way::Found;
+use period_way::search_level;
+use powers::levels::Level;
+use powers::levels::level_dividing;
+use refusals::Verdict;
+use refusals::free_verdict;
+ghost use mathlib.Core.Path.{_≡_};
+ghost use Prim.Native.Nat.{_+_, _≤_, _<_};
+ghost use lib.ListN.{length};
+ghost use Rattle.meaning.specs.Calls.{EntryCall};
+ghost use Rattle.arith.specs.Represented.{FieldOfPrime, fieldOf, WellFormed};
+ghost use Rattle.lent.specs.halves.Halves.{Halves, half};
+ghost use Rattle.powers.specs.levels.Levels.{Dividing};
+ghost use Rattle.period_way.specs.Period.{PeriodInput, PeriodSearched};
+ghost use Rattle.find_entry.specs.Search.{Look, Unpacked, BinaryPeriod, EntrySearched, EntryFound};
+
+// Leaves the coefficients of the polynomial of n, at most 11, at the front, and answers how many there are.
+fn unpack(n: u64, coefficients: &mut [u8]) -> usize
+    requires { ⌜ length (now coefficients) ≡ 11 ⌝ }
+    ensures { λ r. ⌜ Unpacked n (now (coefficients .exit)) r ⌝ }
+{
+    let mut rest = n;
+    let mut count = 0;
+    // the first `count` coefficients, and those of the polynomial of the rest after them, are those of n
+    while count < 11 {
+        if rest == 0 {
+            return count;
+        }
+        coefficients[count] = (rest % 2) as u8;
+        rest /= 2;
+        count += 1;
+    }
+    count
+}
+
+// The place from which m places of a period reach to its last term other than 0, or 0 where there are fewer
+// before it. What f leaves of a period with few such terms is seen there.
+fn last_places(ts: &[u8], m: usize) -> usize
+    requires { ⌜ m ≤ length (now ts) ⌝ }
+    ensures { λ r. ⌜ r + m ≤ length (now (ts .entry)) ⌝ }
+{
+    let mut end = ts.len();
+    // the terms from `end` on are 0
+    while m < end {
+        if ts[end - 1] != 0 {
+            return end - m;
+        }
+        end -= 1;
+    }
+    0
+}
+
+// The least power of f that annihilates the period of n terms in half 0, by a first look at the m places from
+// `at` on: where f^(p^w) leaves a term other than 0 there, no power annihilates it. Uses both halves, and
+// leaves all beyond them as it was; where there is no such power, the terms too.
+fn search_after_look(
+    field: GaloisField,
+    work: &mut [u8],
+    n: usize,
+    f: &[u8],
+    level: Level,
+    at: usize,
+    m: usize,
+) -> Found
+    requires { ⌜ WellFormed field ⌝ }
+    requires { ⌜ Halves (now work) 0 n ⌝ }
+    requires { ⌜ PeriodInput (fieldOf field) (now f) (half (now work) 0 n) ⌝ }
+    requires { ⌜ Dividing (field .size) n level ⌝ }
+    requires { ⌜ Look n at m ⌝ }
+    ensures { λ r. ⌜ PeriodSearched (fieldOf field) (now (f .entry)) (half (now (work .entry)) 0 n)
+        (now (work .entry)) (now (work .exit)) r ⌝ }
+{
+    if act_block(field, work, 0, n, at, f, level.power, 4096, m) {
+        search_level(field, work, n, f, level)
+    } else {
+        Found::Nothing
+    }
+}
+
+// The least power of entry i that annihilates the period of n terms in half 0, or nothing.
+fn search_entry(
+    field: GaloisField,
+    work: &mut [u8],
+    n: usize,
+    i: usize,
+    level: Level,
+    at: usize,
+    m: usize,
+) -> Found
+    requires { ⌜ FieldOfPrime 2 field ⌝ }
+    requires { ⌜ BinaryPeriod (now work) n ⌝ }
+    requires { ⌜ i < 226 ⌝ }
+    requires { ⌜ Dividing 2 n level ⌝ }
+    requires { ⌜ Look n at m ⌝ }
+    ensures { λ r. ⌜ EntrySearched i (now (work .entry)) n (now (work .exit)) r ⌝ }
+{
+    let mut coefficients = [0u8; 11];
+    let count = unpack(catalogue_entry(i), &mut coefficients);
+    search_after_look(field, work, n, &coefficients[0..count], level, at, m)
+}
+
+// The first entry with a power that annihilates the period of n terms in half 0, with the least such power,
+// or 19. Uses both halves, and leaves all beyond them as it was.
+fn first_entry(field: GaloisField, work: &mut [u8], n: usize) -> EntryRating
+    requires { ⌜ FieldOfPrime 2 field ⌝ }
+    requires { ⌜ BinaryPeriod (now work) n ⌝ }
+    ensures { λ r. ⌜ EntryFound (half (now (work .entry)) 0 n) (now (work .entry)) (now (work .exit)) r ⌝ }
+{
+    let level = level_dividing(2, n);
+    let m = smaller(64, n);
+    let at = last_places(&work[0..n], m);
+    let mut i = 0;
+    // no entry before entry i has a power, and the terms stand in half 0
+    while i < 226 {
+        match search_entry(field, work, n, i, level, at, m) {
+            Found::Power(power) => {
+                return EntryRating::Found {
+                    entry: catalogue_entry(i),
+                    power,
+                };
+            }
+            Found::Nothing => {
+                i += 1;
+            }
+        }
+    }
+    EntryRating::Refused(Refusal::NoEntry)
+}
+
+// The first entry of the catalogue with a power that annihilates the endless repetition of the terms, and the
+// least such power; or the refusal by 7, 8, 16 or 19. An answer and 19 leave zeros in the first 8,192 work
+// bytes. Every other lent byte stays as it was.
+pub fn find_entry(terms: &[u8], work: &mut [u8]) -> EntryRating
+    ensures { λ r. ⌜ EntryCall (now (terms .entry)) (now (work .entry)) r (now (work .exit)) ⌝ }
+{
+    // the checks of the free way for p = 2 and answer bytes that are enough
+    match free_verdict(2, terms, 4097, work.len()) {
+        Verdict::Refused(r) => EntryRating::Refused(r),
+        Verdict::Accepted => {
+            load(work, 0, terms);
+            let found = first_entry(GaloisField::of_prime(2), work, terms.len());
+            clear(work);
+            found
+        }
+    }
+}

@@ -1,0 +1,268 @@
+-- The catalogue and its search keep their promises, from the contracts of their calls alone.
+-- Assumes nothing.
+use Prim.Native.Nat.{ℕ, _≤_, _<_}
+use native.Mathlib.Omega.{arith}
+use mathlib.Core.Path.{_≡_, refl, sym, ap, subst, _∙_}
+use mathlib.Core.Logic.{_⊎_, inl, inr}
+use mathlib.Core.Bool.{Bool, true, false, _||_}
+use mathlib.Core.List.{List}
+use mathlib.Core.Option.{none, some}
+use lib.ListN.{length, getD, take, drop, replicate, length-replicate, List·getD-eq-default}
+use lib.Dec.{T, eqb, eqb→eq, eqb-refl, leb, leb→le}
+use Rattle.meaning.specs.declared.EntryRating.{EntryRating}
+use Rattle.meaning.specs.Search.{holdsForAll, holdsForSome, isNone}
+use Rattle.meaning.specs.Polynomial.{degree, NotAProduct}
+use Rattle.meaning.specs.Sequence.{periodic, LeastPower}
+use Rattle.meaning.specs.Result.{Result, refused, answered, clearing, clears, workAfter, cleared}
+use Rattle.meaning.specs.Route.{lookUp}
+use Rattle.meaning.specs.Period.{NoPower}
+use Rattle.meaning.specs.Catalogue.{EntryFigures, entryPolynomial, catalogue, entryPower, firstEntry}
+use Rattle.meaning.specs.Catalogue.{entryTable, findEntry}
+use Rattle.meaning.specs.Answers.{toldEntry}
+use Rattle.meaning.proofs.Tables.{isNone-none}
+use Rattle.meaning.proofs.Determined.{refusals, refusalOf, entry-call-determined, catalogue-call-determined}
+use Rattle.meaning.proofs.CatalogueRows.{zero-entry}
+use Rattle.bridge.proofs.Searches.{true-T, some-member, member-some, all-member, settle-answered}
+use Rattle.bridge.proofs.Searches.{settle-refused}
+use Rattle.bridge.proofs.Searches.{answered-same}
+use Rattle.bridge.proofs.Irreducibles.{irreducible-words, words-irreducible}
+use Rattle.bridge.proofs.Words.{value}
+use Rattle.bridge.proofs.Bits.{two}
+use Rattle.bridge.proofs.Periods.{periodPower-least, periodPower-none}
+use Rattle.bridge.proofs.Accepted.{count-accepted, lent-enough}
+use Rattle.bridge.proofs.Catalogue.{Listed, entry-length, entry-monic, entry-positive, number-entry}
+use Rattle.bridge.proofs.Catalogue.{number-small, number-large, member-listed, listed-member, entry-at}
+use Rattle.bridge.proofs.Catalogue.{first-found, first-missing}
+use Rattle.bridge.proofs.CatalogueTable.{catalogue-count, catalogue-rising}
+use Rattle.theorems.specs.Answering.{Answered, OneOf, Tells}
+use Rattle.theorems.specs.Ratings.{GF}
+use Rattle.theorems.specs.Catalogue.{searchNumbers, Entry, SearchLeaves, SearchAnswers, EntryAnswers}
+use Rattle.theorems.specs.Catalogue.{CataloguePromise, EntryAnswered, EntryRight, EntryPromise}
+use Rattle.theorems.specs.Catalogue.{SearchExport}
+use Rattle.theorems.proofs.Telling.{settle-tells, Listed as Numbered, meets, no-zero, work-untouched}
+use Rattle.theorems.proofs.Telling.{cleared-front, cleared-beyond, cleared-length}
+use Rattle.theorems.proofs.Answering.{present}
+use Rattle.theorems.proofs.OtherLanguages.{status-told}
+
+-- THE CATALOGUE
+entry-listed : {n : ℕ} → Entry n → Listed n
+entry-listed {n} h =
+    let (k, m, z) = some-member (eqb n) catalogue h in
+    subst Listed (sym (eqb→eq n k z)) (member-listed m)
+
+listed-entry : {n : ℕ} → Listed n → Entry n
+listed-entry {n} x = member-some (eqb n) catalogue n (listed-member x) (eqb-refl n)
+
+module _ {n : ℕ} (x : Listed n) where
+  listed-words : NotAProduct (GF 2) (entryPolynomial n)
+  listed-words =
+      irreducible-words two (entryPolynomial n) (entry-monic n (x .atLeast) (x .less))
+      (entry-positive n (x .atLeast) (x .less)) (x .irreducibility)
+
+words-listed : {n : ℕ} → 2 ≤ n → n < 2048 → NotAProduct (GF 2) (entryPolynomial n) → Listed n
+words-listed {n} l k w =
+    record { atLeast = l; less = k; irreducibility = words-irreducible two (entryPolynomial n) w }
+
+pub catalogue-promise : CataloguePromise
+unfolding degree
+catalogue-promise =
+    record {
+      entries = λ n. (
+        λ h. let x = entry-listed h in (x .atLeast, x .less, listed-words x),
+        λ h. listed-entry (words-listed (h .0) (h .1) (h .2)),
+      );
+      of-entry =
+          λ n h.
+          let x = entry-listed h in (
+            entry-monic n (x .atLeast) (x .less),
+            entry-positive n (x .atLeast) (x .less),
+            omega (arith, entry-length n),
+          );
+      polynomials = λ f m l k. (
+        λ w. (
+          value 2 f,
+          listed-entry
+              (words-listed (number-large f m l k) (number-small f m l k)
+              (subst (NotAProduct (GF 2)) (sym (number-entry f m l k)) w)),
+          number-entry f m l k,
+        ),
+        λ h. subst (NotAProduct (GF 2)) (h .2) (listed-words (entry-listed (h .1))),
+      );
+      count = catalogue-count;
+      rising = catalogue-rising;
+      told = λ i r c. (
+        λ l. subst Entry (sym (c .answer)) (listed-entry (entry-at i (omega (arith, catalogue-count)))),
+        λ l. c .answer ∙ List·getD-eq-default catalogue 0 (omega (arith, catalogue-count)),
+      );
+    }
+
+-- DEMAND 1
+search-listed : Numbered searchNumbers
+unfolding Numbered refusalOf refusals lookUp holdsForAll isNone
+search-listed = tt
+
+pub search-tells : (ts : List ℕ) (work : ℕ) → Tells searchNumbers (findEntry ts work)
+unfolding findEntry entryTable
+search-tells ts work = settle-tells _ (entryTable ts work) (λ h. present (firstEntry ts) (h .entryFound))
+
+search-lent : (ts : List ℕ) (work : ℕ) → Answered (findEntry ts work) ⊎ (findEntry ts work ≡ refused 19)
+    → 8192 ≤ work
+unfolding findEntry entryTable
+search-lent ts work (inl (a, e)) =
+    lent-enough 4097 work (settle-answered _ (entryTable ts work) e .0 .lentEnough) .1
+search-lent ts work (inr e) =
+    lent-enough 4097 work (settle-refused _ (entryTable ts work) (omega arith) e .0 .lentEnough) .1
+
+-- a number of the search is 19, or at most 16
+low-or-last : (n : ℕ) → OneOf n searchNumbers → (n ≤ 16) ⊎ (n ≡ 19)
+unfolding holdsForAll
+low-or-last n h =
+    let (k, m, z) = some-member (eqb n) searchNumbers h in
+    subst (λ j. (j ≤ 16) ⊎ (j ≡ 19)) (sym (eqb→eq n k z))
+    (by k (leb k 16) refl (all-member (λ k. leb k 16 || eqb k 19) searchNumbers tt k m))
+  where
+    by : (k : ℕ) (b : Bool) → leb k 16 ≡ b → T (leb k 16 || eqb k 19) → (k ≤ 16) ⊎ (k ≡ 19)
+    by k true e t = inl (leb→le k 16 (true-T e))
+    by k false e t = inr (eqb→eq k 19 (subst (λ b. T (b || eqb k 19)) e t))
+
+cleared-or-kept : (told : Result EntryFigures) → Tells searchNumbers told
+    → (Answered told ⊎ (told ≡ refused 19)) ⊎ ((n : ℕ) × (told ≡ refused n) × (n ≤ 16))
+cleared-or-kept told (inl a) = inl (inl a)
+cleared-or-kept told (inr (n, e, h)) = elim (low-or-last n h) [
+  | inl l ↦ inr (n, e, l)
+  | inr q ↦ inl (inr (e ∙ ap refused q))
+]
+
+-- the work bytes after a result that clears them, and after one that keeps them
+module _ (told : Result EntryFigures) (work work′ : List ℕ) (w : work′ ≡ workAfter told work) where
+  search-cleared : Answered told ⊎ (told ≡ refused 19) → work′ ≡ cleared work
+  unfolding workAfter clears clearing holdsForSome
+  search-cleared (inl (a, e)) = w ∙ ap (λ x. workAfter x work) e
+  search-cleared (inr e) = w ∙ ap (λ x. workAfter x work) e
+
+  search-kept : (n : ℕ) → told ≡ refused n → n ≤ 16 → work′ ≡ work
+  search-kept n e l = w ∙ ap (λ x. workAfter x work) e ∙ work-untouched EntryFigures n work l
+
+  search-leaves : Tells searchNumbers told → (Answered told ⊎ (told ≡ refused 19) → 8192 ≤ length work)
+      → SearchLeaves told work work′
+  search-leaves t room =
+      record {
+        tells = t;
+        work-kept = search-kept;
+        work-cleared = λ x. ap (take 8192) (search-cleared x) ∙ cleared-front work;
+        work-beyond = elim (cleared-or-kept told t) [
+          | inl x ↦ ap (drop 8192) (search-cleared x) ∙ cleared-beyond work
+          | inr (n, e, l) ↦ ap (drop 8192) (search-kept n e l)
+        ];
+        work-length = elim (cleared-or-kept told t) [
+          | inl x ↦ ap length (search-cleared x) ∙ cleared-length work (room x)
+          | inr (n, e, l) ↦ ap length (search-kept n e l)
+        ];
+      }
+
+-- what is told of a search, and what is left in the work bytes
+pub search-each : (ts work : List ℕ) (told : Result EntryFigures) (work′ : List ℕ)
+    → told ≡ findEntry ts (length work)
+    → work′ ≡ workAfter (findEntry ts (length work)) work
+    → SearchLeaves told work work′
+search-each ts work told work′ e w =
+    subst (λ x. SearchLeaves x work work′) (sym e)
+    (search-leaves (findEntry ts (length work)) work work′ w (search-tells ts (length work))
+    (search-lent ts (length work)))
+
+pub search-answers : SearchAnswers
+unfolding toldEntry
+search-answers ts work =
+    record {
+      each = λ r work′ c. search-each ts work (toldEntry r) work′ (c .finding) (c .workBytes);
+      some =
+          let (r, e) =
+          meets toldEntry (λ a. EntryRating.Found (a .entry) (a .power)) EntryRating.Refused (λ a. refl)
+          (λ z. refl) searchNumbers search-listed (findEntry ts (length work))
+          (search-tells ts (length work)) in
+          (r, workAfter (findEntry ts (length work)) work, record { finding = e; workBytes = refl });
+      one = λ r s _ _ c d. entry-call-determined c d;
+    }
+
+pub entry-answers : EntryAnswers
+entry-answers i =
+    record {
+      some = (getD catalogue i 0, record { answer = refl });
+      one = λ r s c d. catalogue-call-determined c d;
+    }
+
+-- THE SEARCH
+module _ (ts : List ℕ) (some-terms : 0 < length ts) where
+  least-power : (n : ℕ) {r : ℕ} → entryPower ts n ≡ some r
+      → LeastPower (GF 2) (entryPolynomial n) (periodic ts) r
+  unfolding entryPower
+  least-power n e = periodPower-least (GF 2) (entryPolynomial n) ts some-terms e
+
+  no-power : {n : ℕ} → Listed n → entryPower ts n ≡ none → NoPower (GF 2) (entryPolynomial n) ts
+  unfolding entryPower
+  no-power {n} x e =
+      periodPower-none two (entryPolynomial n) (entry-monic n (x .atLeast) (x .less))
+      (entry-positive n (x .atLeast) (x .less)) (x .irreducibility) ts some-terms e
+
+pub found-right : (ts : List ℕ) (work : ℕ) {a : EntryFigures} → findEntry ts work ≡ answered a
+    → EntryAnswered ts a
+unfolding findEntry entryTable
+found-right ts work {a} e =
+    let (h, q) = settle-answered _ (entryTable ts work) e in
+    let count = count-accepted (length ts) (h .countInRange) in
+    let x = first-found ts q in
+    record {
+      entry = listed-entry (x .entry);
+      least = least-power ts (count .0) (a .entry) (x .power);
+      first = λ n y l. no-power ts (count .0) (entry-listed y) (x .first n (entry-listed y) l);
+    }
+
+nineteen-right : (ts : List ℕ) (work : ℕ) → findEntry ts work ≡ refused 19
+    → (n : ℕ)
+    → Entry n
+    → NoPower (GF 2) (entryPolynomial n) ts
+unfolding findEntry entryTable
+nineteen-right ts work e n y =
+    let (h, z) = settle-refused _ (entryTable ts work) (omega arith) e in
+    let count = count-accepted (length ts) (h .countInRange) in
+    no-power ts (count .0) (entry-listed y) (first-missing ts (isNone-none (true-T z)) n (entry-listed y))
+
+zeros-right : (work n : ℕ) {a : EntryFigures} → findEntry (replicate n 0) work ≡ answered a
+    → a ≡ record { entry = 2; power = 0 }
+unfolding findEntry entryTable
+zeros-right work n {a} e =
+    let (h, _) = settle-answered _ (entryTable (replicate n 0) work) e in
+    let count = count-accepted (length (replicate n 0)) (h .countInRange) in
+    let size = length-replicate {A = ℕ} n 0 in
+    answered-same
+    (sym e
+    ∙ zero-entry n work (omega (arith, count .0, size)) (omega (arith, count .1, size))
+    (lent-enough 4097 work (h .lentEnough) .1))
+
+entry-right : (ts : List ℕ) (work : ℕ) (told : Result EntryFigures) → told ≡ findEntry ts work
+    → EntryRight ts told
+entry-right ts work told q =
+    record {
+      found = λ a e. found-right ts work (sym q ∙ e);
+      nineteen = λ e. nineteen-right ts work (sym q ∙ e);
+      zeros =
+          λ n z a e. zeros-right work n (ap (λ l. findEntry l work) (sym z) ∙ sym q ∙ e);
+    }
+
+pub entry-promise : EntryPromise
+entry-promise ts work r work′ c = entry-right ts (length work) (toldEntry r) (c .finding)
+
+-- OTHER LANGUAGES
+pub search-export : SearchExport
+unfolding holdsForSome
+search-export ts work entry power status work′ entry′ power′ x =
+    let result = findEntry ts (length work) in
+    record {
+      told = result;
+      status-told =
+          status-told searchNumbers result status (no-zero searchNumbers tt) (search-tells ts (length work))
+          (x .figures .told);
+      figures-told = x .figures;
+      answers = search-each ts work result work′ refl (x .workBytes);
+      right = entry-right ts (length work) result refl;
+    }

@@ -1,0 +1,127 @@
+-- The catalogue and its search, as statements about the contracts of their calls. The signs are those of
+-- Promises.
+--
+--   searchNumbers    == the numbers by which the search is refused
+--   Entry n          == n is an entry of the catalogue
+--   SearchAnswers    == demand 1 of the search; EntryAnswers == of the question for entry i, which is refused
+--                       by nothing
+--   CatalogueRight   == what the catalogue holds: the irreducible binary polynomials of degree 1 to 10, and
+--                       no others, as 226 rising numbers; and what the question for entry i answers
+--   EntryRight ts told == what the search tells of the period ts: the first entry with a power, its least
+--                       power, and what 19 means
+--   SearchExport     == the same of the search for other languages. (The exported question for entry i has
+--                       the contract `CatalogueCall`, and so its promises.)
+use Prim.Native.Nat.{ℕ, suc, _≤_, _<_}
+use mathlib.Core.Path.{_≡_}
+use mathlib.Core.Logic.{_⊎_, _↔_}
+use mathlib.Core.List.{List, [], _∷_}
+use lib.ListN.{length, getD, take, drop, replicate}
+use lib.Dec.{T}
+use Rattle.meaning.specs.declared.EntryRating.{EntryRating}
+use Rattle.meaning.specs.Polynomial.{Polynomial, degree, isMonicOver, NotAProduct}
+use Rattle.meaning.specs.Sequence.{periodic, LeastPower}
+use Rattle.meaning.specs.Result.{Result, refused, answered}
+use Rattle.meaning.specs.Period.{NoPower}
+use Rattle.meaning.specs.Catalogue.{EntryFigures, entryPolynomial, catalogue}
+use Rattle.meaning.specs.Answers.{toldEntry}
+use Rattle.meaning.specs.Calls.{EntryCall, CatalogueCall}
+use Rattle.meaning.specs.Exports.{EntryTold, EntryExported}
+use Rattle.theorems.specs.Answering.{Answered, OneOf, Tells}
+use Rattle.theorems.specs.Ratings.{GF}
+use Rattle.theorems.specs.OtherLanguages.{StatusTold}
+
+abbrev pub searchNumbers : List ℕ
+searchNumbers = 7 ∷ 8 ∷ 16 ∷ 19 ∷ []
+
+abbrev pub Entry : ℕ → Type 0
+Entry n = OneOf n catalogue
+
+-- DEMAND 1. The work bytes are as they were after 7, 8 and 16; after 19 and after an answer their first 8,192
+-- are 0; those beyond are as they were in every case.
+
+pub record SearchLeaves (told : Result EntryFigures) (work work′ : List ℕ) : Type 0 where
+  pub tells : Tells searchNumbers told
+  pub work-kept : (n : ℕ) → told ≡ refused n → n ≤ 16 → work′ ≡ work
+  pub work-cleared : Answered told ⊎ (told ≡ refused 19) → take 8192 work′ ≡ replicate 8192 0
+  pub work-beyond : drop 8192 work′ ≡ drop 8192 work
+  pub work-length : length work′ ≡ length work
+
+pub record Searching (ts work : List ℕ) : Type 0 where
+  pub each : (r : EntryRating) (work′ : List ℕ)
+      → EntryCall ts work r work′
+      → SearchLeaves (toldEntry r) work work′
+  pub some : (r : EntryRating) × (work′ : List ℕ) × EntryCall ts work r work′
+  pub one : (r s : EntryRating) (work′ work″ : List ℕ)
+      → EntryCall ts work r work′
+      → EntryCall ts work s work″
+      → (r ≡ s) × (work′ ≡ work″)
+
+abbrev pub SearchAnswers : Type 0
+SearchAnswers = (ts work : List ℕ) → Searching ts work
+
+pub record AskingEntry (i : ℕ) : Type 0 where
+  pub some : (r : ℕ) × CatalogueCall i r
+  pub one : (r s : ℕ) → CatalogueCall i r → CatalogueCall i s → r ≡ s
+
+abbrev pub EntryAnswers : Type 0
+EntryAnswers = (i : ℕ) → AskingEntry i
+
+-- THE CATALOGUE: an entry is a number from 2 to 2,047 whose polynomial is irreducible; these are the monic
+-- polynomials over GF(2) of degree 1 to 10, each with one number; there are 226, and each is less than the
+-- next. Entry i is told for i below 226, and 0, which is no entry, for every other.
+
+pub record CatalogueRight : Type 0 where
+  pub entries : (n : ℕ) → Entry n ↔ ((2 ≤ n) × (n < 2048) × NotAProduct (GF 2) (entryPolynomial n))
+  pub of-entry : (n : ℕ) → Entry n
+      → T (isMonicOver (GF 2) (entryPolynomial n))
+      × (1 ≤ degree (entryPolynomial n))
+      × (degree (entryPolynomial n) ≤ 10)
+  pub polynomials : (f : Polynomial)
+      → T (isMonicOver (GF 2) f)
+      → 1 ≤ degree f
+      → degree f ≤ 10
+      → NotAProduct (GF 2) f ↔ ((n : ℕ) × Entry n × (entryPolynomial n ≡ f))
+  pub count : length catalogue ≡ 226
+  pub rising : (i : ℕ) → suc i < length catalogue → getD catalogue i 0 < getD catalogue (suc i) 0
+  pub told : (i r : ℕ) → CatalogueCall i r → (i < 226 → Entry r) × (226 ≤ i → r ≡ 0)
+
+abbrev pub CataloguePromise : Type 0
+CataloguePromise = CatalogueRight
+
+-- THE SEARCH: the entry found has a power that annihilates the endless repetition, the power told is the
+-- least, and no entry that is a smaller number has one.
+
+pub record EntryAnswered (ts : List ℕ) (a : EntryFigures) : Type 0 where
+  pub entry : Entry (a .entry)
+  pub least : LeastPower (GF 2) (entryPolynomial (a .entry)) (periodic ts) (a .power)
+  pub first : (n : ℕ) → Entry n → n < a .entry → NoPower (GF 2) (entryPolynomial n) ts
+
+-- 19 means that no entry has a power. The zero sequence gives x, which is 2, and the power 0.
+pub record EntryRight (ts : List ℕ) (told : Result EntryFigures) : Type 0 where
+  pub found : (a : EntryFigures) → told ≡ answered a → EntryAnswered ts a
+  pub nineteen : told ≡ refused 19 → (n : ℕ) → Entry n → NoPower (GF 2) (entryPolynomial n) ts
+  pub zeros : (n : ℕ) → ts ≡ replicate n 0 → (a : EntryFigures)
+      → told ≡ answered a
+      → a ≡ record { entry = 2; power = 0 }
+
+abbrev pub EntryPromise : Type 0
+EntryPromise =
+    (ts work : List ℕ) (r : EntryRating) (work′ : List ℕ)
+    → EntryCall ts work r work′
+    → EntryRight ts (toldEntry r)
+
+-- OTHER LANGUAGES: the entry and the power are lent numbers
+
+pub record SearchExportRight (ts work : List ℕ) (entry power status : ℕ) (work′ : List ℕ) (entry′ power′ : ℕ)
+    : Type 0 where
+  pub told : Result EntryFigures
+  pub status-told : StatusTold told status
+  pub figures-told : EntryTold told entry power status entry′ power′
+  pub answers : SearchLeaves told work work′
+  pub right : EntryRight ts told
+
+abbrev pub SearchExport : Type 0
+SearchExport =
+    (ts work : List ℕ) (entry power status : ℕ) (work′ : List ℕ) (entry′ power′ : ℕ)
+    → EntryExported ts work entry power status work′ entry′ power′
+    → SearchExportRight ts work entry power status work′ entry′ power′

@@ -1,0 +1,50 @@
+"""The proved program and library, as the tools call them: what a file is refused by, and the exported calls."""
+import ctypes
+import pathlib
+import subprocess
+import sys
+
+ROOT = pathlib.Path(__file__).resolve().parent.parent
+LIBRARY = ROOT / "target/staticlib/libexports.so"
+MOST_BYTES = 16384
+MOST_TERMS = 4096
+REASONS = {
+    1: f"it has more than {MOST_BYTES:,} bytes",
+    2: "the kind of a record is not 1 to 8",
+    3: "it ends inside a record, or before the end record",
+    4: "a record is out of place",
+    5: "the mode is not 1, 2 or 3, or the factors do not suit it",
+    6: "p is not a prime from 2 to 251",
+    7: f"it has no terms, or more than {MOST_TERMS:,}",
+    8: "a term is p or more",
+}
+
+
+class Unmade(Exception):
+    """What is wrong with the library that is there."""
+
+
+def ended(ran):
+    """Ends the program where the program or the library could not be made: it has said why."""
+    if ran.returncode != 0:
+        sys.exit(ran.returncode if 0 < ran.returncode < 4 else 1)
+
+
+def refusal(file):
+    """The number by which the rating program turns a file down, and 0 where it does not. Ends where it could not be run."""
+    ran = subprocess.run([ROOT / "rate"], input=file, stdout=subprocess.PIPE)
+    ended(ran)
+    result = ran.stdout.splitlines()[1].split()
+    return int(result[2]) if result[1] == b"refused" else 0
+
+
+def exported(name, *arguments):
+    """An exported call, from the library as a shared object, which is made first where something changed."""
+    ended(subprocess.run([ROOT / "tools/library", "--shared", "exports"], stdin=subprocess.DEVNULL))
+    try:
+        call = getattr(ctypes.CDLL(str(LIBRARY)), name)
+    except (OSError, AttributeError) as what:
+        raise Unmade(what) from what
+    call.argtypes = arguments
+    call.restype = ctypes.c_uint64
+    return call
