@@ -522,6 +522,7 @@ Lines that are neither blank nor comments.
     bench/run               this page; the times of the proofs are those of the last check of all crates
     bench/run --proofs      the same, after proving every crate anew
     bench/leaves            the inner loops alone
+    bench/catalogue         the search of the catalogue beside calls of the period way
 '''
 
 

@@ -3,7 +3,8 @@
 --   entry-length     == the polynomial of a number has at most 11 coefficients
 --   entry-monic, entry-positive == for the numbers from 2 to 2,047 it is monic over GF(2) of positive degree,
 --                       by a test of them all
---   number-entry     == every such polynomial of degree at most 10 is that of its number
+--   number-entry     == every such polynomial of degree at most 10 is that of its number; `entry-number`: and a
+--                       number is that of its polynomial
 --   listed           == the test by which the catalogue selects
 --   member-listed, listed-member == a number is in the catalogue exactly where it is from 2 to 2,047 and its
 --                       polynomial is irreducible
@@ -24,7 +25,7 @@ use native.Mathlib.Omega.{arith}
 use native.Mathlib.Nat.{pow-le-pow-right, le-trans}
 use lib.ListN.{length, getD, drop}
 use lib.Seq.{drop-length}
-use lib.Dec.{T, T-not, eqb, leb, leb→le}
+use lib.Dec.{T, T-not, eqb, eqb→eq, leb, leb→le}
 use borrow.Author.Tests.{ne-eqb}
 use Rattle.meaning.specs.Search.{range, holdsForAll, firstThat, bind, isNone}
 use Rattle.meaning.specs.Field.{prime}
@@ -69,9 +70,17 @@ bits-suc most n h = rw (ne-eqb n 0 h, bitsUpTo)
 isEntry : ℕ → Bool
 isEntry n = isMonicOver (prime 2) (entryPolynomial n) && leb 1 (degree (entryPolynomial n))
 
+-- the bits of a number make it
+isNumber : ℕ → Bool
+isNumber n = eqb (value 2 (entryPolynomial n)) n
+
 all-entries : T (holdsForAll isEntry (range 2 2046))
 unfolding computed isEntry
 all-entries = tt
+
+all-numbers : T (holdsForAll isNumber (range 2 2046))
+unfolding computed isNumber value
+all-numbers = tt
 
 module _ (n : ℕ) (l : 2 ≤ n) (k : n < 2048) where
   is-entry : T (isMonicOver (prime 2) (entryPolynomial n)) × T (leb 1 (degree (entryPolynomial n)))
@@ -85,6 +94,10 @@ module _ (n : ℕ) (l : 2 ≤ n) (k : n < 2048) where
 
   pub entry-positive : 1 ≤ degree (entryPolynomial n)
   entry-positive = leb→le 1 (degree (entryPolynomial n)) (is-entry .1)
+
+  pub entry-number : value 2 (entryPolynomial n) ≡ n
+  unfolding isNumber
+  entry-number = eqb→eq _ n (all-range isNumber 2 2046 all-numbers n l (omega arith))
 
 -- THE NUMBER OF A POLYNOMIAL
 value-positive : {f : List ℕ} → Below 2 f → leading f ≡ 1 → value 2 f ≢ 0

@@ -5,9 +5,10 @@
 --                       constant term is not 0 and no divisor is found
 --   passes-listed    == this is the test of the catalogue, for the numbers from 2 to 2,047
 --   catalogue-table  == the catalogue is the table
---   catalogue-count, catalogue-rising == it has 226 numbers, and each is less than the next
+--   catalogue-count, catalogue-rising == it has 226 numbers, and each is less than the next, and so than all
+--                       after it (`catalogue-order`)
 -- Assumes nothing.
-use Prim.Native.Nat.{ℕ, zero, suc, _/_, _≤_, _<_}
+use Prim.Native.Nat.{ℕ, zero, suc, _+_, _/_, _≤_, _<_}
 use mathlib.Core.Path.{_≡_, refl, sym, ap, subst, _∙_}
 use mathlib.Core.Bool.{Bool, true, false, not}
 use mathlib.Core.List.{List, [], _∷_}
@@ -142,3 +143,17 @@ table-rising = tt
 
 pub catalogue-rising : (i : ℕ) → suc i < length catalogue → getD catalogue i 0 < getD catalogue (suc i) 0
 catalogue-rising = rising-at catalogue (subst (λ l. T (isRising l)) (sym catalogue-table) table-rising)
+
+pub catalogue-order : (i k : ℕ) → suc (i + k) < length catalogue
+    → getD catalogue i 0 < getD catalogue (suc (i + k)) 0
+catalogue-order i zero l =
+    let e : suc (i + zero) ≡ suc i = omega arith in
+    subst (λ j. getD catalogue i 0 < getD catalogue j 0) (sym e) (catalogue-rising i (omega arith))
+catalogue-order i (suc k) l =
+    let e : suc (i + suc k) ≡ suc (suc (i + k)) = omega arith in
+    omega (
+      arith,
+      catalogue-order i k (omega arith),
+      subst (λ j. getD catalogue (suc (i + k)) 0 < getD catalogue j 0) (sym e)
+          (catalogue-rising (suc (i + k)) (omega arith)),
+    )

@@ -6,7 +6,7 @@
 --   catalogue          == the numbers of the irreducible polynomials over GF(2) of degree 1 to 10, rising:
 --                         these polynomials have the numbers from 2 to 2,047
 --   entryPower ts n    == the least power of the polynomial of n that annihilates the period ts, or none
---   EntryFigures       == an entry of the catalogue, and a power
+--   EntryFigures       == an entry of the catalogue, and a power; entryFigures ts n == n with its power
 --   firstEntry ts      == the first entry that has such a power, with it, or none where no entry has one. For
 --                         the zero sequence that is x, with the power 0
 --   entryTable         == the refusals that the search meets, in order; 16 looks at the work bytes alone, as

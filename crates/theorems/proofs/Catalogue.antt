@@ -1,13 +1,13 @@
 -- The catalogue and its search keep their promises, from the contracts of their calls alone.
 -- Assumes nothing.
-use Prim.Native.Nat.{ℕ, _≤_, _<_}
+use Prim.Native.Nat.{ℕ, suc, _+_, _-_, _≤_, _<_}
 use native.Mathlib.Omega.{arith}
-use mathlib.Core.Path.{_≡_, refl, sym, ap, subst, _∙_}
+use mathlib.Core.Path.{_≡_, refl, sym, ap, subst, subst₂, _∙_}
 use mathlib.Core.Logic.{_⊎_, inl, inr}
 use mathlib.Core.Bool.{Bool, true, false, _||_}
 use mathlib.Core.List.{List}
 use mathlib.Core.Option.{none, some}
-use lib.ListN.{length, getD, take, drop, replicate, length-replicate, List·getD-eq-default}
+use lib.ListN.{length, getD, take, drop, List·getD-eq-default}
 use lib.Dec.{T, eqb, eqb→eq, eqb-refl, leb, leb→le}
 use Rattle.meaning.specs.declared.EntryRating.{EntryRating}
 use Rattle.meaning.specs.Search.{holdsForAll, holdsForSome, isNone}
@@ -24,16 +24,15 @@ use Rattle.meaning.proofs.Determined.{refusals, refusalOf, entry-call-determine
 use Rattle.meaning.proofs.CatalogueRows.{zero-entry}
 use Rattle.bridge.proofs.Searches.{true-T, some-member, member-some, all-member, settle-answered}
 use Rattle.bridge.proofs.Searches.{settle-refused}
-use Rattle.bridge.proofs.Searches.{answered-same}
 use Rattle.bridge.proofs.Irreducibles.{irreducible-words, words-irreducible}
 use Rattle.bridge.proofs.Words.{value}
 use Rattle.bridge.proofs.Bits.{two}
 use Rattle.bridge.proofs.Periods.{periodPower-least, periodPower-none}
 use Rattle.bridge.proofs.Accepted.{count-accepted, lent-enough}
-use Rattle.bridge.proofs.Catalogue.{Listed, entry-length, entry-monic, entry-positive, number-entry}
-use Rattle.bridge.proofs.Catalogue.{number-small, number-large, member-listed, listed-member, entry-at}
-use Rattle.bridge.proofs.Catalogue.{first-found, first-missing}
-use Rattle.bridge.proofs.CatalogueTable.{catalogue-count, catalogue-rising}
+use Rattle.bridge.proofs.Catalogue.{Listed, entry-length, entry-monic, entry-positive, entry-number}
+use Rattle.bridge.proofs.Catalogue.{number-entry, number-small, number-large, member-listed, listed-member}
+use Rattle.bridge.proofs.Catalogue.{entry-at, first-found, first-missing}
+use Rattle.bridge.proofs.CatalogueTable.{catalogue-count, catalogue-rising, catalogue-order}
 use Rattle.theorems.specs.Answering.{Answered, OneOf, Tells}
 use Rattle.theorems.specs.Ratings.{GF}
 use Rattle.theorems.specs.Catalogue.{searchNumbers, Entry, SearchLeaves, SearchAnswers, EntryAnswers}
@@ -88,12 +87,24 @@ catalogue-promise =
         ),
         λ h. subst (NotAProduct (GF 2)) (h .2) (listed-words (entry-listed (h .1))),
       );
+      one-number =
+          λ n m h k e.
+          let x = entry-listed h in
+          let y = entry-listed k in
+          sym (entry-number n (x .atLeast) (x .less))
+          ∙ ap (value 2) e
+          ∙ entry-number m (y .atLeast) (y .less);
       count = catalogue-count;
       rising = catalogue-rising;
       told = λ i r c. (
         λ l. subst Entry (sym (c .answer)) (listed-entry (entry-at i (omega (arith, catalogue-count)))),
         λ l. c .answer ∙ List·getD-eq-default catalogue 0 (omega (arith, catalogue-count)),
       );
+      told-rising =
+          λ i j r s c d l k.
+          let e : suc (i + (j - suc i)) ≡ j = omega arith in
+          subst₂ _<_ (sym (c .answer)) (ap (λ n. getD catalogue n 0) e ∙ sym (d .answer))
+          (catalogue-order i (j - suc i) (omega (arith, catalogue-count)));
     }
 
 -- DEMAND 1
@@ -227,26 +238,13 @@ nineteen-right ts work e n y =
     let count = count-accepted (length ts) (h .countInRange) in
     no-power ts (count .0) (entry-listed y) (first-missing ts (isNone-none (true-T z)) n (entry-listed y))
 
-zeros-right : (work n : ℕ) {a : EntryFigures} → findEntry (replicate n 0) work ≡ answered a
-    → a ≡ record { entry = 2; power = 0 }
-unfolding findEntry entryTable
-zeros-right work n {a} e =
-    let (h, _) = settle-answered _ (entryTable (replicate n 0) work) e in
-    let count = count-accepted (length (replicate n 0)) (h .countInRange) in
-    let size = length-replicate {A = ℕ} n 0 in
-    answered-same
-    (sym e
-    ∙ zero-entry n work (omega (arith, count .0, size)) (omega (arith, count .1, size))
-    (lent-enough 4097 work (h .lentEnough) .1))
-
 entry-right : (ts : List ℕ) (work : ℕ) (told : Result EntryFigures) → told ≡ findEntry ts work
-    → EntryRight ts told
+    → EntryRight ts work told
 entry-right ts work told q =
     record {
       found = λ a e. found-right ts work (sym q ∙ e);
       nineteen = λ e. nineteen-right ts work (sym q ∙ e);
-      zeros =
-          λ n z a e. zeros-right work n (ap (λ l. findEntry l work) (sym z) ∙ sym q ∙ e);
+      zeros = λ n z l k w. q ∙ ap (λ l. findEntry l work) z ∙ zero-entry n work l k w;
     }
 
 pub entry-promise : EntryPromise

@@ -7,8 +7,8 @@
 --                       by nothing
 --   CatalogueRight   == what the catalogue holds: the irreducible binary polynomials of degree 1 to 10, and
 --                       no others, as 226 rising numbers; and what the question for entry i answers
---   EntryRight ts told == what the search tells of the period ts: the first entry with a power, its least
---                       power, and what 19 means
+--   EntryRight ts work told == what the search tells of the period ts with so many work bytes: the first
+--                       entry with a power, its least power, what 19 means, and what zeros give
 --   SearchExport     == the same of the search for other languages. (The exported question for entry i has
 --                       the contract `CatalogueCall`, and so its promises.)
 use Prim.Native.Nat.{ℕ, suc, _≤_, _<_}
@@ -67,8 +67,9 @@ abbrev pub EntryAnswers : Type 0
 EntryAnswers = (i : ℕ) → AskingEntry i
 
 -- THE CATALOGUE: an entry is a number from 2 to 2,047 whose polynomial is irreducible; these are the monic
--- polynomials over GF(2) of degree 1 to 10, each with one number; there are 226, and each is less than the
--- next. Entry i is told for i below 226, and 0, which is no entry, for every other.
+-- irreducible polynomials over GF(2) of degree 1 to 10, each with one number; there are 226, and each is less
+-- than the next. What is told for i below 226 are entries, which rise with i, and so all of them; for every
+-- other i it is 0, which is no entry.
 
 pub record CatalogueRight : Type 0 where
   pub entries : (n : ℕ) → Entry n ↔ ((2 ≤ n) × (n < 2048) × NotAProduct (GF 2) (entryPolynomial n))
@@ -81,9 +82,11 @@ pub record CatalogueRight : Type 0 where
       → 1 ≤ degree f
       → degree f ≤ 10
       → NotAProduct (GF 2) f ↔ ((n : ℕ) × Entry n × (entryPolynomial n ≡ f))
+  pub one-number : (n m : ℕ) → Entry n → Entry m → entryPolynomial n ≡ entryPolynomial m → n ≡ m
   pub count : length catalogue ≡ 226
   pub rising : (i : ℕ) → suc i < length catalogue → getD catalogue i 0 < getD catalogue (suc i) 0
   pub told : (i r : ℕ) → CatalogueCall i r → (i < 226 → Entry r) × (226 ≤ i → r ≡ 0)
+  pub told-rising : (i j r s : ℕ) → CatalogueCall i r → CatalogueCall j s → i < j → j < 226 → r < s
 
 abbrev pub CataloguePromise : Type 0
 CataloguePromise = CatalogueRight
@@ -96,19 +99,18 @@ pub record EntryAnswered (ts : List ℕ) (a : EntryFigures) : Type 0 where
   pub least : LeastPower (GF 2) (entryPolynomial (a .entry)) (periodic ts) (a .power)
   pub first : (n : ℕ) → Entry n → n < a .entry → NoPower (GF 2) (entryPolynomial n) ts
 
--- 19 means that no entry has a power. The zero sequence gives x, which is 2, and the power 0.
-pub record EntryRight (ts : List ℕ) (told : Result EntryFigures) : Type 0 where
+-- 19 means that no entry has a power. Zeros, from 1 to 4,096 of them, give x, which is 2, and the power 0.
+pub record EntryRight (ts : List ℕ) (work : ℕ) (told : Result EntryFigures) : Type 0 where
   pub found : (a : EntryFigures) → told ≡ answered a → EntryAnswered ts a
   pub nineteen : told ≡ refused 19 → (n : ℕ) → Entry n → NoPower (GF 2) (entryPolynomial n) ts
-  pub zeros : (n : ℕ) → ts ≡ replicate n 0 → (a : EntryFigures)
-      → told ≡ answered a
-      → a ≡ record { entry = 2; power = 0 }
+  pub zeros : (n : ℕ) → ts ≡ replicate n 0 → 1 ≤ n → n ≤ 4096 → 8192 ≤ work
+      → told ≡ answered (record { entry = 2; power = 0 })
 
 abbrev pub EntryPromise : Type 0
 EntryPromise =
     (ts work : List ℕ) (r : EntryRating) (work′ : List ℕ)
     → EntryCall ts work r work′
-    → EntryRight ts (toldEntry r)
+    → EntryRight ts (length work) (toldEntry r)
 
 -- OTHER LANGUAGES: the entry and the power are lent numbers
 
@@ -118,7 +120,7 @@ pub record SearchExportRight (ts work : List ℕ) (entry power status : ℕ) (wo
   pub status-told : StatusTold told status
   pub figures-told : EntryTold told entry power status entry′ power′
   pub answers : SearchLeaves told work work′
-  pub right : EntryRight ts told
+  pub right : EntryRight ts (length work) told
 
 abbrev pub SearchExport : Type 0
 SearchExport =
