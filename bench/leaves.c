@@ -1,4 +1,4 @@
-// The leaves beside C in one run: sums of products, updates, and irreducibility.
+// The leaves beside C in one run: sums of products, updates, irreducibility, and shortest periods.
 // Each line has the time of the proved function, the time of the same work in C, and their ratio.
 #include "reference.h"
 #include <stdio.h>
@@ -11,6 +11,7 @@
 uint8_t leaf_dot(uint64_t p, const uint8_t *c, size_t m, const uint8_t *s, size_t n);
 void leaf_update(uint64_t p, uint8_t *a, size_t n, uint8_t c, const uint8_t *b, size_t m);
 uint64_t rater_is_irreducible(uint64_t p, const uint8_t *f, size_t n, uint8_t *yes);
+size_t leaf_shortest_period(const uint8_t *terms, size_t n);
 
 // ---- measurement
 
@@ -98,8 +99,24 @@ static void irreducibility(uint32_t p, int d) {
     (void)sink;
 }
 
+// n terms: random bits; zeros and then a one, which nearly repeat after every divisor of n; zeros
+static void periods(size_t n) {
+    static const char *const kinds[] = {"random", "0..01", "zero"};
+    static uint8_t terms[4096];
+    char what[80];
+    volatile size_t sink;
+    for (int kind = 0; kind < 3; kind++) {
+        for (size_t i = 0; i < n; i++) terms[i] = kind == 0 ? below(2) : kind == 1 && i == n - 1;
+        same(leaf_shortest_period(terms, n) == c_shortest_period(terms, n), "shortest period");
+        MEASURE(sink = leaf_shortest_period(terms, n), sink = c_shortest_period(terms, n), 3000, a, b)
+        snprintf(what, sizeof what, "shortest period, %zu terms, %s", n, kinds[kind]);
+        line(what, a / 1e3, b / 1e3, "µs");
+        (void)sink;
+    }
+}
+
 int main(void) {
-    printf("%-44s %10s %10s %-5s %6s\n", "per byte, or per polynomial", "proved", "C", "", "ratio");
+    printf("%-44s %10s %10s %-5s %6s\n", "per byte, or per call", "proved", "C", "", "ratio");
     vectors(2);
     vectors(251);
     irreducibility(2, 32);
@@ -107,5 +124,8 @@ int main(void) {
     irreducibility(5, 13);
     irreducibility(7, 11);
     irreducibility(251, 5);
+    periods(4096);
+    periods(3360);
+    periods(4093);
     return 0;
 }

@@ -1,6 +1,7 @@
 // The rating program in C, for a comparison of whole processes: reads one route file on standard input and prints what
 // the rating program prints. VERSION chooses the calls, as in ways.c.
 #include "calls.h"
+#include "reference.h"
 #include <stdio.h>
 #include <string.h>
 
@@ -95,7 +96,7 @@ int main(void) {
         printf("%u refused %d\n", box, (int)refusal);
         return 0;
     }
-    printf("%u ok %d/%d ", box, (int)degree, (int)count);
+    printf("%u ok %d/%d ", box, (int)degree, (int)(mode == 1 ? c_shortest_period(terms, count) : count));
     if (mode == 3) printf("%s", unique ? "one" : "some");
     for (size_t i = 0; i < factor_count; i++) printf(i == 0 ? "%d" : ",%d", (int)powers[i]);
     printf("\npoly");

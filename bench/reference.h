@@ -1,4 +1,4 @@
-// Sums of products, updates and irreducibility in C.
+// Sums of products, updates, irreducibility and shortest periods in C.
 #include <stdbool.h>
 #include <stddef.h>
 #include <stdint.h>
@@ -13,3 +13,6 @@ void c_update_by_division(uint16_t p, uint8_t *restrict a, uint8_t c, const uint
 // whether a polynomial of degree d is irreducible: by trial division, and by Ben-Or's test
 bool c_irreducible(uint32_t p, const uint8_t *f, int d);
 bool c_irreducible_ben_or(uint32_t p, const uint8_t *f, int d);
+
+// the shortest period of the endless repetition of n terms, n at least 1
+size_t c_shortest_period(const uint8_t *terms, size_t n);

@@ -1,9 +1,10 @@
 // The leaves of crates/leaves: sums of products, updates and remainders against direct loops, and at both sides of each
-// condition. A buffer that is lent stands between marks, and all of it is compared.
+// condition; shortest periods against every shift. A buffer that is lent stands between marks, and all of it is compared.
 mod common;
 
 use common::poly::{divided, monics, multiple, of_bytes, product, to_bytes};
 use common::random::Random;
+use common::sequence;
 use common::{expect, list, primes, run, Outcome, NO_PRIMES};
 
 mod exported {
@@ -11,6 +12,7 @@ mod exported {
         pub fn leaf_dot(p: u64, c: *const u8, m: usize, s: *const u8, n: usize) -> u8;
         pub fn leaf_update(p: u64, a: *mut u8, n: usize, c: u8, b: *const u8, m: usize);
         pub fn leaf_remainder(p: u64, f: *mut u8, n: usize, g: *const u8, m: usize);
+        pub fn leaf_shortest_period(terms: *const u8, n: usize) -> usize;
     }
 }
 
@@ -295,6 +297,57 @@ fn no_remainders() -> Outcome {
     Ok(cases)
 }
 
+// ---- shortest periods
+
+fn shortest(terms: &[u8]) -> usize {
+    unsafe { exported::leaf_shortest_period(terms.as_ptr(), terms.len()) }
+}
+
+fn shortest_agrees(terms: &[u8]) -> Result<(), String> {
+    expect(shortest(terms), sequence::shortest_period(terms), || {
+        list(terms)
+    })
+}
+
+// All binary periods of at most 12 terms and all ternary ones of at most 7, alone and several times over
+fn all_short_periods() -> Outcome {
+    let mut cases = 0;
+    for (p, most) in [(2, 12), (3, 7)] {
+        for terms in (1..=most).flat_map(|n| sequence::all(p, n)) {
+            for times in [1, 2, 3, 5] {
+                shortest_agrees(&terms.repeat(times))?;
+                cases += 1;
+            }
+        }
+    }
+    Ok(cases)
+}
+
+// Zeros and a one at the end, which nearly repeat after every divisor of their number; any bytes, several times over, and
+// then one of them changed
+fn long_periods() -> Outcome {
+    let mut random = Random::of_seed(28);
+    let mut cases = 0;
+    for n in [4096, 3360, 4093, 3990, 2310, 1024, 961, 257, 256] {
+        let mut terms = vec![0; n];
+        expect(shortest(&terms), 1, || format!("{n} zeros"))?;
+        terms[n - 1] = 1;
+        shortest_agrees(&terms)?;
+        cases += 2;
+    }
+    for _ in 0..300 {
+        let n = random.between(1, 400) as usize;
+        let times = random.between(1, 4096 / n as u64) as usize;
+        let mut terms = random.bytes(n).repeat(times);
+        shortest_agrees(&terms)?;
+        terms[random.below((n * times) as u64) as usize] ^= 1;
+        shortest_agrees(&terms)?;
+        cases += 2;
+    }
+    expect(shortest(&[]), 0, || "no terms".into())?;
+    Ok(cases + 1)
+}
+
 fn main() {
     run(
         "leaves",
@@ -307,6 +360,8 @@ fn main() {
             ("remainders", remainders),
             ("remainders of polynomials that are made", made),
             ("where no remainder is taken", no_remainders),
+            ("all short periods", all_short_periods),
+            ("long periods", long_periods),
         ],
     )
 }

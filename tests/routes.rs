@@ -9,7 +9,7 @@ use common::random::Random;
 use common::rater::{self, Input, Rating, Way};
 use common::route::{self, Contents, Factor, Record};
 use common::sequence;
-use common::{expect, primes, run, Outcome, EXAMPLES, NO_PRIMES};
+use common::{expect, list, primes, run, Outcome, EXAMPLES, NO_PRIMES};
 use std::collections::BTreeMap;
 use std::io::{Seek, SeekFrom, Write};
 use std::os::unix::fs::FileExt;
@@ -90,6 +90,14 @@ fn input_of(c: &Contents) -> Input {
     )
 }
 
+// The number after the stroke of the density: the shortest period in mode 1, else the number of terms.
+fn denominator(c: &Contents) -> usize {
+    match c.mode {
+        1 => sequence::shortest_period(&c.terms),
+        _ => c.terms.len(),
+    }
+}
+
 // What is printed after the density.
 fn label(rating: &Rating) -> String {
     match rating.unique {
@@ -118,7 +126,7 @@ fn compare(file: &[u8], lines: &str) -> Result<u64, String> {
         Ok(found) => found,
     };
     let degree = rating.polynomial.len() - 1;
-    let result = route::result_line(file, degree, c.terms.len(), &label(&rating));
+    let result = route::result_line(file, degree, denominator(&c), &label(&rating));
     let before = format!("{}{result}", route::HEADER);
     let poly = route::poly_line(&poly::to_bytes(&rating.polynomial));
     expect(lines, &(before + &poly), || case(file))?;
@@ -365,6 +373,45 @@ fn long_files() -> Outcome {
     })
 }
 
+// What is printed for a period over GF(p) with the factor x − 1, which is right and a rating.
+fn lines_of_period(p: u64, terms: &[u8]) -> Result<String, String> {
+    let mut records = vec![
+        Record::of(1, &[0, 0, 0, 7]),
+        Record::of(2, &[p as u8]),
+        Record::of(3, &[1]),
+        Record::of(4, &factor_of(&[p - 1, 1], 0).body()),
+    ];
+    records.extend(terms.iter().map(|&t| Record::of(6, &[t])));
+    records.push(Record::of(8, &[]));
+    let file = route::file_of(&records);
+    let lines = printed(&file)?;
+    expect(compare(&file, &lines)?, 0, || case(&file))?;
+    Ok(lines)
+}
+
+// Every period of so many terms, a power of p, alone and two, three and five times over: one endless sequence, and one
+// answer. A power of x − 1 annihilates it.
+fn repeated_periods() -> Outcome {
+    let two = "box result density powers\n7 ok 2/2 2\npoly 1 0 1\n";
+    for terms in [&[0, 1, 0, 1][..], &[0, 1, 0, 1, 0, 1, 0, 1]] {
+        expect(lines_of_period(2, terms)?.as_str(), two, || list(terms))?;
+    }
+    let mut cases = 2;
+    for (p, n) in [(2, 1), (2, 2), (2, 4), (2, 8), (3, 1), (3, 3)] {
+        for terms in sequence::all(p, n) {
+            let lines = lines_of_period(p, &terms)?;
+            for times in [2, 3, 5] {
+                let repeated = lines_of_period(p, &terms.repeat(times))?;
+                expect(&repeated, &lines, || {
+                    format!("{} {times} times", list(&terms))
+                })?;
+            }
+            cases += 4;
+        }
+    }
+    Ok(cases)
+}
+
 // Files with one fault or several: each refusal that a file can meet comes up, and every answer is right.
 fn refused_files() -> Outcome {
     let mut random = Random::of_seed(3);
@@ -565,6 +612,7 @@ fn main() {
             ("the examples", examples),
             ("valid files of all modes", valid_files),
             ("long files", long_files),
+            ("periods several times over", repeated_periods),
             ("refused files", refused_files),
             ("cut and extended files", cut_files),
             ("the limit of bytes", limit_of_bytes),

@@ -194,8 +194,8 @@ pub fn refused_lines(file: &[u8], number: u64) -> String {
 }
 
 // The result line of a rating. The label is the powers with commas, or the word of the free way.
-pub fn result_line(file: &[u8], degree: usize, terms: usize, label: &str) -> String {
-    format!("{} ok {degree}/{terms} {label}\n", box_of(file))
+pub fn result_line(file: &[u8], degree: usize, denominator: usize, label: &str) -> String {
+    format!("{} ok {degree}/{denominator} {label}\n", box_of(file))
 }
 
 pub fn poly_line(g: &[u8]) -> String {

@@ -9,6 +9,7 @@
 --   Periodic s n       == s repeats every n terms; every sequence repeats every 0 terms
 --   periodic-kills     == s repeats every n terms exactly where x^n − 1 annihilates it
 --   periodic-equal     == sequences with the same period of n terms, n > 0, that agree on n terms are equal
+--   periodic-divisor   == where d divides a period t, s repeats every d terms if the terms of one period do
 --   periodic-places    == a polynomial whose action on s vanishes at the n places of a period annihilates s
 --
 -- x^n − 1 is `unity` of Derivative; it is coprime to x for n above 0 (`coprime-unity`), so that a sequence
@@ -16,8 +17,9 @@
 -- Assumes nothing.
 use mathlib.Core.Path.{_≡_, refl, sym, ap, ap₂, _∙_}
 use mathlib.Core.Logic.{inl, inr, _↔_}
-use Prim.Native.Nat.{ℕ, zero, suc, _+_, _*_, _/_, _%_, _<_}
+use Prim.Native.Nat.{ℕ, zero, suc, _+_, _-_, _*_, _/_, _%_, _≤_, _<_, _∣_}
 use native.Mathlib.Nat as ℕ
+use native.Mathlib.Decide.{decLt}
 use native.Mathlib.Omega.{arith}
 use Rattle.algebra.proofs.Ring.{Ring, Field}
 use Rattle.algebra.proofs.Ring.{sub-zero-of-eq, eq-of-sub-zero}
@@ -151,6 +153,31 @@ pub periodic-all :
     → (i : ℕ)
     → s i ≡ a
 periodic-all n h a l = periodic-equal n l h (λ _. refl)
+
+-- Where d divides a period t, the terms of one period tell whether s repeats every d terms.
+module _ {K : Type 0} {s : ℕ → K} (d t : ℕ) (d-pos : 0 < d) (t-pos : 0 < t) (divides : d ∣ t)
+    (periodic : Periodic s t) (within : (i : ℕ) → i + d < t → s (i + d) ≡ s i) where
+  first-places : (b i : ℕ) → i ≤ b → i < t → s (i % d) ≡ s i
+  first-places zero i l k = ap s (ℕ.mod-eq-of-lt (omega arith))
+  first-places (suc b) i l k = elim (decLt i d) [
+    | yes c ↦ ap s (ℕ.mod-eq-of-lt c)
+    | no c ↦
+        let e : i - d + d ≡ i = ℕ.sub-add-cancel (omega arith) in
+        ap s (ap (λ (j : ℕ). j % d) (sym e) ∙ ℕ.add-mod-right (i - d) d)
+        ∙ first-places b (i - d) (omega arith) (omega arith)
+        ∙ sym (within (i - d) (omega arith))
+        ∙ ap s e
+  ]
+
+  place-remainder : (i : ℕ) → s (i % d) ≡ s i
+  place-remainder i =
+      ap s (sym (ℕ.mod-mod-of-dvd d i divides))
+      ∙ first-places t (i % t) (omega (arith, ℕ.mod-lt i t-pos)) (ℕ.mod-lt i t-pos)
+      ∙ periodic-remainder t periodic i
+
+  pub periodic-divisor : Periodic s d
+  periodic-divisor i =
+      sym (place-remainder (i + d)) ∙ ap s (ℕ.add-mod-right i d) ∙ place-remainder i
 
 module _ {K : Type 0} {R : Ring K} {D : Discrete K} where
   open Ring R using (0#)

@@ -1,4 +1,5 @@
 pub mod Number
+pub mod Excess
 pub mod Binomial
 pub mod Ring
 pub mod Multiple

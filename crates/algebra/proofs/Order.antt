@@ -2,6 +2,7 @@
 --
 --   LeastPeriod s n      == n is the least positive number such that s repeats every n terms
 --   least-period         == a sequence that repeats every m terms, m > 0, has a least period, at most m
+--   periodic-agree       == where s repeats every m terms, m > 0, as many terms tell whether it does every n
 --   least-period-divides == the least period divides every period
 --   x-order              == over a field of q elements, f irreducible of degree d, not x: f divides
 --                           x^(q^d-1) - 1
@@ -41,7 +42,7 @@ LeastPeriod s = Least (λ n. (0 < n) × Periodic s n)
 
 module _ {K : Type 0} {s : ℕ → K} where
   -- The terms of one period tell whether s repeats every n terms
-  periodic-agree : (m n : ℕ) → 0 < m → Periodic s m → Agree m (λ i. s (i + n)) s → Periodic s n
+  pub periodic-agree : (m n : ℕ) → 0 < m → Periodic s m → Agree m (λ i. s (i + n)) s → Periodic s n
   periodic-agree m n l h = periodic-equal m l (λ i. ap s (omega arith) ∙ h (i + n)) h
 
   pub periodic-decided : Discrete K → (m : ℕ) → 0 < m → Periodic s m → (n : ℕ) → Dec (Periodic s n)

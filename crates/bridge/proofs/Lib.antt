@@ -22,6 +22,7 @@ pub mod PowerSearch
 pub mod Portions
 pub mod Periods
 pub mod RepeatBounds
+pub mod Repeats
 pub mod Padding
 pub mod Coefficients
 pub mod MasseySteps

@@ -1,2 +1,3 @@
 pub mod Remaindering
 pub mod Suiting
+pub mod Repeating

@@ -1,16 +1,18 @@
-// Leaves of the arithmetic on slices, for benchmarks and tests from another language. Where what a leaf
-// requires does not hold, the answer is 0, and all bytes stay as they were.
+// Leaves on slices, of the arithmetic and of the shortest period, for benchmarks and tests from another
+// language. Where what a leaf requires does not hold, the answer is 0, and all bytes stay as they were.
 use arith::GaloisField;
 use arith::primes::prime_in_range;
 use conditions::lists::coefficient_out_of_range;
 use conditions::lists::term_out_of_field;
 use poly::division::divide;
+use repetition::shortest_period;
 ghost use mathlib.Core.Path.{_≡_};
 ghost use lib.ListN.{length};
 ghost use Rattle.meaning.specs.Field.{prime, primeInRange};
 ghost use Rattle.meaning.specs.Sequence.{actAt, known};
+ghost use Rattle.meaning.specs.Repeat.{shortestPeriod};
 ghost use Rattle.arith.specs.Slices.{combined};
-ghost use Rattle.leaves.specs.Suited.{suited, whereSuited};
+ghost use Rattle.leaves.specs.Suited.{suited, whereSuited, whereFound};
 ghost use Rattle.leaves.specs.Remaindered.{Remaindered};
 
 // Whether `first` is at most `second` and at most 65,536, and p is a prime in range.
@@ -68,4 +70,15 @@ pub extern "C" fn leaf_remainder(p: u64, f: &mut [u8], g: &[u8])
         return;
     }
     divide(GaloisField::of_prime(p), f, g);
+}
+
+// The shortest period of the endless repetition of the terms.
+#[no_mangle]
+pub extern "C" fn leaf_shortest_period(terms: &[u8]) -> usize
+    ensures { λ r. ⌜ r ≡ whereFound (shortestPeriod (now (terms .entry))) ⌝ }
+{
+    if terms.len() == 0 {
+        return 0;
+    }
+    shortest_period(terms)
 }

@@ -41,6 +41,10 @@ fileA = caseA 3 (1 ∷ 1 ∷ [])
 abbrev pub fileB : List ℕ
 fileB = box 7 ++ (field 2 ++ (mode 1 ++ (factor 1 0 (1 ∷ []) ++ (terms (0 ∷ 0 ∷ 0 ∷ 1 ∷ []) ++ end))))
 
+-- the period 01 twice
+abbrev pub fileTwice : List ℕ
+fileTwice = box 7 ++ (field 2 ++ (mode 1 ++ (factor 1 0 (1 ∷ []) ++ (terms (0 ∷ 1 ∷ 0 ∷ 1 ∷ []) ++ end))))
+
 abbrev pub fileI : List ℕ
 fileI = box 7 ++ (field 2 ++ (mode 3 ++ (terms (0 ∷ 1 ∷ []) ++ end)))
 
@@ -106,6 +110,10 @@ pub record CallRows : Type 0 where
       (record { sender = 7; outcome = FileOutcome.Powers 4 4 1; powers = 4 ∷ 0 ∷ 0 ∷ 0 ∷ 0 ∷ 0 ∷ 0 ∷ 0 ∷ [] })
       (1 ∷ 0 ∷ 0 ∷ 0 ∷ 1 ∷ replicate 4094 7)
       cleared
+  pub ratedTwice : FileCall fileTwice answer work
+      (record { sender = 7; outcome = FileOutcome.Powers 2 2 1; powers = 2 ∷ replicate 7 0 })
+      (1 ∷ 0 ∷ 1 ∷ replicate 4096 7)
+      cleared
   pub ratedA : FileCall fileA answer work
       (record { sender = 7; outcome = FileOutcome.Powers 12 18 1; powers = 4 ∷ replicate 7 0 })
       (1 ∷ 0 ∷ 0 ∷ 0 ∷ 1 ∷ 0 ∷ 0 ∷ 0 ∷ 0 ∷ 0 ∷ 0 ∷ 0 ∷ 1 ∷ replicate 4086 7)
@@ -158,6 +166,13 @@ call-rows =
       continueN = record { filling = refl; bufferBytes = refl };
       continueSeven = record { filling = refl; bufferBytes = refl };
       ratedB =
+          record {
+            sender = refl;
+            rating = refl;
+            powers = refl;
+            lent = record { answerBytes = refl; workBytes = refl };
+          };
+      ratedTwice =
           record {
             sender = refl;
             rating = refl;

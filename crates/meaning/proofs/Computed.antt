@@ -20,6 +20,7 @@ use Rattle.meaning.specs.Conditions.{isAsked, isReducible, twoEqual, upp
 use Rattle.meaning.specs.Conditions.{fewerTermsThan}
 use Rattle.meaning.specs.Conditions.{startUnlikeDegree, lentTooShort, acceptedLent}
 use Rattle.meaning.specs.Power.{isX, repeatBound, powerRating}
+use Rattle.meaning.specs.Repeat.{repeatsEvery, shortestPeriod}
 use Rattle.meaning.specs.Period.{periodPower, periodTable, periodAnswer, ratePeriod}
 use Rattle.meaning.specs.Portion.{factorsOf, withPower, leastAt, setPowers, onward, setRating, setTable}
 use Rattle.meaning.specs.Portion.{setAnswer, rateSet, factorTable, acceptedFactors, portionTable}
@@ -91,6 +92,10 @@ openConditions-3 = tt
 unfoldable pub openPower : Unit {0}
 unfolding isX repeatBound powerRating
 openPower = tt
+
+unfoldable pub openRepeat : Unit {0}
+unfolding repeatsEvery shortestPeriod
+openRepeat = tt
 
 unfoldable pub openPeriod : Unit {0}
 unfolding periodPower periodTable periodAnswer ratePeriod
@@ -170,7 +175,7 @@ unfolding openSequence-2 openResult openConditions-1 openConditions-2 openCondit
 opened-2 = tt
 
 unfoldable pub opened-3 : Unit {0}
-unfolding openPower openPeriod openPortion-1 openPortion-2 openFree openMeter openProfile
+unfolding openPower openRepeat openPeriod openPortion-1 openPortion-2 openFree openMeter openProfile
 opened-3 = tt
 
 unfoldable pub opened-4 : Unit {0}

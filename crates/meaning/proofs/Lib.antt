@@ -12,6 +12,7 @@ pub mod MeterRows
 pub mod CatalogueRows
 pub mod FirstFits
 pub mod Lines
+pub mod RepeatRows
 pub mod Lent
 pub mod Determined
 pub mod CallRows

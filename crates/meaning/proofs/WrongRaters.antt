@@ -22,7 +22,7 @@ use Rattle.meaning.specs.Answers.{SetTold, FileTold, withPowers, withOne
 use Rattle.meaning.specs.Calls.{PeriodCall, PortionCall, SetCall, FreeCall, FileCall, ProgramCall}
 use Rattle.meaning.proofs.Computed.{computed}
 use Rattle.meaning.proofs.Rows.{x+1, x²+1, x²+x+1}
-use Rattle.meaning.proofs.CallRows.{answer, work, fileA, fileH, fileI, eightZeros, differ}
+use Rattle.meaning.proofs.CallRows.{answer, work, fileA, fileTwice, fileH, fileI, eightZeros, differ}
 
 -- THE PORTION, THE PERIOD AND THE FREE CALL, on row A (a portion, with x³ + x + 1 and the upper power 6) and
 -- on row B (a period, with x + 1)
@@ -167,8 +167,8 @@ wrong-sets =
       refused-and-written = λ a w e c. differ 1 7 (ap (at 0) (sym e ∙ c .lent .answerBytes)) refl;
     }
 
--- THE FILE CALL, on row A as a file of box 7 in mode 2, and on the rows H and I as files in mode 3, of which
--- H has `one` and I has `some`
+-- THE FILE CALL, on row A as a file of box 7 in mode 2, on the rows H and I as files in mode 3, of which H
+-- has `one` and I has `some`, and on the period 0101 as a file in mode 1
 
 abbrev FileOf : List ℕ → FileOutcome → List ℕ → List ℕ → List ℕ → Type 0
 FileOf file o eight answer′ work′ =
@@ -190,25 +190,27 @@ pub record WrongFiles : Type 0 where
   pub work-not-cleared : (answer′ : List ℕ)
       → FileOf fileA (FileOutcome.Powers 12 18 1) (first 4) answer′ work
       → ⊥
-  -- the word, the number of terms and the box
+  -- the word, the denominator and the box
   pub some-for-one : WrongOnFile fileH (FileOutcome.Several 1 2) eightZeros
   pub one-for-some : WrongOnFile fileI (FileOutcome.Unique 2 2) eightZeros
   pub terms-miscounted : WrongOnFile fileA (FileOutcome.Powers 12 17 1) (first 4)
+  pub terms-for-period : WrongOnFile fileTwice (FileOutcome.Powers 2 4 1) (first 2)
+  pub reduced : WrongOnFile fileTwice (FileOutcome.Powers 1 1 1) (first 2)
   pub box-forgotten : (answer′ work′ : List ℕ)
       → FileCall fileA answer work
       (record { sender = 0; outcome = FileOutcome.Powers 12 18 1; powers = first 4 }) answer′ work′
       → ⊥
 
--- the degree that is told; the number of terms; 1 for the word `one`
+-- the degree that is told; the denominator of the density; 1 for the word `one`
 degree-told : FileTold → ℕ
 degree-told (withPowers d m n) = d
 degree-told (withOne d m) = d
 degree-told (withSome d m) = d
 
-terms-told : FileTold → ℕ
-terms-told (withPowers d m n) = m
-terms-told (withOne d m) = m
-terms-told (withSome d m) = m
+denominator-told : FileTold → ℕ
+denominator-told (withPowers d m n) = m
+denominator-told (withOne d m) = m
+denominator-told (withSome d m) = m
 
 word-told : FileTold → ℕ
 word-told (withPowers d m n) = 0
@@ -216,7 +218,7 @@ word-told (withOne d m) = 1
 word-told (withSome d m) = 2
 
 pub wrong-files : WrongFiles
-unfolding computed figure degree-told terms-told word-told at
+unfolding computed figure degree-told denominator-told word-told at
 wrong-files =
     record {
       top-digit-only = λ a w c. differ 9 12 (ap (figure degree-told) (c .rating)) refl;
@@ -229,7 +231,9 @@ wrong-files =
       work-not-cleared = λ a c. differ 9 0 (ap (at 0) (c .lent .workBytes)) refl;
       some-for-one = λ a w c. differ 2 1 (ap (figure word-told) (c .rating)) refl;
       one-for-some = λ a w c. differ 1 2 (ap (figure word-told) (c .rating)) refl;
-      terms-miscounted = λ a w c. differ 17 18 (ap (figure terms-told) (c .rating)) refl;
+      terms-miscounted = λ a w c. differ 17 18 (ap (figure denominator-told) (c .rating)) refl;
+      terms-for-period = λ a w c. differ 4 2 (ap (figure denominator-told) (c .rating)) refl;
+      reduced = λ a w c. differ 1 2 (ap (figure denominator-told) (c .rating)) refl;
       box-forgotten = λ a w c. differ 0 7 (c .sender) refl;
     }
 
@@ -251,6 +255,10 @@ pub record WrongPrograms : Type 0 where
   pub leading-first : WrongLinesOnA
       (text "box result density powers\n7 ok 12/18 4\npoly 1 0 0 0 0 0 0 0 1 0 0 0 1\n")
   pub density-turned : WrongLinesOnA (text "box result density powers\n7 ok 18/12 4\n")
+  -- on the file of the period 0101, the number of terms in the place of the shortest period
+  pub terms-for-period : (rest : List ℕ)
+      → ProgramCall fileTwice (text "box result density powers\n7 ok 2/4 2\n" ++ rest)
+      → ⊥
   -- on the file of row I, x² + 1 in the place of x²
   pub later-one : (rest : List ℕ)
       → ProgramCall fileI (text "box result density powers\n7 ok 2/2 some\npoly 1 0 1\n" ++ rest)
@@ -269,5 +277,6 @@ wrong-programs =
       nothing-written = λ c. differ 0 98 (ap (at 0) (c .lines)) refl;
       leading-first = λ l c. differ 48 49 (ap (at 52) (c .lines)) refl;
       density-turned = λ l c. differ 56 50 (ap (at 32) (c .lines)) refl;
+      terms-for-period = λ l c. differ 52 50 (ap (at 33) (c .lines)) refl;
       later-one = λ l c. differ 49 48 (ap (at 45) (c .lines)) refl;
     }

@@ -5,7 +5,7 @@
 --   toldIrreducible, toldFilling, toldPower, toldFree, toldStart, toldEntry, toldSet, toldFile, toldRecord ==
 --                          the result that an answer tells; of a start the meter itself
 --   SetTold, FileTold == what the answers of a set and of a file tell beside their eight powers; `count` is
---                        the number of powers
+--                        the number of powers, and `denominator` the number after the stroke of the density
 --   setFiguresTold, fileFiguresTold == what they should tell of the figures
 --   padded rs         == the powers as they stand in eight places: in order, then zeros
 --   setPadded, filePadded == the eight places after a result; all zeros where refused or where there are no
@@ -99,9 +99,9 @@ unfoldable pub setFiguresTold : SetFigures → SetTold
 setFiguresTold a = record { degree = a .degree; count = length (a .powers) }
 
 pub data FileTold : Type 0 where
-  withPowers : (degree terms count : ℕ) → FileTold
-  withOne : (degree terms : ℕ) → FileTold
-  withSome : (degree terms : ℕ) → FileTold
+  withPowers : (degree denominator count : ℕ) → FileTold
+  withOne : (degree denominator : ℕ) → FileTold
+  withSome : (degree denominator : ℕ) → FileTold
 
 unfoldable pub toldFile : FileOutcome → Result FileTold
 toldFile (FileOutcome.Powers d m n) = answered (withPowers d m n)
@@ -115,7 +115,7 @@ labelTold unique d m = withOne d m
 labelTold several d m = withSome d m
 
 unfoldable pub fileFiguresTold : FileFigures → FileTold
-fileFiguresTold a = labelTold (a .label) (a .degree) (a .terms)
+fileFiguresTold a = labelTold (a .label) (a .degree) (a .denominator)
 
 unfoldable pub toldRecord : RecordOutcome → Result ℕ
 toldRecord (RecordOutcome.Found k) = answered k

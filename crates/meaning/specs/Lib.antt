@@ -5,6 +5,7 @@ pub mod Sequence
 pub mod Result
 pub mod Conditions
 pub mod Power
+pub mod Repeat
 pub mod Period
 pub mod Portion
 pub mod Free

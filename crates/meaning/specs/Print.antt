@@ -48,7 +48,7 @@ labelWord unique = text "one"
 labelWord several = text "some"
 
 unfoldable pub density : FileFigures → List ℕ
-density a = decimal (a .degree) ++ (text "/" ++ decimal (a .terms))
+density a = decimal (a .degree) ++ (text "/" ++ decimal (a .denominator))
 
 unfoldable pub resultLine : ℕ → Result (Rated FileFigures) → List ℕ
 resultLine box (refused n) = line (decimal box ∷ text "refused" ∷ decimal n ∷ [])

@@ -115,11 +115,22 @@ pub enum Filling {
     Refused(Refusal),
 }
 
-// The rating of a route file, the box and the powers apart.
+// The rating of a route file, the box and the powers apart. The density is the degree over the denominator:
+// the shortest period in the period mode, and else the number of terms.
 pub enum FileOutcome {
-    Powers { degree: u64, terms: u64, count: u64 },
-    Unique { degree: u64, terms: u64 },
-    Several { degree: u64, terms: u64 },
+    Powers {
+        degree: u64,
+        denominator: u64,
+        count: u64,
+    },
+    Unique {
+        degree: u64,
+        denominator: u64,
+    },
+    Several {
+        degree: u64,
+        denominator: u64,
+    },
     Refused(Refusal),
 }
 

@@ -37,15 +37,17 @@ fn put_result(
     match outcome {
         FileOutcome::Powers {
             degree,
-            terms,
+            denominator,
             count,
-        } => put_powers_line(sender, degree, terms, count, &powers, out, at),
-        FileOutcome::Unique { degree, terms } => {
-            put_word_line(sender, degree, terms, b"one", out, at)
-        }
-        FileOutcome::Several { degree, terms } => {
-            put_word_line(sender, degree, terms, b"some", out, at)
-        }
+        } => put_powers_line(sender, degree, denominator, count, &powers, out, at),
+        FileOutcome::Unique {
+            degree,
+            denominator,
+        } => { put_word_line(sender, degree, denominator, b"one", out, at) }
+        FileOutcome::Several {
+            degree,
+            denominator,
+        } => { put_word_line(sender, degree, denominator, b"some", out, at) }
         FileOutcome::Refused(reason) => put_refused(sender, refusal_number(reason), out, at),
     }
 }

@@ -27,11 +27,17 @@ pub fn coefficient_count(outcome: FileOutcome, most: usize) -> usize
     match outcome {
         FileOutcome::Powers {
             degree,
-            terms: _,
+            denominator: _,
             count: _,
         } => next_at_most(degree, most),
-        FileOutcome::Unique { degree, terms: _ } => next_at_most(degree, most),
-        FileOutcome::Several { degree, terms: _ } => next_at_most(degree, most),
+        FileOutcome::Unique {
+            degree,
+            denominator: _,
+        } => next_at_most(degree, most),
+        FileOutcome::Several {
+            degree,
+            denominator: _,
+        } => next_at_most(degree, most),
         FileOutcome::Refused(_) => 0,
     }
 }

@@ -34,20 +34,21 @@ pub fn put_refused(sender: u64, number: u64, out: &mut [u8], at: usize) -> usize
 
 // The start of the result line of a rating: the box, `ok` and the density, up to the blank before the last
 // word.
-fn put_start(sender: u64, degree: u64, terms: u64, out: &mut [u8], at: usize) -> usize
+fn put_start(sender: u64, degree: u64, denominator: u64, out: &mut [u8], at: usize) -> usize
     requires { ⌜ at + 66 ≤ length (now out) ⌝ }
-    ensures { λ r. ⌜ PutWithin 66 (started sender degree terms) at (now (out .entry)) r (now (out .exit)) ⌝ }
+    ensures { λ r. ⌜ PutWithin 66 (started sender degree denominator) at (now (out .entry)) r
+        (now (out .exit)) ⌝ }
 {
     let a = put_number_and_word(sender, b" ok ", out, at);
     let b = put_number_and_word(degree, b"/", out, a);
-    put_number_and_word(terms, b" ", out, b)
+    put_number_and_word(denominator, b" ", out, b)
 }
 
 // The result line of a rating whose last word are the first `count` powers.
 pub fn put_powers_line(
     sender: u64,
     degree: u64,
-    terms: u64,
+    denominator: u64,
     count: u64,
     powers: &[u64],
     out: &mut [u8],
@@ -55,10 +56,11 @@ pub fn put_powers_line(
 ) -> usize
     requires { ⌜ at + 67 + 21 * length (now powers) ≤ length (now out) ⌝ }
     ensures { λ r. ⌜ PutWithin (67 + 21 * length (now (powers .entry)))
-        (ratedLine sender degree terms (joined (text ",") (map decimal (take count (now (powers .entry))))))
+        (ratedLine sender degree denominator
+        (joined (text ",") (map decimal (take count (now (powers .entry))))))
         at (now (out .entry)) r (now (out .exit)) ⌝ }
 {
-    let a = put_start(sender, degree, terms, out, at);
+    let a = put_start(sender, degree, denominator, out, at);
     let n = smaller(count as usize, powers.len());
     let b = put_powers(&powers[0..n], out, a);
     put_word(b"\n", out, b)
@@ -68,17 +70,17 @@ pub fn put_powers_line(
 pub fn put_word_line(
     sender: u64,
     degree: u64,
-    terms: u64,
+    denominator: u64,
     word: &[u8],
     out: &mut [u8],
     at: usize,
 ) -> usize
     requires { ⌜ at + 67 + length (now word) ≤ length (now out) ⌝ }
     ensures { λ r. ⌜ PutWithin (67 + length (now (word .entry)))
-        (ratedLine sender degree terms (now (word .entry)))
+        (ratedLine sender degree denominator (now (word .entry)))
         at (now (out .entry)) r (now (out .exit)) ⌝ }
 {
-    let a = put_start(sender, degree, terms, out, at);
+    let a = put_start(sender, degree, denominator, out, at);
     let b = put_word(word, out, a);
     put_word(b"\n", out, b)
 }

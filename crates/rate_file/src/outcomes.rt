@@ -1,5 +1,5 @@
 // The rating of a file, from the refusal or the rating of the way that its mode names. No function here
-// is lent a byte.
+// is lent a byte to write.
 use meaning::FileOutcome;
 use meaning::FileRating;
 use meaning::FreeRating;
@@ -7,9 +7,12 @@ use meaning::PowerRating;
 use meaning::Refusal;
 use meaning::SetOutcome;
 use meaning::SetRating;
+use repetition::shortest_period;
+ghost use Prim.Native.Nat.{_<_};
+ghost use lib.ListN.{length};
 ghost use Rattle.meaning.specs.Result.{refused, mapResult};
-ghost use Rattle.meaning.specs.Answers.{numberOf, toldPower, toldFree};
-ghost use Rattle.rate_file.specs.outcomes.Outcomes.{powerFigures, freeFigures, Tells, TellsSet};
+ghost use Rattle.meaning.specs.Answers.{numberOf, toldFree};
+ghost use Rattle.rate_file.specs.outcomes.Outcomes.{freeFigures, Tells, TellsPeriod, TellsSet};
 
 // A refused file: no powers.
 pub fn of_refusal(sender: u64, refusal: Refusal) -> FileRating
@@ -23,9 +26,11 @@ pub fn of_refusal(sender: u64, refusal: Refusal) -> FileRating
     }
 }
 
-// The period way: one power.
-pub fn of_power(sender: u64, terms: u64, rating: PowerRating) -> FileRating
-    ensures { λ r. ⌜ Tells sender (mapResult (powerFigures terms) (toldPower rating)) r ⌝ }
+// The period way: one power. The density is by the shortest period of the terms, which is looked for where
+// they are rated.
+pub fn of_power(sender: u64, terms: &[u8], rating: PowerRating) -> FileRating
+    requires { ⌜ 0 < length (now terms) ⌝ }
+    ensures { λ r. ⌜ TellsPeriod sender (now (terms .entry)) rating r ⌝ }
 {
     match rating {
         PowerRating::Refused(refusal) => of_refusal(sender, refusal),
@@ -36,11 +41,12 @@ pub fn of_power(sender: u64, terms: u64, rating: PowerRating) -> FileRating
         } => {
             let mut powers = [0u64; 8];
             powers[0] = power;
+            let denominator = shortest_period(terms) as u64;
             FileRating {
                 sender,
                 outcome: FileOutcome::Powers {
                     degree,
-                    terms,
+                    denominator,
                     count: 1,
                 },
                 powers,
@@ -50,8 +56,8 @@ pub fn of_power(sender: u64, terms: u64, rating: PowerRating) -> FileRating
 }
 
 // The free way: no powers.
-pub fn of_free(sender: u64, terms: u64, rating: FreeRating) -> FileRating
-    ensures { λ r. ⌜ Tells sender (mapResult (freeFigures terms) (toldFree rating)) r ⌝ }
+pub fn of_free(sender: u64, denominator: u64, rating: FreeRating) -> FileRating
+    ensures { λ r. ⌜ Tells sender (mapResult (freeFigures denominator) (toldFree rating)) r ⌝ }
 {
     match rating {
         FreeRating::Refused(refusal) => of_refusal(sender, refusal),
@@ -59,7 +65,10 @@ pub fn of_free(sender: u64, terms: u64, rating: FreeRating) -> FileRating
             let powers = [0u64; 8];
             FileRating {
                 sender,
-                outcome: FileOutcome::Unique { degree, terms },
+                outcome: FileOutcome::Unique {
+                    degree,
+                    denominator,
+                },
                 powers,
             }
         }
@@ -67,7 +76,10 @@ pub fn of_free(sender: u64, terms: u64, rating: FreeRating) -> FileRating
             let powers = [0u64; 8];
             FileRating {
                 sender,
-                outcome: FileOutcome::Several { degree, terms },
+                outcome: FileOutcome::Several {
+                    degree,
+                    denominator,
+                },
                 powers,
             }
         }
@@ -75,8 +87,8 @@ pub fn of_free(sender: u64, terms: u64, rating: FreeRating) -> FileRating
 }
 
 // The set way: its powers as they are.
-pub fn of_set(sender: u64, terms: u64, rating: SetRating) -> FileRating
-    ensures { λ r. ⌜ TellsSet sender terms rating r ⌝ }
+pub fn of_set(sender: u64, denominator: u64, rating: SetRating) -> FileRating
+    ensures { λ r. ⌜ TellsSet sender denominator rating r ⌝ }
 {
     let powers = rating.powers;
     let outcome = rating.outcome;
@@ -90,7 +102,7 @@ pub fn of_set(sender: u64, terms: u64, rating: SetRating) -> FileRating
             sender,
             outcome: FileOutcome::Powers {
                 degree,
-                terms,
+                denominator,
                 count,
             },
             powers,

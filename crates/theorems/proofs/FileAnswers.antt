@@ -30,7 +30,8 @@ use Rattle.meaning.specs.Print.{printed}
 use Rattle.meaning.proofs.Determined.{refusals, refusalOf, file-call-determined, record-call-determined}
 use Rattle.bridge.proofs.Searches.{map-answered, map-refused, never-answered, refused-same}
 use Rattle.bridge.proofs.Records.{records-suited, records-number}
-use Rattle.bridge.proofs.FileRatings.{known-mode, accepted-file, refused-file, file-size, period-map, set-map}
+use Rattle.bridge.proofs.FileRatings.{known-mode, accepted-file, refused-file, file-size, period-mapped}
+use Rattle.bridge.proofs.FileRatings.{set-map}
 use Rattle.bridge.proofs.FileRatings.{free-map, pairs-nonempty}
 use Rattle.theorems.specs.Answering.{Answered, OneOf, Tells, modeNumbers, readerNumbers, fileNumbers}
 use Rattle.theorems.specs.Answering.{fileDegree, FileAnswers, RecordAnswers, ProgramAnswers}
@@ -104,7 +105,7 @@ mode-tells :
     (rateMode m (byteOf 2 rs) (map fileFactor (bodies 4 rs)) (termsOf rs) answer work)
 unfolding rateMode
 mode-tells rs answer work periodMode =
-    map-tells _ _ _ (period-map (length (termsOf rs)) _)
+    map-tells _ _ _ (period-mapped (byteOf 2 rs) _ _ _ (termsOf rs) answer work .2)
     (period-tells (byteOf 2 rs) _ _ _ (termsOf rs) answer work)
 mode-tells rs answer work setMode =
     map-tells _ _ _ (set-map (length (termsOf rs)) _)
@@ -172,7 +173,7 @@ mode-lent :
 unfolding rateMode
 mode-lent rs answer work periodMode h =
     period-lent (byteOf 2 rs) _ _ _ (termsOf rs) answer work
-    (moved _ _ _ (period-map (length (termsOf rs)) _) h)
+    (moved _ _ _ (period-mapped (byteOf 2 rs) _ _ _ (termsOf rs) answer work .2) h)
 mode-lent rs answer work setMode h =
     set-lent (byteOf 2 rs) _ _ _ (termsOf rs) answer work (moved _ _ _ (set-map (length (termsOf rs)) _) h)
 mode-lent rs answer work freeMode h =
@@ -284,7 +285,7 @@ module _ (file answer work : List ℕ) where
         polynomial =
             λ a e.
             file-size file (length answer) (length work) e
-            ∙ ap suc (sym (label-degree (a .figures .label) (a .figures .degree) (a .figures .terms)));
+            ∙ ap suc (sym (label-degree (a .figures .label) (a .figures .degree) (a .figures .denominator)));
         small =
             λ a e.
             let (r, answer′, work′, c) = file-some in

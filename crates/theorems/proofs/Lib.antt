@@ -6,6 +6,7 @@ pub mod Answering
 pub mod Files
 pub mod FileAnswers
 pub mod Program
+pub mod Density
 pub mod OtherLanguages
 pub mod Meters
 pub mod Catalogue

@@ -126,8 +126,8 @@ module _ (input answer work : List ℕ) (r : FileRating) (answer′ work′ : Li
       ∙ sym (λ i. header ++ linesTold (c .sender i) (told e i) (r .powers) answer′)
   report-told (answered a) e =
       ap (λ l. header ++ l)
-      (told-lines (boxOf input) (a .figures .label) (a .figures .degree) (a .figures .terms) (a .polynomial)
-      (r .powers) answer answer′
+      (told-lines (boxOf input) (a .figures .label) (a .figures .degree) (a .figures .denominator)
+      (a .polynomial) (r .powers) answer answer′
       (file-size input (length answer) (length work) e)
       (c .powers ∙ ap (λ x. filePadded (figuresOf x)) e)
       (c .lent .answerBytes ∙ ap (λ x. answerAfter x answer) e))

@@ -25,6 +25,7 @@ use Rattle.theorems.proofs.Ways.{period-promise, portion-promise, set-p
 use Rattle.theorems.proofs.CutAnywhere.{cut-anywhere}
 use Rattle.theorems.proofs.Files.{file-promise}
 use Rattle.theorems.proofs.Program.{record-promise, program-as-call, program-promise}
+use Rattle.theorems.proofs.Density.{density-promise}
 use Rattle.theorems.proofs.OtherLanguages.{period-export, portion-export, set-export, free-export}
 use Rattle.theorems.proofs.OtherLanguages.{continue-export, irreducible-export}
 use Rattle.theorems.proofs.Meters.{start-answers, meter-promise, profile-export}
@@ -107,6 +108,7 @@ promises =
       records = record-promise;
       program-as-call = program-as-call;
       program = program-promise;
+      density = density-promise;
       period-export = period-export;
       portion-export = portion-export;
       set-export = set-export;

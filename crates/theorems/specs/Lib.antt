@@ -2,6 +2,7 @@ pub mod Ratings
 pub mod CutAnywhere
 pub mod Answering
 pub mod Files
+pub mod Density
 pub mod OtherLanguages
 pub mod Meters
 pub mod Catalogue

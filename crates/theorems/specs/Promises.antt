@@ -6,6 +6,7 @@
 --                       questions
 --   CutAnywhere      == demand 3: the same polynomial wherever the stretch is cut
 --   Files            == route files, the reader, the program
+--   Density          == the density of a period
 --   OtherLanguages   == the exported calls
 --   Meters           == the meter: demand 1 of its calls, what it shows, the exported profile
 --   Catalogue        == the catalogue and its search: demand 1, what it holds, what is found, the export
@@ -33,6 +34,7 @@ use Rattle.theorems.specs.Ratings.{ContinuePromise, IrreduciblePromise, 
 use Rattle.theorems.specs.Ratings.{MultiplePromise, MultiplesPromise, PrimeWords, IrreducibleWords}
 use Rattle.theorems.specs.CutAnywhere.{CutAnywherePromise}
 use Rattle.theorems.specs.Files.{FilePromise, RecordPromise, ProgramAsCall, ProgramPromise}
+use Rattle.theorems.specs.Density.{DensityPromise}
 use Rattle.theorems.specs.OtherLanguages.{PeriodExport, PortionExport, SetExport, FreeExport}
 use Rattle.theorems.specs.OtherLanguages.{ContinueExport, IrreducibleExport}
 use Rattle.theorems.specs.Meters.{StartAnswers, MeterPromise, ProfileExport}
@@ -80,6 +82,7 @@ pub record Promises : Type 0 where
   pub records : RecordPromise
   pub program-as-call : ProgramAsCall
   pub program : ProgramPromise
+  pub density : DensityPromise
   -- other languages
   pub period-export : PeriodExport
   pub portion-export : PortionExport

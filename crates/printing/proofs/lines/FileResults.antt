@@ -1,6 +1,6 @@
 -- What a rating of a file tells with its powers and answer bytes is the result of the file.
 --
---   outcomeOf l d m == the outcome that tells the label l with the degree d and m terms
+--   outcomeOf l d m == the outcome that tells the label l with the degree d over m
 --   told-result     == the result, from the contract of rate_file
 --   printed-lines   == the lines of the rating are those that the program is to print, from that contract
 -- Assumes nothing.
@@ -41,7 +41,7 @@ polynomial-back : (g answer : List ℕ) {d : ℕ} → length g ≡ suc d → tak
 unfolding written
 polynomial-back g answer {d} e = take-at g (drop (length g) answer) (suc d) e
 
--- the outcome that tells a label with the degree d and m terms
+-- the outcome that tells a label with the degree d over m
 outcomeOf : Label → ℕ → ℕ → FileOutcome
 outcomeOf (powers rs) d m = FileOutcome.Powers d m (length rs)
 outcomeOf unique d m = FileOutcome.Unique d m
@@ -84,7 +84,7 @@ module _
     when-answered {a} e =
         let l = a .figures .label in
         let d = a .figures .degree in
-        let m = a .figures .terms in
+        let m = a .figures .denominator in
         let told : toldFile (r .outcome) ≡ answered (labelTold l d m) =
         c .rating ∙ ap (λ x. mapResult fileFiguresTold (figuresOf x)) e in
         let outcome = file-determined (r .outcome) (outcomeOf l d m) (told ∙ sym (outcome-told l d m)) in

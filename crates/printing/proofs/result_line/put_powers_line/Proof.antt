@@ -73,7 +73,7 @@ returns c =
     let powers = put-as (ap (λ l. joined (text ",") (map decimal l)) first) (y .put-powers .ensures .put) in
     record {
       put =
-          put-as (rated-parts (a .sender) (a .degree) (a .terms) _)
+          put-as (rated-parts (a .sender) (a .degree) (a .denominator) _)
           (put-join (put-join (x .put-start .ensures .put) powers) (z .put-word .ensures));
       within =
           omega (

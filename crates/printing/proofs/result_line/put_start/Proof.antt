@@ -52,7 +52,7 @@ returns c =
     let s = x .before .before .before .before in
     record {
       put =
-          put-as (started-parts (s .args .sender) (s .args .degree) (s .args .terms))
+          put-as (started-parts (s .args .sender) (s .args .degree) (s .args .denominator))
           (put-join
           (put-join (x .put-number-and-word .ensures .put) (y .put-number-and-word2 .ensures .put))
           (z .put-number-and-word3 .ensures .put));

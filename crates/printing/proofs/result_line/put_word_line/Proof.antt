@@ -46,7 +46,7 @@ returns c =
     let a = x .before .before .before .before .args in
     record {
       put =
-          put-as (rated-parts (a .sender) (a .degree) (a .terms) (a .word .now))
+          put-as (rated-parts (a .sender) (a .degree) (a .denominator) (a .word .now))
           (put-join (put-join (x .put-start .ensures .put) (y .put-word .ensures)) (z .put-word2 .ensures));
       within =
           omega (
