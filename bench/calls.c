@@ -39,16 +39,12 @@ static void tell(void *task_, answer *a) {
                                               sizeof a->polynomial, t->work, sizeof t->work, a->powers, &degree,      \
                                               &a->bound);                                                             \
             break;                                                                                                    \
-        case PORTION:                                                                                                 \
-            a->status = VERSION##_rate_portion(j->p, j->coefficients, j->bytes, j->uppers[0], j->terms, j->count,     \
-                                               a->polynomial, sizeof a->polynomial, t->work, sizeof t->work,          \
-                                               a->powers, &degree, &a->bound);                                        \
-            break;                                                                                                    \
         case SET:                                                                                                     \
-            a->status = VERSION##_rate_set(j->p, j->coefficients, j->bytes, (const uint8_t *)j->lengths,              \
-                                           8 * j->factors, (const uint8_t *)j->uppers, 8 * j->factors, j->terms,      \
-                                           j->count, a->polynomial, sizeof a->polynomial, t->work,                    \
-                                           sizeof t->work, (uint8_t *)a->powers, sizeof a->powers, &degree);          \
+            a->status = VERSION##_rate_with_factors(                                                                  \
+                j->p, j->coefficients, j->bytes, (const uint8_t *)j->lengths, 8 * j->factors,                         \
+                (const uint8_t *)j->uppers, 8 * j->factors, j->terms, j->count, a->polynomial,                        \
+                sizeof a->polynomial, t->work, sizeof t->work, (uint8_t *)a->powers, sizeof a->powers, &degree,       \
+                &a->bound);                                                                                           \
             break;                                                                                                    \
         case IRREDUCIBLE:                                                                                             \
             a->status = VERSION##_is_irreducible(j->p, j->coefficients, j->bytes, &yes);                              \

@@ -95,7 +95,6 @@ static void run(void *task_) {
     case PERIOD:
         cancel(t, t->modulus, t->reversed);
         break;
-    case PORTION:
     case SET:
         nmod_poly_init(all, t->job->p);
         nmod_poly_init(numerator, t->job->p);

@@ -149,7 +149,7 @@ static void period(const char *family, uint32_t p, const char *shown, size_t n, 
 // a portion of n terms with f to the power v, random as far as they may be
 static void portion(const char *family, uint32_t p, const char *shown, const uint8_t *f, size_t d, uint64_t v,
                     size_t n) {
-    job *j = add(family, PORTION, p);
+    job *j = add(family, SET, p);
     uint8_t all[4097];
     add_factor(j, f, d, v);
     j->count = n;

@@ -9,10 +9,10 @@
 extern "C" {
 #endif
 
-enum way { FREE, PERIOD, PORTION, SET, IRREDUCIBLE };
+enum way { FREE, PERIOD, SET, IRREDUCIBLE };
 
-// One job. A portion is a set with one factor. Factors stand one after the other, constants first. Jobs of one family
-// differ in their number of terms alone; `compared` jobs are there for their answers, and not timed.
+// One job. A set has one factor or more, and a portion has one. Factors stand one after the other, constants first. Jobs
+// of one family differ in their number of terms alone; `compared` jobs are there for their answers, and not timed.
 typedef struct {
     const char *family;
     char name[100];

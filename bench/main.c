@@ -99,7 +99,7 @@ static void hold(const job *j, const contestant *c, const answer *ours, const an
 
 // ---- one job
 
-static const char *const ways[] = {"free", "period", "portion", "set", "irreducible"};
+static const char *const ways[] = {"free", "period", "set", "irreducible"};
 
 // A job and its contestants: tasks, calls in a batch, and rounds to take part in.
 typedef struct {
@@ -157,7 +157,7 @@ static void continues(void *nothing) {
 }
 
 static void stacks(const job *jobs, size_t count) {
-    static const char *const calls[] = {"rate_free", "rate_period", "rate_portion", "rate_set", "is_irreducible"};
+    static const char *const calls[] = {"rate_free", "rate_period", "rate_set", "is_irreducible"};
     for (int way = FREE; way <= IRREDUCIBLE; way++) {
         size_t most = 0;
         for (size_t i = 0; i < count; i++) {
@@ -193,7 +193,7 @@ static void show(const job *j) {
 
 // box 7, p, mode, factors, terms, end
 static void route(const job *j) {
-    static const uint8_t modes[] = {3, 1, 2, 2};
+    static const uint8_t modes[] = {3, 1, 2};
     uint8_t head[] = {1, 0, 0, 0, 7, 2, j->p, 3, modes[j->way]};
     fwrite(head, 1, sizeof head, stdout);
     for (size_t i = 0, at = 0; i < j->factors; at += j->lengths[i++]) {

@@ -83,7 +83,6 @@ template <class X, class V, class Setting> struct work : task {
         case PERIOD:
             cancel(modulus, reversed);
             break;
-        case PORTION:
         case SET: {
             X all = product(), numerator;
             mul(numerator, all, reversed);

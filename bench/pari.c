@@ -128,7 +128,6 @@ static void run(void *task_) {
     case PERIOD:
         t->found = monic(quotient(t->modulus, common(t->modulus, t->reversed, p), p), p);
         break;
-    case PORTION:
     case SET: {
         GEN all = product(t), whole = mul(all, t->reversed, p), numerator = shift(whole, -t->count, p);
         t->agree = degree_of(cut(whole, t->count, p), p) < t->degree;

@@ -77,9 +77,10 @@ static uint64_t rate(void) {
         return CALL(rate_period)(p, factors, factor_bytes, terms, count, answer, sizeof answer, work, sizeof work,
                                  powers, &degree, &bound);
     case 2:
-        return CALL(rate_set)(p, factors, factor_bytes, (const uint8_t *)lengths, 8 * factor_count,
-                              (const uint8_t *)uppers, 8 * factor_count, terms, count, answer, sizeof answer, work,
-                              sizeof work, (uint8_t *)powers, sizeof powers, &degree);
+        return CALL(rate_with_factors)(p, factors, factor_bytes, (const uint8_t *)lengths, 8 * factor_count,
+                                       (const uint8_t *)uppers, 8 * factor_count, terms, count, answer,
+                                       sizeof answer, work, sizeof work, (uint8_t *)powers, sizeof powers, &degree,
+                                       &bound);
     default:
         return CALL(rate_free)(p, terms, count, answer, sizeof answer, work, sizeof work, &degree, &unique);
     }

@@ -195,7 +195,7 @@ def growth(jobs):
 
     for family, members in families.items():
         members = sorted(members, key=lambda j: j.terms)
-        if len(members) < 2 or members[0].way == 'set' or members[0].terms == members[-1].terms:
+        if len(members) < 2 or group_of(members[0]).startswith('set') or members[0].terms == members[-1].terms:
             continue
         square = members[0].way == 'free'
         row(family, members[-2], members[-1], square)
@@ -205,7 +205,7 @@ def growth(jobs):
 
 
 def memory(stacks):
-    lent = {'rate_free': '12,289', 'rate_period': '12,289', 'rate_portion': '12,289', 'rate_set': '12,289',
+    lent = {'rate_free': '12,289', 'rate_period': '12,289', 'rate_set': '12,289',
             'profile': 'four for each term', 'is_irreducible': 'none', 'continue_sequence': 'the part that is filled'}
     rows = [['`%s`' % call, lent[call], '{:,}'.format(n)] for call, n in stacks.items()]
     return table(['Call', 'bytes lent', 'bytes of stack'], rows)
@@ -286,20 +286,22 @@ REASONS = {
     ('free 2', 'tuned'): SUMS, ('free', 'tuned'): SUMS,
     ('set', 'tuned'): PRODUCT,
     ('irreducible 2', 'tuned'): SQUARES, ('irreducible', 'tuned'): ROWS,
-    ('portion large', 'tuned'): PARTLY, ('set large', 'tuned'): PARTLY,
+    ('single large', 'tuned'): PARTLY, ('set large', 'tuned'): PARTLY,
 }
 
 
 def group_of(j):
     if j.way in ('free', 'irreducible') and j.p == 2:
         return j.way + ' 2'
-    return j.way + ' large' if 'large factor' in j.family else j.way
+    name = 'single' if j.family.startswith('portion') else j.way
+    return name + ' large' if 'large factor' in j.family else name
 
 
 GROUPS = {'free 2': 'free way over GF(2)', 'free': 'free way over GF(3) and GF(251)', 'period': 'period way',
-          'portion': 'portion way', 'portion large': 'portion way, with a factor of a large degree', 'set': 'set way',
-          'set large': 'set way, with factors of a large degree', 'irreducible 2': 'irreducible or not, over GF(2)',
-          'irreducible': 'irreducible or not, over other fields', 'route': 'whole route files'}
+          'single': 'set way with one factor', 'single large': 'set way with one factor of a large degree',
+          'set': 'set way with eight factors', 'set large': 'set way, with factors of a large degree',
+          'irreducible 2': 'irreducible or not, over GF(2)', 'irreducible': 'irreducible or not, over other fields',
+          'route': 'whole route files'}
 
 
 def slower(jobs, routes):
@@ -407,7 +409,7 @@ def panel(jobs, family, title, left, top, width, height):
 def picture(jobs):
     panels = [('free way, random, GF(251)', 'Free way, random terms, GF(251)'),
               ('free way, random, GF(2)', 'Free way, random terms, GF(2)'),
-              ('portion, all powers', 'Portion way, powers of x^3+x+1, GF(2)'),
+              ('portion, all powers', 'Portions, powers of x^3+x+1, GF(2)'),
               ('period, GF(2)', 'Period way, powers of x+1, GF(2)')]
     out = ['<svg xmlns="http://www.w3.org/2000/svg" width="980" height="760" viewBox="0 0 980 760">',
            '<style>text{font-family:sans-serif;font-size:12px;fill:#333}.title{font-size:14px;font-weight:bold}'

@@ -54,7 +54,7 @@ impl Sequence {
         uppers
     }
 
-    // The set way, and with one factor the portion way, find the minimal polynomial in a stretch.
+    // The set way finds the minimal polynomial in a stretch.
     fn named(&self, random: &mut Random) -> Outcome {
         let uppers = self.uppers(random);
         let terms = self.cut(random, total_degree(&self.factors, &uppers));
@@ -62,13 +62,7 @@ impl Sequence {
         let given = inputs::multiples(random, self.p, &self.factors);
         let input = inputs::set(self.p, &given, &uppers, terms);
         answers(&input, &Ok(rating))?;
-        let [f] = &self.factors[..] else {
-            return Ok(1);
-        };
-        let rating = power_rating(self.p, f, self.powers[0]);
-        let input = inputs::portion(self.p, &given[0], uppers[0], terms);
-        answers(&input, &Ok(rating))?;
-        Ok(2)
+        Ok(1)
     }
 
     // The free way finds it in a stretch of at least twice its degree.
@@ -142,7 +136,7 @@ fn far() -> Outcome {
     Ok(cases)
 }
 
-// Periods with one factor: all four ways on one sequence.
+// Periods with one factor: all three ways on one sequence.
 fn periods() -> Outcome {
     const EACH: u64 = 8;
     let mut random = Random::of_seed(44);

@@ -15,7 +15,7 @@ fn known_answers() -> Outcome {
     for row in &rows {
         let (p, f) = (row[0].parse().unwrap(), Factor::List(table::bytes(row[1])));
         let input = Input::of(Way::Period, p, vec![f], vec![], table::bytes(row[2]));
-        answers(&input, &table::power_rating(&row[3..]))?;
+        answers(&input, &table::powers_rating(&row[3..]))?;
     }
     Ok(rows.len() as u64)
 }

@@ -1,12 +1,12 @@
-// rate_set: known answers, all short portions with up to three factors, stretches of sequences with known powers of
-// up to eight factors, and every refusal.
+// rate_set: known answers, all short portions with up to three factors, stretches of sequences with known powers of one
+// factor and of up to eight, and every refusal.
 mod common;
 
 use common::calls::{bytes_of, rate_joined_set, rate_numbered_set, rate_set_into, Told};
 use common::inputs::{self, factors, registers, total_degree};
 use common::lent::{answers, answers_by, refuses};
 use common::random::Random;
-use common::rater::{rate, Factor, Input, Way};
+use common::rater::{rate, set_rating, Factor, Input, Way};
 use common::{expect, faults, named, primes, run, table, Outcome};
 
 fn known_answers() -> Outcome {
@@ -16,7 +16,7 @@ fn known_answers() -> Outcome {
         let factors = table::lists(row[1]).into_iter().map(Factor::List);
         let (uppers, terms) = (table::numbers(row[2]), table::bytes(row[3]));
         let input = Input::of(Way::Set, p, factors.collect(), uppers, terms);
-        answers(&input, &table::set_rating(&row[4..]))?;
+        answers(&input, &table::powers_rating(&row[4..]))?;
     }
     Ok(rows.len() as u64)
 }
@@ -121,6 +121,7 @@ fn lends(
     status: u64,
     powers: &[u64],
     degree: u64,
+    bound: u64,
 ) -> Result<(), String> {
     const MARGIN: usize = 32;
     let marks = vec![0xa5; size + 2 * MARGIN];
@@ -134,7 +135,7 @@ fn lends(
         all.resize(64, 0);
         let written = size.min(64);
         left[MARGIN..MARGIN + written].copy_from_slice(&all[..written]);
-        expected.degree = degree;
+        (expected.degree, expected.bound) = (degree, bound);
     }
     let case = || format!("p {}, {size} bytes for the powers {powers:?}", input.p);
     expect(told, expected, case)?;
@@ -151,6 +152,7 @@ fn any_power_bytes() -> Outcome {
         let factors = factors(&mut random, p, n, 3);
         let powers = inputs::uppers(&mut random, &factors, 400);
         let degree = total_degree(&factors, &powers) as u64;
+        let bound = set_rating(p, &factors, &powers).bound.unwrap();
         let terms = registers(&mut random, p, &factors, &powers, 500);
         let mut changed = terms.clone();
         changed[499] = (changed[499] + 1) % p;
@@ -161,7 +163,7 @@ fn any_power_bytes() -> Outcome {
                 (&powers, &changed, 17),
             ] {
                 let input = inputs::set(p, &factors, uppers, terms);
-                lends(&input, size, status, &powers, degree)?;
+                lends(&input, size, status, &powers, degree, bound)?;
                 cases += 1;
             }
         }
@@ -252,18 +254,24 @@ fn main() {
         "set",
         &[
             ("known answers", known_answers),
-            ("all short portions", || named::all_short(Way::Set)),
+            ("all short portions", named::all_short),
             ("lengths that do not fit", any_lengths),
             ("any number of bytes", any_bytes),
             ("any number of bytes for the powers", any_power_bytes),
             ("upper powers of many bytes", large_uppers),
-            ("known powers", || named::made(Way::Set)),
-            ("against the second rater", || {
-                named::against_the_second_rater(Way::Set)
+            ("a known power", || named::made(1)),
+            ("known powers", || named::made(8)),
+            ("one factor against the second rater", || {
+                named::against_the_second_rater(1)
             }),
-            ("the factor x", || named::factor_x(Way::Set)),
-            ("the largest total degree", || named::largest(Way::Set)),
-            ("the largest numbers", || named::largest_numbers(Way::Set)),
+            ("against the second rater", || {
+                named::against_the_second_rater(8)
+            }),
+            ("the factor x alone", || named::factor_x(1)),
+            ("the factor x", || named::factor_x(8)),
+            ("the largest total degree of one", || named::largest(1)),
+            ("the largest total degree", || named::largest(8)),
+            ("the largest numbers", named::largest_numbers),
             ("every leading coefficient", || faults::multiples(Way::Set)),
             ("refused by 6", || faults::not_prime(Way::Set)),
             ("refused by 7", || faults::counts(Way::Set)),
@@ -274,10 +282,13 @@ fn main() {
             ("refused by 12", || faults::reducible(Way::Set)),
             ("refused by 13", equal_factors),
             ("the number of upper powers", upper_counts),
-            ("refused by 14", || named::upper_powers(Way::Set)),
-            ("refused by 15", || named::too_few(Way::Set)),
+            ("one factor refused by 14", || named::upper_powers(1)),
+            ("refused by 14", || named::upper_powers(8)),
+            ("one factor refused by 15", || named::too_few(1)),
+            ("refused by 15", || named::too_few(8)),
             ("refused by 16", || faults::lent(Way::Set)),
-            ("refused by 17", || named::one_term_changed(Way::Set)),
+            ("one factor refused by 17", || named::one_term_changed(1)),
+            ("refused by 17", || named::one_term_changed(8)),
             ("the first condition refuses", || faults::orders(Way::Set)),
         ],
     )

@@ -37,22 +37,7 @@ mod exported {
             degree: *mut u64,
             bound: *mut u64,
         ) -> u64;
-        pub fn rater_rate_portion(
-            p: u64,
-            factor: *const u8,
-            coefficients: usize,
-            upper: u64,
-            terms: *const u8,
-            count: usize,
-            answer: *mut u8,
-            answer_size: usize,
-            work: *mut u8,
-            work_size: usize,
-            power: *mut u64,
-            degree: *mut u64,
-            bound: *mut u64,
-        ) -> u64;
-        pub fn rater_rate_set(
+        pub fn rater_rate_with_factors(
             p: u64,
             factors: *const u8,
             coefficients: usize,
@@ -69,6 +54,7 @@ mod exported {
             powers: *mut u8,
             power_bytes: usize,
             degree: *mut u64,
+            bound: *mut u64,
         ) -> u64;
         pub fn rater_rate_free(
             p: u64,
@@ -222,7 +208,6 @@ fn coefficients(factor: &Factor) -> &[u8] {
 pub fn rate(input: &Input, answer: &mut [u8], work: &mut [u8]) -> Told {
     match input.way {
         Way::Period => rate_period(input, answer, work),
-        Way::Portion => rate_portion(input, answer, work),
         Way::Set => rate_set(input, answer, work),
         Way::Free => rate_free(input, answer, work),
     }
@@ -236,29 +221,6 @@ fn rate_period(input: &Input, answer: &mut [u8], work: &mut [u8]) -> Told {
             input.p,
             factor.as_ptr(),
             factor.len(),
-            terms.as_ptr(),
-            terms.len(),
-            answer.as_mut_ptr(),
-            answer.len(),
-            work.as_mut_ptr(),
-            work.len(),
-            &mut told.powers[0],
-            &mut told.degree,
-            &mut told.bound,
-        )
-    };
-    told
-}
-
-fn rate_portion(input: &Input, answer: &mut [u8], work: &mut [u8]) -> Told {
-    let mut told = Told::marks(0);
-    let (factor, terms) = (coefficients(&input.factors[0]), &input.terms);
-    told.status = unsafe {
-        exported::rater_rate_portion(
-            input.p,
-            factor.as_ptr(),
-            factor.len(),
-            input.uppers[0],
             terms.as_ptr(),
             terms.len(),
             answer.as_mut_ptr(),
@@ -340,7 +302,7 @@ fn call_set(
     let mut told = Told::marks(0);
     let terms = &input.terms;
     told.status = unsafe {
-        exported::rater_rate_set(
+        exported::rater_rate_with_factors(
             input.p,
             joined.as_ptr(),
             joined.len(),
@@ -357,6 +319,7 @@ fn call_set(
             powers.as_mut_ptr(),
             powers.len(),
             &mut told.degree,
+            &mut told.bound,
         )
     };
     told

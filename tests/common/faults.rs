@@ -7,17 +7,16 @@ use super::random::Random;
 use super::rater::{rate, Factor, Input, Way};
 use super::{largest_degree, primes, Outcome, NO_PRIMES};
 
-// An accepted input: of the period way a constant period with the factor x − 1; else terms of a sequence that has the
-// factors to their upper powers, ten more than the total degree.
+// An accepted input: of the period way a constant period with the factor x − 1; else terms of a sequence that has one
+// to three factors to their upper powers, ten more than the total degree.
 pub fn accepted(random: &mut Random, way: Way, p: u64) -> Input {
-    let n = if way == Way::Set { 3 } else { 1 };
+    let n = random.between(1, 3) as usize;
     let factors = factors_but_x(random, p, n, 3);
     let uppers: Vec<u64> = (0..n).map(|_| random.between(2, 3)).collect();
     let total = inputs::total_degree(&factors, &uppers);
     let terms = registers(random, p, &factors, &uppers, total + 10);
     match way {
         Way::Period => inputs::period(p, &[p - 1, 1], &[random.between(1, p - 1); 6]),
-        Way::Portion => inputs::portion(p, &factors[0], uppers[0], &terms),
         Way::Set => inputs::set(p, &factors, &uppers, &terms),
         Way::Free => inputs::free(p, &terms),
     }
@@ -44,7 +43,6 @@ pub fn counts(way: Way) -> Outcome {
             let (f, terms) = (vec![p - 1, 1], vec![p - 1; n]);
             let input = match way {
                 Way::Period => inputs::period(p, &f, &terms),
-                Way::Portion => inputs::portion(p, &f, 1, &terms),
                 Way::Set => inputs::set(p, &[f], &[1], &terms),
                 Way::Free => inputs::free(p, &terms),
             };
@@ -279,7 +277,10 @@ fn break_by(random: &mut Random, number: u64, input: &mut Input) {
             let g = irreducible(random, 251, d);
             input.factors[place] = list(&poly::product(251, &f, &g));
         }
-        13 => input.factors[place] = input.factors[(place + 1) % input.factors.len()].clone(),
+        13 => {
+            input.factors.push(input.factors[place].clone());
+            input.uppers.push(1);
+        }
         14 => input.uppers[place] = random.one_of(&[0, 4097, 1 << 32, 1 << 63, u64::MAX]),
         15 => input.terms.truncate(1),
         16 if random.below(2) == 0 => input.answer = random.one_of(&[0, 4096]),

@@ -128,11 +128,6 @@ pub fn period(p: u64, f: &[u64], terms: &[u64]) -> Input {
     Input::of(Way::Period, p, vec![list(f)], vec![], poly::to_bytes(terms))
 }
 
-pub fn portion(p: u64, f: &[u64], upper: u64, terms: &[u64]) -> Input {
-    let terms = poly::to_bytes(terms);
-    Input::of(Way::Portion, p, vec![list(f)], vec![upper], terms)
-}
-
 pub fn set(p: u64, factors: &[Poly], uppers: &[u64], terms: &[u64]) -> Input {
     let factors = factors.iter().map(|f| list(f)).collect();
     let terms = poly::to_bytes(terms);

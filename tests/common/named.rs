@@ -1,38 +1,14 @@
-// Tests that the portion and set ways share: stretches of sequences with known powers of the named factors, and the
-// refusals 14, 15 and 17. Each takes the way that it tests; the portion way has one factor, the set way up to
-// eight.
+// Tests of the set way: stretches of sequences with known powers of the named factors, and the refusals 14, 15 and
+// 17. Each takes the largest number of factors that it tests with: 1 for a single one, 8 for any number.
 use super::inputs::{
     self, all_terms, factors, factors_but_x, power, registers, total_degree, uppers,
 };
 use super::lent::{agrees, answers, refuses};
 use super::poly::{self, degree, Poly};
 use super::random::Random;
-use super::rater::{power_rating, set_rating, Input, Rating, Way};
+use super::rater::{set_rating, Input};
 use super::sequence::Terms;
 use super::{primes, Outcome};
-
-// Terms as an input of the portion or the set way.
-pub fn input(way: Way, p: u64, factors: &[Poly], uppers: &[u64], terms: &[u64]) -> Input {
-    match way {
-        Way::Portion => inputs::portion(p, &factors[0], uppers[0], terms),
-        _ => inputs::set(p, factors, uppers, terms),
-    }
-}
-
-// Its rating with these powers of the factors.
-pub fn rating(way: Way, p: u64, factors: &[Poly], powers: &[u64]) -> Rating {
-    match way {
-        Way::Portion => power_rating(p, &factors[0], powers[0]),
-        _ => set_rating(p, factors, powers),
-    }
-}
-
-fn most_factors(way: Way) -> u64 {
-    match way {
-        Way::Portion => 1,
-        _ => 8,
-    }
-}
 
 // Named factors with their upper powers, and true powers up to these.
 struct Named {
@@ -43,9 +19,9 @@ struct Named {
 }
 
 impl Named {
-    // Random ones of degree at most d, as many as suit the way, with a total degree of at most `total`.
-    fn of(random: &mut Random, way: Way, p: u64, d: usize, total: usize) -> Self {
-        let n = random.between(1, most_factors(way)) as usize;
+    // At most so many random ones of degree at most d, with a total degree of at most `total`.
+    fn of(random: &mut Random, most: u64, p: u64, d: usize, total: usize) -> Self {
+        let n = random.between(1, most) as usize;
         let mut factors = factors(random, p, n, d);
         while total_degree(&factors, &[1; 8]) > total {
             factors.pop();
@@ -57,11 +33,11 @@ impl Named {
     }
 
     // The same with just this total degree: the last factor is x − 1.
-    fn exactly(random: &mut Random, way: Way, p: u64, d: usize, total: usize) -> Self {
-        let mut factors = Named::of(random, way, p, d, total).factors;
+    fn exactly(random: &mut Random, most: u64, p: u64, d: usize, total: usize) -> Self {
+        let mut factors = Named::of(random, most, p, d, total).factors;
         let last = vec![p - 1, 1];
         factors.retain(|f| *f != last);
-        factors.truncate(most_factors(way) as usize - 1);
+        factors.truncate(most as usize - 1);
         factors.push(last);
         Named::with(random, p, factors, total)
     }
@@ -85,31 +61,30 @@ impl Named {
         registers(random, self.p, &self.factors, &self.powers, n)
     }
 
-    fn input(&self, way: Way, terms: &[u64]) -> Input {
-        input(way, self.p, &self.factors, &self.uppers, terms)
+    fn input(&self, terms: &[u64]) -> Input {
+        inputs::set(self.p, &self.factors, &self.uppers, terms)
     }
 
     // The call finds the true powers in n terms.
-    fn found(&self, random: &mut Random, way: Way, n: usize) -> Result<(), String> {
-        let rating = rating(way, self.p, &self.factors, &self.powers);
+    fn found(&self, random: &mut Random, n: usize) -> Result<(), String> {
+        let rating = set_rating(self.p, &self.factors, &self.powers);
         let terms = self.terms(random, n);
-        answers(&self.input(way, &terms), &Ok(rating))
+        answers(&self.input(&terms), &Ok(rating))
     }
 }
 
-// All terms up to a length, with all factors up to a degree and all upper powers that leave enough terms: one
-// factor for the portion way, up to three for the set way.
-pub fn all_short(way: Way) -> Outcome {
-    let most = if way == Way::Portion { 1 } else { 3 };
+// All terms up to a length, with one to three of all factors up to a degree and all upper powers that leave enough
+// terms.
+pub fn all_short() -> Outcome {
     let mut cases = 0;
     for (p, largest, longest) in [(2, 3, 8), (3, 2, 5), (5, 1, 4), (7, 1, 3)] {
         let all = (1..=largest).flat_map(|d| poly::monics(p, d));
         let all: Vec<Poly> = all.filter(|f| poly::is_irreducible(p, f)).collect();
-        for factors in choices(&all).filter(|factors| factors.len() <= most) {
+        for factors in choices(&all).filter(|factors| factors.len() <= 3) {
             for uppers in small_uppers(factors.len(), longest) {
                 let total = total_degree(&factors, &uppers);
                 for terms in all_terms(p, longest).filter(|terms| terms.len() >= total) {
-                    agrees(&input(way, p, &factors, &uppers, &terms))?;
+                    agrees(&inputs::set(p, &factors, &uppers, &terms))?;
                     cases += 1;
                 }
             }
@@ -133,48 +108,48 @@ fn small_uppers(n: usize, last: usize) -> impl Iterator<Item = Vec<u64>> {
 }
 
 // Stretches of sequences with known powers, of total degrees up to 2,000, over all primes.
-pub fn made(way: Way) -> Outcome {
+pub fn made(most: u64) -> Outcome {
     const EACH: u64 = 40;
     let mut random = Random::of_seed(110);
     for p in primes() {
         for _ in 0..EACH {
             let d = random.one_of(&[1, 2, 4, 32]);
             let total = random.one_of(&[40, 100, 300, 1000, 2000]);
-            let named = Named::of(&mut random, way, p, d, total);
+            let named = Named::of(&mut random, most, p, d, total);
             let last = random.one_of(&[named.total_degree() as u64 + 10, 4096]);
             let n = random.between(named.total_degree() as u64, last);
-            named.found(&mut random, way, n as usize)?;
+            named.found(&mut random, n as usize)?;
         }
     }
     Ok(EACH * primes().len() as u64)
 }
 
 // Short stretches against the second rater, and the same with any one term changed.
-pub fn against_the_second_rater(way: Way) -> Outcome {
+pub fn against_the_second_rater(most: u64) -> Outcome {
     const EACH: u64 = 30;
     let mut random = Random::of_seed(111);
     for p in primes() {
         for _ in 0..EACH {
             let d = random.one_of(&[1, 2, 4, 32]);
-            let named = Named::of(&mut random, way, p, d, 60);
+            let named = Named::of(&mut random, most, p, d, 60);
             let n = named.total_degree() + random.between(0, 60) as usize;
             let mut terms = named.terms(&mut random, n);
-            agrees(&named.input(way, &terms))?;
+            agrees(&named.input(&terms))?;
             let place = random.below(n as u64) as usize;
             terms[place] = (terms[place] + random.between(1, p - 1)) % p;
-            agrees(&named.input(way, &terms))?;
+            agrees(&named.input(&terms))?;
         }
     }
     Ok(2 * EACH * primes().len() as u64)
 }
 
-// The factor x to a positive power, in the set way among others.
-pub fn factor_x(way: Way) -> Outcome {
+// The factor x to a positive power, alone or among others.
+pub fn factor_x(most: u64) -> Outcome {
     const EACH: u64 = 10;
     let mut random = Random::of_seed(116);
     for p in primes() {
         for _ in 0..EACH {
-            let n = random.between(1, most_factors(way)) as usize;
+            let n = random.between(1, most) as usize;
             let mut factors = factors_but_x(&mut random, p, n, 4);
             let place = random.below(n as u64) as usize;
             factors[place] = vec![0, 1];
@@ -182,45 +157,44 @@ pub fn factor_x(way: Way) -> Outcome {
             let mut named = Named::with(&mut random, p, factors, total);
             named.powers[place] = random.between(1, named.uppers[place]);
             let n = named.total_degree() + random.between(0, 40) as usize;
-            named.found(&mut random, way, n)?;
+            named.found(&mut random, n)?;
         }
     }
     Ok(EACH * primes().len() as u64)
 }
 
 // The largest total degree, with as many terms.
-pub fn largest(way: Way) -> Outcome {
+pub fn largest(most: u64) -> Outcome {
     let mut random = Random::of_seed(112);
     for p in primes() {
-        let named = Named::exactly(&mut random, way, p, 8, 4096);
+        let named = Named::exactly(&mut random, most, p, 8, 4096);
         assert_eq!(named.total_degree(), 4096);
-        named.found(&mut random, way, 4096)?;
-        let named = Named::of(&mut random, way, p, 32, 4096);
-        named.found(&mut random, way, 4096)?;
+        named.found(&mut random, 4096)?;
+        let named = Named::of(&mut random, most, p, 32, 4096);
+        named.found(&mut random, 4096)?;
     }
     Ok(2 * primes().len() as u64)
 }
 
 // The largest numbers: all terms are 250, of a continuation by polynomials with many large coefficients.
-pub fn largest_numbers(way: Way) -> Outcome {
+pub fn largest_numbers() -> Outcome {
     let factors = [vec![249, 1], vec![1, 1]];
     for total in [1000, 4096] {
-        let uppers = match way {
-            Way::Portion => vec![total, 0],
-            _ => vec![total / 2; 2],
-        };
-        let terms = vec![250; total as usize];
-        agrees(&input(way, 251, &factors, &uppers, &terms))?;
+        for n in [1, 2] {
+            let uppers = vec![total / n as u64; n];
+            let terms = vec![250; total as usize];
+            agrees(&inputs::set(251, &factors[..n], &uppers, &terms))?;
+        }
     }
-    Ok(2)
+    Ok(4)
 }
 
-// 14: upper powers of any size, in the set way at each place. D is 4,096 at most, and no sum wraps.
-pub fn upper_powers(way: Way) -> Outcome {
+// 14: upper powers of any size, at each place. D is 4,096 at most, and no sum wraps.
+pub fn upper_powers(most: u64) -> Outcome {
     let mut random = Random::of_seed(113);
     let mut cases = 0;
     for p in primes() {
-        let n = most_factors(way).min(4) as usize;
+        let n = most.min(4) as usize;
         let factors = factors(&mut random, p, n, 5);
         for (place, f) in factors.iter().enumerate() {
             let with = |v: u64| {
@@ -232,14 +206,14 @@ pub fn upper_powers(way: Way) -> Outcome {
             let last = ((4096 - total_degree(&factors, &with(0))) / d) as u64;
             for v in beyond(d as u64, last) {
                 let terms = inputs::terms(&mut random, p, 4096);
-                refuses(&input(way, p, &factors, &with(v), &terms), 14)?;
+                refuses(&inputs::set(p, &factors, &with(v), &terms), 14)?;
                 cases += 1;
             }
             for v in [1, last] {
                 let powers = with(v.min(2));
                 let terms = registers(&mut random, p, &factors, &powers, 4096);
-                let rating = rating(way, p, &factors, &powers);
-                answers(&input(way, p, &factors, &with(v), &terms), &Ok(rating))?;
+                let rating = set_rating(p, &factors, &powers);
+                answers(&inputs::set(p, &factors, &with(v), &terms), &Ok(rating))?;
                 cases += 1;
             }
         }
@@ -268,18 +242,18 @@ fn beyond(d: u64, last: u64) -> Vec<u64> {
 }
 
 // 15: D − 1 terms are too few, D are enough.
-pub fn too_few(way: Way) -> Outcome {
+pub fn too_few(most: u64) -> Outcome {
     let mut random = Random::of_seed(114);
     let mut cases = 0;
     for p in primes() {
         for total in [2, 3, 5, 10, 33, 300, 4096] {
-            let named = Named::of(&mut random, way, p, 4, total);
+            let named = Named::of(&mut random, most, p, 4, total);
             let n = named.total_degree();
-            named.found(&mut random, way, n)?;
+            named.found(&mut random, n)?;
             let terms = named.terms(&mut random, n);
             let fewer = random.between(1, n as u64 - 1) as usize;
             for few in [n - 1, fewer, 1] {
-                refuses(&named.input(way, &terms[..few]), 15)?;
+                refuses(&named.input(&terms[..few]), 15)?;
             }
             cases += 4;
         }
@@ -288,13 +262,13 @@ pub fn too_few(way: Way) -> Outcome {
 }
 
 // 17: one term beyond the first D is not what the continuation has there, the last of all among them.
-pub fn one_term_changed(way: Way) -> Outcome {
+pub fn one_term_changed(most: u64) -> Outcome {
     let mut random = Random::of_seed(115);
     let mut cases = 0;
     for p in primes() {
         for total in [1, 5, 50, 400, 4000] {
             let d = random.one_of(&[1, 4]);
-            let named = Named::of(&mut random, way, p, d, total);
+            let named = Named::of(&mut random, most, p, d, total);
             let first = named.total_degree() as u64;
             let n = first + random.between(1, 96);
             let terms = named.terms(&mut random, n as usize);
@@ -302,7 +276,7 @@ pub fn one_term_changed(way: Way) -> Outcome {
                 let mut changed = terms.clone();
                 let term = &mut changed[place as usize];
                 *term = (*term + random.between(1, p - 1)) % p;
-                refuses(&named.input(way, &changed), 17)?;
+                refuses(&named.input(&changed), 17)?;
                 cases += 1;
             }
         }

@@ -41,29 +41,15 @@ pub fn numbers(word: &str) -> Vec<u64> {
     word.split(',').map(|n| n.parse().unwrap()).collect()
 }
 
-// The last words of a row for the period or the portion way: power, polynomial and bound, or the number of the
-// refusal.
-pub fn power_rating(words: &[&str]) -> Result<Rating, u64> {
-    let [power, polynomial, bound] = words else {
-        return Err(refusal(words));
-    };
-    Ok(Rating {
-        powers: numbers(power),
-        polynomial: sequence::of_bytes(&bytes(polynomial)),
-        bound: Some(bound.parse().unwrap()),
-        unique: None,
-    })
-}
-
-// The same for the set way: powers and polynomial.
-pub fn set_rating(words: &[&str]) -> Result<Rating, u64> {
-    let [powers, polynomial] = words else {
+// The last words of a row for the period or the set way: powers, polynomial and bound, or the number of the refusal.
+pub fn powers_rating(words: &[&str]) -> Result<Rating, u64> {
+    let [powers, polynomial, bound] = words else {
         return Err(refusal(words));
     };
     Ok(Rating {
         powers: numbers(powers),
         polynomial: sequence::of_bytes(&bytes(polynomial)),
-        bound: None,
+        bound: Some(bound.parse().unwrap()),
         unique: None,
     })
 }

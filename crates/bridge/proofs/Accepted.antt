@@ -2,10 +2,10 @@
 --
 --   AcceptedTerms     == terms that 7 and 8 do not turn down
 --   count-accepted, terms-accepted, … == what it says that a condition does not hold
---   rated-power       == the power and the repeat bound of an answer with a power
+--   rated-power, rated-set == the power, or the powers, and the bound of an answer
 --   accepts-free      == the table of the free way passes accepted terms and lent bytes
---   set-answer, portion-answer, period-answer == the answer of the way on accepted factors, terms and lent
---                        bytes, from the powers that are found
+--   set-answer, period-answer == the answer of the way on accepted factors, terms and lent bytes, from the
+--                        powers that are found
 -- Assumes nothing.
 use Prim.Native.Nat.{ℕ, _≤_, _<_}
 use native.Mathlib.Omega.{arith}
@@ -16,7 +16,7 @@ use mathlib.Core.Option.{Option, some}
 use lib.ListN.{length, length-map}
 use lib.Dec.{T, T-not, eqb, ltb, ltb→lt, lt→ltb, eqb→eq}
 use Rattle.meaning.specs.Search.{bind, isNone, holdsForSome}
-use Rattle.meaning.specs.Field.{prime, primeInRange, areElements}
+use Rattle.meaning.specs.Field.{Field, prime, primeInRange, areElements}
 use Rattle.meaning.specs.Polynomial.{Polynomial, degree, power, product, monicMultiple}
 use Rattle.meaning.specs.Sequence.{annihilatesKnown}
 use Rattle.meaning.specs.Result.{answered, Rated}
@@ -27,9 +27,8 @@ use Rattle.meaning.specs.Conditions.{coefficientOutOfRange}
 use Rattle.meaning.specs.Conditions.{upperPowersOutOfRange, fewerTermsThan, lentTooShort, acceptedLent}
 use Rattle.meaning.specs.Power.{PowerFigures, powerRating, repeatBound}
 use Rattle.meaning.specs.Period.{periodPower, periodTable, periodAnswer, ratePeriod}
-use Rattle.meaning.specs.Portion.{setPowers, setRating, setTable, setAnswer, rateSet}
-use Rattle.meaning.specs.Portion.{factorTable, acceptedFactors, leastAt, portionTable, ratePortion}
-use Rattle.meaning.specs.Portion.{portionAnswer}
+use Rattle.meaning.specs.Portion.{SetFigures, factorsOf, setPowers, setBound, setRating, setTable, setAnswer}
+use Rattle.meaning.specs.Portion.{rateSet, factorTable, acceptedFactors}
 use Rattle.meaning.specs.Free.{freeTable}
 use Rattle.meaning.proofs.Tables.{of-one}
 use Rattle.meaning.proofs.Passes.{Passes, _&_, nothing, accepted-passes}
@@ -136,6 +135,37 @@ abbrev pub multiplesNamed : ℕ → List Polynomial → List ℕ → List (Polyn
 multiplesNamed p fs vs = named (map (monicMultiple (prime p)) fs) vs
 
 -- THE SET WAY
+-- the answer with powers, where the bound is known
+unfoldable pub set-rating-of : Field → List (Polynomial × ℕ) → List ℕ → ℕ → Rated SetFigures
+set-rating-of F l rs b =
+    record {
+      figures = record { powers = rs; degree = degree (product F (named (factorsOf l) rs)); bound = b };
+      polynomial = product F (named (factorsOf l) rs);
+    }
+
+pub set-rated :
+    (F : Field) (l : List (Polynomial × ℕ)) {o : Option (List ℕ)} (rs : List ℕ) {b : ℕ}
+    → o ≡ some rs
+    → setBound F (named (factorsOf l) rs) ≡ some b
+    → bind o (setRating F l) ≡ some (set-rating-of F l rs b)
+unfolding setRating set-rating-of
+set-rated F l rs e k = bind-some (setRating F l) e ∙ mapOption-some _ k
+
+-- the powers and the bound of an answer
+pub rated-set :
+    (F : Field) (l : List (Polynomial × ℕ)) (o : Option (List ℕ)) {a : Rated SetFigures}
+    → bind o (setRating F l) ≡ some a
+    → (rs : List ℕ)
+    × (b : ℕ)
+    × (o ≡ some rs)
+    × (setBound F (named (factorsOf l) rs) ≡ some b)
+    × (set-rating-of F l rs b ≡ a)
+unfolding setRating set-rating-of
+rated-set F l o e =
+    let (rs, y, z) = some-bind o (setRating F l) e in
+    let (b, s, t) = some-mapOption _ (setBound F (named (factorsOf l) rs)) z in
+    (rs, b, y, s, t)
+
 module _
     (p : ℕ) (fs : List Polynomial) (vs ts : List ℕ) (answer work : ℕ)
     (factors : T (acceptedFactors p fs vs)) (t : AcceptedTerms p ts)
@@ -176,13 +206,14 @@ module _
         & nothing
 
     pub set-answer :
-        (rs : List ℕ)
+        (rs : List ℕ) (b : ℕ)
         → setPowers (prime p) (named gs vs) ts ≡ some rs
-        → rateSet p fs vs ts answer work ≡ answered (setRating (prime p) (named gs vs) rs)
+        → setBound (prime p) (named (factorsOf (named gs vs)) rs) ≡ some b
+        → rateSet p fs vs ts answer work ≡ answered (set-rating-of (prime p) (named gs vs) rs b)
     unfolding rateSet setAnswer
-    set-answer rs e = answered-settle _ _ set-passes (mapOption-some (setRating (prime p) (named gs vs)) e)
+    set-answer rs b e k = answered-settle _ _ set-passes (set-rated (prime p) (named gs vs) rs e k)
 
--- ONE FACTOR
+-- THE PERIOD WAY
 -- the answer with a power, where the repeat bound is known
 unfoldable pub rating-of : (p : ℕ) (f : Polynomial) (r b : ℕ) → Rated PowerFigures
 rating-of p f r b =
@@ -219,39 +250,6 @@ rated-power p f o e =
     let (b, s, t) = some-mapOption _ (repeatBound (prime p) f r) z in
     (r, b, y, s, t)
 
--- THE PORTION WAY
-pub portion-answer :
-    (p : ℕ) (f : Polynomial) (v : ℕ) (ts : List ℕ) (answer work r b : ℕ)
-    → T (acceptedFactors p (f ∷ []) (v ∷ []))
-    → AcceptedTerms p ts
-    → T (acceptedLent answer work)
-    → let g = monicMultiple (prime p) f in
-    totalDegree ((g, v) ∷ []) ≤ length ts
-    → T (annihilatesKnown (prime p) (product (prime p) ((g, v) ∷ [])) ts)
-    → leastAt (prime p) ((g, v) ∷ []) ts 0 ≡ some r
-    → repeatBound (prime p) g r ≡ some b
-    → ratePortion p f v ts answer work ≡ answered (rating-of p g r b)
-unfolding ratePortion portionAnswer portionTable factorTable named
-portion-answer p f v ts answer work r b h t lent enough annihilated found bound =
-    let x = accepted-passes p (f ∷ []) (v ∷ []) h in
-    let g = monicMultiple (prime p) f in
-    answered-settle _ _
-    (x .fieldExists
-    & count-passes p ts t
-    & terms-pass p ts t
-    & of-one _ f (x .degreesInRange)
-    & of-one _ f (x .coefficientsInRange)
-    & of-one _ g (x .irreducible)
-    & multiples-uppers (inRange-isField p (prime-accepted p (x .fieldExists))) (f ∷ []) (v ∷ [])
-    (x .coefficientsInRange)
-    ∙ x .uppersInRange
-    & enough-pass (totalDegree ((g, v) ∷ [])) ts enough
-    & lent-pass answer work lent
-    & annihilated-pass p (product (prime p) ((g, v) ∷ [])) ts annihilated
-    & nothing)
-    (bind-some (powerRating (prime p) g) found ∙ power-rated p g r b bound)
-
--- THE PERIOD WAY
 pub period-answer :
     (p : ℕ) (f : Polynomial) (ts : List ℕ) (answer work r b : ℕ) (vs : List ℕ)
     → T (acceptedFactors p (f ∷ []) vs)

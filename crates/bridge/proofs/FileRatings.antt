@@ -28,7 +28,7 @@ use Rattle.meaning.specs.Conditions.{named}
 use Rattle.meaning.specs.Power.{PowerFigures, powerRating, repeatBound}
 use Rattle.meaning.specs.Repeat.{shortestPeriod}
 use Rattle.meaning.specs.Period.{periodPower, periodTable, periodAnswer}
-use Rattle.meaning.specs.Portion.{SetFigures, factorsOf, setPowers, setRating, setTable, setAnswer}
+use Rattle.meaning.specs.Portion.{SetFigures, factorsOf, setPowers, setTable, setAnswer}
 use Rattle.meaning.specs.Free.{FreeFigures, Fits, rateFree}
 use Rattle.meaning.specs.Route.{RouteRecord, Mode, periodMode, setMode, freeMode, modeOf, byteOf, bodies}
 use Rattle.meaning.specs.Route.{suits, modeUnsuited, records, factorUpper}
@@ -43,7 +43,7 @@ use Rattle.bridge.proofs.Products.{power-nonempty, product-nonempty, No
 use Rattle.bridge.proofs.Products.{factorAt-factorsOf, length-factorsOf, length-named}
 use Rattle.bridge.proofs.Fitting.{free-rated}
 use Rattle.bridge.proofs.Repeats.{shortest-exists}
-use Rattle.bridge.proofs.Accepted.{prime-accepted, count-accepted}
+use Rattle.bridge.proofs.Accepted.{prime-accepted, count-accepted, set-rating-of, rated-set}
 use Rattle.bridge.proofs.Records.{records-suited}
 
 abbrev Whole : Rated FileFigures → Type 0
@@ -80,10 +80,10 @@ pub set-size :
     → {b : Rated SetFigures}
     → setAnswer p ten eleven l ts answer work ≡ answered b
     → length (b .polynomial) ≡ suc (b .figures .degree)
-unfolding setAnswer setTable setRating
+unfolding setAnswer setTable set-rating-of
 set-size p ten eleven l ts answer work n e =
     let (h, v) = settle-answered _ (setTable p ten eleven l ts answer work) e in
-    let (rs, _, q) = some-mapOption _ (setPowers (prime p) l ts) v in
+    let (rs, _, _, _, q) = rated-set (prime p) l (setPowers (prime p) l ts) v in
     let I = inRange-isField p (prime-accepted p (h .fieldExists)) in
     subst (λ b. length (b .polynomial) ≡ suc (b .figures .degree)) q
     (degree-length (product (prime p) (named (factorsOf l) rs))

@@ -1,4 +1,4 @@
--- The set way and the portion way: the powers that `meaning` finds make the minimal polynomial.
+-- The set way: the powers that `meaning` finds make the minimal polynomial.
 --
 -- l is a list of factors with their upper powers, D its total degree, ts the known terms.
 --
@@ -55,7 +55,7 @@ use Rattle.bridge.proofs.Products.{withPower-nonempties, withPower-moni
 use Rattle.bridge.proofs.Products.{product-nonempty, degree-product, product-monic}
 use Rattle.bridge.proofs.Products.{product-single, product-append, product-split, poly-product}
 use Rattle.bridge.proofs.Products.{poly-withPower, poly-named, times-comm, power-nonempty, power-monic}
-use Rattle.bridge.proofs.Products.{power-add, named-monics, times-assoc}
+use Rattle.bridge.proofs.Products.{power-add, named-monics, times-assoc, total-one}
 use Rattle.bridge.proofs.Actions.{sequence, endless-kills, kills-endless, endless-known, cut-take}
 use Rattle.bridge.proofs.Actions.{length-cut, cut-elements, actAt-shift, cut-equal}
 use Rattle.bridge.proofs.Irreducibles.{Factors, pairs-atoms, factors-monics}
@@ -544,21 +544,14 @@ module _ {F : Field} (I : IsField F) (f : Polynomial) (monic : T (isMonicOver F 
   one-monics zero k = monic
   one-monics (suc i) k = absurd (omega arith)
 
-  one-degree : totalDegree one ≡ v * degree f
-  unfolding totalDegree
-  one-degree = ℕ.add-zero (v * degree f)
-
   one-power : (r : ℕ) → product F (withPower 0 r one) ≡ power F f r
   unfolding withPower
   one-power r = product-single I f r (monic-nonempty F f monic)
 
-  pub portion-found : (r : ℕ) × (leastAt F ((f, v) ∷ []) ts 0 ≡ some r)
-  portion-found = let x = leastAt-exists I one (monics-nonempty F one one-monics) ts 0 in (x .0, x .1)
-
   pub portion-least : {r : ℕ} → leastAt F ((f, v) ∷ []) ts 0 ≡ some r → PortionMeaning F f v ts r
   portion-least {r} e =
       let (b, x) =
-      leastAt-onward I one one-monics ts elements (subst (λ d. d ≤ length ts) (sym one-degree) enough) 0
+      leastAt-onward I one one-monics ts elements (subst (λ d. d ≤ length ts) (sym (total-one f v)) enough) 0
       (omega arith) e in
       record {
         annihilates = subst (λ g. AnnihilatesEndless F g (onward F one ts)) (one-power r) (x .holds);

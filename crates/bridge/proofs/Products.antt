@@ -8,6 +8,7 @@
 --   power-add, power-mul == powers with a sum and a product of exponents
 --   factorAt l i, powerAt l i == the factor and the power in place i of a list of pairs; [] and 0 beyond it
 --   Nonempties l, MonicFactors F l == no factor is empty; each is monic over F
+--   named-one, total-one == one factor with its power, and its total degree
 --   product-split  == the product with the power r in place i is the r-th power of that factor times the rest
 --   poly-withPower, poly-named == such products in the form of `power-product` of `algebra`
 --
@@ -379,6 +380,21 @@ unfolding named
 length-named [] us = refl
 length-named (f ∷ fs) [] = ap suc (length-named fs [])
 length-named (f ∷ fs) (u ∷ us) = ap suc (length-named fs us)
+
+-- one factor
+pub named-one :
+    (fs : List Polynomial) (us : List ℕ)
+    → length fs ≡ 1
+    → named fs us ≡ (getD fs 0 [], getD us 0 0) ∷ []
+unfolding named
+named-one [] us n = absurd (omega arith)
+named-one (f ∷ []) [] n = refl
+named-one (f ∷ []) (u ∷ us) n = refl
+named-one (f ∷ g ∷ fs) us n = absurd (omega arith)
+
+pub total-one : (f : Polynomial) (v : ℕ) → totalDegree ((f, v) ∷ []) ≡ v * degree f
+unfolding totalDegree
+total-one f v = ℕ.add-zero (v * degree f)
 
 pub factorsOf-named : (fs : List Polynomial) (us : List ℕ) → factorsOf (named fs us) ≡ fs
 unfolding named factorsOf

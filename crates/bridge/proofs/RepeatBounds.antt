@@ -5,6 +5,7 @@
 --   repeatBound-zero, repeatBound-x, repeatBound-value == the bound: 1 for the power 0, 0 for x and a power
 --                     above 0, else p^t·(q^d − 1) with the level t, q the size of the field and d the degree
 --   repeatBound-exists == there is always one
+--   setBound-one, setBound-several, setBound-exists == the bound of a set: that of a single factor, and 0
 --   repeatBound-bounds == f irreducible, and not x or the power 0: what f^r annihilates has a least period,
 --                     and the bound is not below it
 --   power-degree-bound, level-bound == the two factors, for a size up to 251 and a degree that 10 lets pass;
@@ -14,9 +15,9 @@
 -- Assumes nothing.
 use Prim.Native.Nat.{ℕ, zero, suc, _+_, _*_, _-_, _^_, _/_, _%_, _≤_, _<_}
 use mathlib.Core.Path.{_≡_, refl, sym, ap, subst, _∙_}
-use mathlib.Core.Logic.{_⊎_, inl, inr}
+use mathlib.Core.Logic.{_⊎_, _≢_, inl, inr}
 use mathlib.Core.Bool.{Bool, true, false, _||_}
-use mathlib.Core.List.{[], _∷_}
+use mathlib.Core.List.{List, [], _∷_}
 use mathlib.Core.Option.{some, Option·some-injective}
 use native.Mathlib.Nat as ℕ
 use native.Mathlib.Decide.{decLe}
@@ -30,10 +31,8 @@ use Rattle.meaning.specs.Polynomial.{Polynomial, degree, isMonicOver, power, ir
 use Rattle.meaning.specs.Sequence.{Sequence, InField, actAt, AnnihilatesEndless, LeastPeriod}
 use Rattle.meaning.specs.Conditions.{degreeOutOfRange, factorDegreeOutOfRange}
 use Rattle.meaning.specs.Power.{isX, repeatBound, BoundMeaning}
-use Rattle.meaning.specs.Portion.{acceptedFactors, factorTable}
-use Rattle.meaning.proofs.Tables.{of-one}
-use Rattle.meaning.proofs.Passes.{accepted-passes}
-use Rattle.algebra.proofs.Number.{prime-pos, least-below}
+use Rattle.meaning.specs.Portion.{setBound}
+use Rattle.algebra.proofs.Number.{least-below}
 use Rattle.algebra.proofs.Power.{power as algebra-power}
 use Rattle.algebra.proofs.Polynomial.{X}
 use Rattle.algebra.proofs.Action.{Kills}
@@ -41,13 +40,12 @@ use Rattle.algebra.proofs.Cut.{Periodic}
 use Rattle.algebra.proofs.Order.{LeastPeriod as AlgebraLeastPeriod, power-least-period, constant-least-period}
 use Rattle.bridge.proofs.Searches.{T-true, true-T, false-T, least-found}
 use Rattle.bridge.proofs.Searches.{mapOption-some, some-mapOption, least-some, LeastPasses}
-use Rattle.bridge.proofs.Interpretation.{IsField, element-injective, elements, inRange-prime}
+use Rattle.bridge.proofs.Interpretation.{IsField, element-injective, elements}
 use Rattle.bridge.proofs.Interpretation.{prime-size, prime-characteristic-number}
-use Rattle.bridge.proofs.Polynomials.{monic-nonempty, polyRing, poly, poly-x, monic-equal}
+use Rattle.bridge.proofs.Polynomials.{polyRing, poly, poly-x, monic-equal}
 use Rattle.bridge.proofs.Products.{poly-power, power-zero-list}
 use Rattle.bridge.proofs.Actions.{sequence, endless-kills, actAt-one}
-use Rattle.bridge.proofs.Irreducibles.{accepted-prime, accepted-different, irreducible-poly, equal-isX}
-use Rattle.bridge.proofs.Irreducibles.{x-monic, accepted-degree}
+use Rattle.bridge.proofs.Irreducibles.{irreducible-poly, equal-isX, x-monic, accepted-degree}
 
 pub record Level (p r t : ℕ) : Type 0 where
   pub reaches : r ≤ p ^ t
@@ -179,6 +177,24 @@ repeatBound-exists F f (suc r) l = go (isX f) refl
     go false e =
         let (t, x) = level-exists (F .characteristic) (suc r) l in
         (_, repeatBound-value F f l (omega arith) e x)
+
+-- The bound of a set
+pub setBound-one : (F : Field) (f : Polynomial) (r : ℕ) → setBound F ((f, r) ∷ []) ≡ repeatBound F f r
+unfolding setBound
+setBound-one F f r = refl
+
+pub setBound-several : (F : Field) (l : List (Polynomial × ℕ)) → length l ≢ 1 → setBound F l ≡ some 0
+unfolding setBound
+setBound-several F [] n = refl
+setBound-several F (f ∷ []) n = absurd (n refl)
+setBound-several F (f ∷ g ∷ l) n = refl
+
+pub setBound-exists :
+    (F : Field) (l : List (Polynomial × ℕ)) → 1 < F .characteristic → (b : ℕ) × (setBound F l ≡ some b)
+unfolding setBound
+setBound-exists F [] c = (0, refl)
+setBound-exists F (f ∷ []) c = repeatBound-exists F (f .0) (f .1) c
+setBound-exists F (f ∷ g ∷ l) c = (0, refl)
 
 -- The least period
 module _ {F : Field} (I : IsField F) (s : Sequence) (h : InField F s) where

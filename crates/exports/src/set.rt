@@ -1,4 +1,4 @@
-// The set way for programs in other languages.
+// The set way for programs in other languages, on any portion with one factor or more.
 use flat_bytes::factors::rate_concatenated;
 use flat_bytes::numbers::first_nine;
 use flat_bytes::numbers::number_count;
@@ -34,13 +34,14 @@ fn rate_numbered_set(
     rate_concatenated(p, factors, &parts[0..count], &powers, terms, answer, work)
 }
 
-// Rates a portion with one to eight factors: leaves the powers in the order of the factors, then zeros, and
-// the degree. The factors stand one after another in one slice, with their lengths apart. Lengths, upper
-// powers and powers are numbers of eight bytes each, the least significant first. Any number of bytes may be
-// lent for the powers: as many of the 64 bytes of eight powers as were lent are written, from the front, so
-// that 8·n are enough for n factors. Bytes beyond 64 stay as they were, and a refusal leaves all so.
+// Rates a portion with one to eight factors: leaves the powers in the order of the factors, then zeros, the
+// degree, and the bound, which is the repeat bound of a single factor and 0 with several. The factors stand
+// one after another in one slice, with their lengths apart. Lengths, upper powers and powers are numbers of
+// eight bytes each, the least significant first. Any number of bytes may be lent for the powers: as many of
+// the 64 bytes of eight powers as were lent are written, from the front, so that 8·n are enough for n
+// factors. Bytes beyond 64 stay as they were, and a refusal leaves all so.
 #[no_mangle]
-pub extern "C" fn rater_rate_set(
+pub extern "C" fn rater_rate_with_factors(
     p: u64,
     factors: &[u8],
     lengths: &[u8],
@@ -50,13 +51,16 @@ pub extern "C" fn rater_rate_set(
     work: &mut [u8],
     powers: &mut [u8],
     degree: &mut u64,
+    bound: &mut u64,
 ) -> u64
     ensures { λ r. ⌜ SetExported
         (rateSet p (split (now (factors .entry)) (numbersOf (now (lengths .entry))))
         (numbersOf (now (uppers .entry))) (now (terms .entry)) (length (now (answer .entry)))
         (length (now (work .entry))))
-        (now (answer .entry)) (now (work .entry)) (now (powers .entry)) (now (degree .entry)) r
-        (now (answer .exit)) (now (work .exit)) (now (powers .exit)) (now (degree .exit)) ⌝ }
+        (now (answer .entry)) (now (work .entry)) (now (powers .entry))
+        (now (degree .entry)) (now (bound .entry)) r
+        (now (answer .exit)) (now (work .exit)) (now (powers .exit))
+        (now (degree .exit)) (now (bound .exit)) ⌝ }
 {
     let rating = rate_numbered_set(p, factors, lengths, uppers, terms, answer, work);
     let outcome = rating.outcome;
@@ -64,10 +68,12 @@ pub extern "C" fn rater_rate_set(
     match outcome {
         SetOutcome::Rated {
             degree: d,
+            bound: b,
             count: _,
         } => {
             write_eight(&found, powers);
             *degree = d;
+            *bound = b;
             0
         }
         SetOutcome::Refused(r) => refusal_number(r),

@@ -32,6 +32,9 @@ fn part_end(size: usize, from: usize, lengths: &[u64], i: usize) -> usize
 fn factor_at<'a>(flat: &'a [u8], lengths: &[u64], i: usize) -> &'a [u8]
     ensures { λ r. ⌜ now r ≡ getD (split (now (flat .entry)) (now (lengths .entry))) i [] ⌝ }
 {
+    if lengths.len() <= i {
+        return &flat[0..0];
+    }
     let size = flat.len();
     let mut from = 0;
     // part i is part i − j of the bytes from `from` on, cut by the lengths from j on

@@ -12,14 +12,14 @@ use Rattle.meaning.specs.Field.{primeInRange}
 use Rattle.meaning.specs.Polynomial.{Polynomial}
 use Rattle.meaning.specs.Result.{answered, figuresOf}
 use Rattle.meaning.specs.Period.{ratePeriod}
-use Rattle.meaning.specs.Portion.{ratePortion, rateSet}
+use Rattle.meaning.specs.Portion.{rateSet}
 use Rattle.meaning.specs.Free.{rateFree}
 use Rattle.meaning.specs.Continuation.{continueSequence}
 use Rattle.meaning.specs.Irreducibility.{askIrreducible}
 use Rattle.meaning.specs.Route.{boxOf}
 use Rattle.meaning.specs.File.{rateFile}
 use Rattle.meaning.proofs.Computed.{computed}
-use Rattle.meaning.proofs.Rows.{numberIn, box, field, mode, factor, term, end, x+1, x²+x+1}
+use Rattle.meaning.proofs.Rows.{numberIn, setAnswer, box, field, mode, factor, term, end, x+1, x²+x+1}
 
 -- a list of degree d whose leading coefficient is 0: it meets 11 where 10 lets its degree pass
 abbrev ofDegree : ℕ → Polynomial
@@ -30,6 +30,9 @@ ask p f = numberIn (askIrreducible p f)
 
 abbrev period : ℕ → List ℕ → Option ℕ
 period p ts = numberIn (ratePeriod p x+1 ts 4097 8192)
+
+abbrev portion : Polynomial → ℕ → List ℕ → Option ℕ
+portion f v ts = numberIn (rateSet 2 (f ∷ []) (v ∷ []) ts 4097 8192)
 
 abbrev continued : Polynomial → List ℕ → ℕ → ℕ → Option ℕ
 continued g start place size = numberIn (continueSequence 2 g start place (replicate size 0))
@@ -105,18 +108,27 @@ pub record Boundaries : Type 0 where
   pub leadingEqual : ask 251 (1 ∷ 251 ∷ []) ≡ some 11
   pub leadingOneBeforeZero : ask 3 (0 ∷ 1 ∷ 0 ∷ []) ≡ some 11
   -- 14 and 15: upper powers from 1, total degree at most 4,096 and at most the number of terms
-  pub upper0 : numberIn (ratePortion 2 x+1 0 (0 ∷ []) 4097 8192) ≡ some 14
-  pub upper1 : numberIn (ratePortion 2 x+1 1 (0 ∷ []) 4097 8192) ≡ none
-  pub total4096 : numberIn (ratePortion 2 x+1 4096 (0 ∷ []) 4097 8192) ≡ some 15
-  pub total4097 : numberIn (ratePortion 2 x+1 4097 (0 ∷ []) 4097 8192) ≡ some 14
-  pub totalTwice2048 : numberIn (ratePortion 2 x²+x+1 2048 (0 ∷ []) 4097 8192) ≡ some 15
-  pub totalTwice2049 : numberIn (ratePortion 2 x²+x+1 2049 (0 ∷ []) 4097 8192) ≡ some 14
-  pub upperHuge : numberIn (ratePortion 2 x+1 (2 ^ 64 - 1) (0 ∷ []) 4097 8192) ≡ some 14
-  pub asManyTerms : numberIn (ratePortion 2 x+1 2 (0 ∷ 1 ∷ []) 4097 8192) ≡ none
-  pub oneTermFewer : numberIn (ratePortion 2 x+1 3 (0 ∷ 1 ∷ []) 4097 8192) ≡ some 15
+  pub upper0 : portion x+1 0 (0 ∷ []) ≡ some 14
+  pub upper1 : portion x+1 1 (0 ∷ []) ≡ none
+  pub total4096 : portion x+1 4096 (0 ∷ []) ≡ some 15
+  pub total4097 : portion x+1 4097 (0 ∷ []) ≡ some 14
+  pub totalTwice2048 : portion x²+x+1 2048 (0 ∷ []) ≡ some 15
+  pub totalTwice2049 : portion x²+x+1 2049 (0 ∷ []) ≡ some 14
+  pub upperHuge : portion x+1 (2 ^ 64 - 1) (0 ∷ []) ≡ some 14
+  pub asManyTerms : portion x+1 2 (0 ∷ 1 ∷ []) ≡ none
+  pub oneTermFewer : portion x+1 3 (0 ∷ 1 ∷ []) ≡ some 15
   pub upperMissing : numberIn (rateSet 2 (x+1 ∷ (0 ∷ 1 ∷ []) ∷ []) (1 ∷ []) (0 ∷ 1 ∷ []) 4097 8192)
       ≡ some 14
   pub upperBeyond : numberIn (rateSet 2 (x+1 ∷ []) (1 ∷ 0 ∷ []) (1 ∷ []) 4097 8192) ≡ none
+  -- the bound: that of a single factor, whatever the number of upper powers, and 1 on zeros; 0 with several,
+  -- also where one alone has a power, and on zeros
+  pub boundOfOne : rateSet 2 (x+1 ∷ []) (2 ∷ 0 ∷ 7 ∷ []) (1 ∷ 0 ∷ []) 4097 8192
+      ≡ setAnswer (2 ∷ []) 2 2 (1 ∷ 0 ∷ 1 ∷ [])
+  pub boundOnZeros : rateSet 2 (x+1 ∷ []) (1 ∷ []) (0 ∷ []) 4097 8192 ≡ setAnswer (0 ∷ []) 0 1 (1 ∷ [])
+  pub boundOfOnePower : rateSet 2 (x+1 ∷ x²+x+1 ∷ []) (1 ∷ 1 ∷ []) (1 ∷ 1 ∷ 1 ∷ []) 4097 8192
+      ≡ setAnswer (1 ∷ 0 ∷ []) 1 0 x+1
+  pub boundOfNoPower : rateSet 2 (x+1 ∷ x²+x+1 ∷ []) (1 ∷ 1 ∷ []) (0 ∷ 0 ∷ 0 ∷ []) 4097 8192
+      ≡ setAnswer (0 ∷ 0 ∷ []) 0 0 (1 ∷ [])
   -- 16: 4,097 answer bytes and 8,192 work bytes
   pub lentExactly : numberIn (ratePeriod 2 x+1 (1 ∷ []) 4097 8192) ≡ none
   pub answerShort : numberIn (ratePeriod 2 x+1 (1 ∷ []) 4096 8192) ≡ some 16
@@ -127,9 +139,9 @@ pub record Boundaries : Type 0 where
   -- total degree nothing is; all further terms count
   pub xOnNonzero : numberIn (ratePeriod 2 (0 ∷ 1 ∷ []) (0 ∷ 1 ∷ []) 4097 8192) ≡ some 17
   pub xOnZero : numberIn (ratePeriod 2 (0 ∷ 1 ∷ []) (0 ∷ 0 ∷ []) 4097 8192) ≡ none
-  pub xInPortion : numberIn (ratePortion 2 (0 ∷ 1 ∷ []) 2 (1 ∷ 1 ∷ []) 4097 8192) ≡ none
-  pub xOneMore : numberIn (ratePortion 2 (0 ∷ 1 ∷ []) 2 (1 ∷ 1 ∷ 1 ∷ []) 4097 8192) ≡ some 17
-  pub secondFurtherTerm : numberIn (ratePortion 2 x+1 1 (1 ∷ 1 ∷ 0 ∷ []) 4097 8192) ≡ some 17
+  pub xInPortion : portion (0 ∷ 1 ∷ []) 2 (1 ∷ 1 ∷ []) ≡ none
+  pub xOneMore : portion (0 ∷ 1 ∷ []) 2 (1 ∷ 1 ∷ 1 ∷ []) ≡ some 17
+  pub secondFurtherTerm : portion x+1 1 (1 ∷ 1 ∷ 0 ∷ []) ≡ some 17
   -- free way: `one` where 2L is at most m, `some` beyond; on zeros the degree is 0; the degree may be m
   pub oneAtTwice : figuresOf (rateFree 2 (1 ∷ 0 ∷ []) 4097 8192)
       ≡ answered (record { degree = 1; unique = true })
@@ -242,6 +254,10 @@ boundaries =
       oneTermFewer = refl;
       upperMissing = refl;
       upperBeyond = refl;
+      boundOfOne = refl;
+      boundOnZeros = refl;
+      boundOfOnePower = refl;
+      boundOfNoPower = refl;
       lentExactly = refl;
       answerShort = refl;
       workShort = refl;

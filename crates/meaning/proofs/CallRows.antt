@@ -18,7 +18,7 @@ use Rattle.meaning.specs.declared.FreeRating.{FreeRating}
 use Rattle.meaning.specs.declared.Filling.{Filling}
 use Rattle.meaning.specs.declared.FileOutcome.{FileOutcome}
 use Rattle.meaning.specs.declared.RecordOutcome.{RecordOutcome}
-use Rattle.meaning.specs.Calls.{PrimeCall, IrreducibleCall, PeriodCall, PortionCall, SetCall, FreeCall}
+use Rattle.meaning.specs.Calls.{PrimeCall, IrreducibleCall, PeriodCall, SetCall, FreeCall}
 use Rattle.meaning.specs.Calls.{ContinueCall, FileCall, RecordCall, ProgramCall}
 use Rattle.meaning.specs.Print.{text}
 use Rattle.meaning.proofs.Computed.{computed}
@@ -72,16 +72,16 @@ pub record CallRows : Type 0 where
       (PowerRating.Refused Refusal.Reducible)
       answer
       work
-  pub portionG : PortionCall 2 x+1 2 (1 ∷ 0 ∷ []) answer work
-      (PowerRating.Rated 2 2 2)
+  pub setG : SetCall 2 (x+1 ∷ []) (2 ∷ []) (1 ∷ 0 ∷ []) answer work
+      (record { outcome = SetOutcome.Rated 2 2 1; powers = 2 ∷ replicate 7 0 })
       (1 ∷ 0 ∷ 1 ∷ replicate 4096 7)
       cleared
-  pub portionL : PortionCall 2 x+1 1 (1 ∷ 0 ∷ []) answer work
-      (PowerRating.Refused Refusal.NotAnnihilated)
+  pub setL : SetCall 2 (x+1 ∷ []) (1 ∷ []) (1 ∷ 0 ∷ []) answer work
+      (record { outcome = SetOutcome.Refused Refusal.NotAnnihilated; powers = eightZeros })
       answer
       cleared
   pub setK : SetCall 2 (x+1 ∷ x²+x+1 ∷ []) (1 ∷ 1 ∷ []) (0 ∷ 1 ∷ 1 ∷ []) answer work
-      (record { outcome = SetOutcome.Rated 2 2; powers = 0 ∷ 1 ∷ 0 ∷ 0 ∷ 0 ∷ 0 ∷ 0 ∷ 0 ∷ [] })
+      (record { outcome = SetOutcome.Rated 2 0 2; powers = 0 ∷ 1 ∷ 0 ∷ 0 ∷ 0 ∷ 0 ∷ 0 ∷ 0 ∷ [] })
       (1 ∷ 1 ∷ 1 ∷ replicate 4096 7)
       cleared
   pub setNine : SetCall 2 [] [] (0 ∷ []) answer work
@@ -152,8 +152,8 @@ call-rows =
       periodB = record { rating = refl; lent = record { answerBytes = refl; workBytes = refl } };
       periodF = record { rating = refl; lent = record { answerBytes = refl; workBytes = refl } };
       periodTwelve = record { rating = refl; lent = record { answerBytes = refl; workBytes = refl } };
-      portionG = record { rating = refl; lent = record { answerBytes = refl; workBytes = refl } };
-      portionL = record { rating = refl; lent = record { answerBytes = refl; workBytes = refl } };
+      setG = record { rating = refl; powers = refl; lent = record { answerBytes = refl; workBytes = refl } };
+      setL = record { rating = refl; powers = refl; lent = record { answerBytes = refl; workBytes = refl } };
       setK = record { rating = refl; powers = refl; lent = record { answerBytes = refl; workBytes = refl } };
       setNine =
           record { rating = refl; powers = refl; lent = record { answerBytes = refl; workBytes = refl } };

@@ -23,8 +23,7 @@ use Rattle.meaning.specs.Power.{isX, repeatBound, powerRating}
 use Rattle.meaning.specs.Repeat.{repeatsEvery, shortestPeriod}
 use Rattle.meaning.specs.Period.{periodPower, periodTable, periodAnswer, ratePeriod}
 use Rattle.meaning.specs.Portion.{factorsOf, withPower, leastAt, setPowers, onward, setRating, setTable}
-use Rattle.meaning.specs.Portion.{setAnswer, rateSet, factorTable, acceptedFactors, portionTable}
-use Rattle.meaning.specs.Portion.{portionAnswer, ratePortion}
+use Rattle.meaning.specs.Portion.{setBound, setAnswer, rateSet, factorTable, acceptedFactors}
 use Rattle.meaning.specs.Free.{fitsDegree, leastDegree, isUnique, freePolynomial, freeRating, freeTable}
 use Rattle.meaning.specs.Free.{rateFree}
 use Rattle.meaning.specs.Meter.{freeFigures, startMeter, meterFull, termTable, takeTerm, meterReading}
@@ -101,13 +100,10 @@ unfoldable pub openPeriod : Unit {0}
 unfolding periodPower periodTable periodAnswer ratePeriod
 openPeriod = tt
 
-unfoldable pub openPortion-1 : Unit {0}
-unfolding factorsOf withPower leastAt setPowers onward setRating setTable setAnswer rateSet factorTable
-openPortion-1 = tt
-
-unfoldable pub openPortion-2 : Unit {0}
-unfolding acceptedFactors portionTable portionAnswer ratePortion
-openPortion-2 = tt
+unfoldable pub openPortion : Unit {0}
+unfolding factorsOf withPower leastAt setPowers onward setBound setRating setTable setAnswer rateSet
+    factorTable acceptedFactors
+openPortion = tt
 
 unfoldable pub openFree : Unit {0}
 unfolding fitsDegree leastDegree isUnique freePolynomial freeRating freeTable rateFree
@@ -175,7 +171,7 @@ unfolding openSequence-2 openResult openConditions-1 openConditions-2 openCondit
 opened-2 = tt
 
 unfoldable pub opened-3 : Unit {0}
-unfolding openPower openRepeat openPeriod openPortion-1 openPortion-2 openFree openMeter openProfile
+unfolding openPower openRepeat openPeriod openPortion openFree openMeter openProfile
 opened-3 = tt
 
 unfoldable pub opened-4 : Unit {0}

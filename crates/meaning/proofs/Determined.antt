@@ -43,7 +43,7 @@ use Rattle.meaning.specs.Power.{PowerFigures}
 use Rattle.meaning.specs.Free.{FreeFigures}
 use Rattle.meaning.specs.Meter.{MeterModel, Holding}
 use Rattle.meaning.specs.Catalogue.{EntryFigures}
-use Rattle.meaning.specs.Calls.{LentAfter, IrreducibleCall, PeriodCall, PortionCall, SetCall}
+use Rattle.meaning.specs.Calls.{LentAfter, IrreducibleCall, PeriodCall, SetCall}
 use Rattle.meaning.specs.Calls.{FreeCall, StartCall, TermCall, ReadingCall, ContinueCall, FileCall}
 use Rattle.meaning.specs.Calls.{EntryCall, CatalogueCall}
 use Rattle.meaning.specs.Calls.{RecordCall}
@@ -183,11 +183,11 @@ power-determined = determined toldPower power power-told
 
 set : Result SetTold → Option SetOutcome
 set (refused n) = refusing SetOutcome.Refused n
-set (answered a) = some (SetOutcome.Rated (a .degree) (a .count))
+set (answered a) = some (SetOutcome.Rated (a .degree) (a .bound) (a .count))
 
 set-told : (r : SetOutcome) → set (toldSet r) ≡ some r
 unfolding set toldSet
-set-told (SetOutcome.Rated d n) = refl
+set-told (SetOutcome.Rated d b n) = refl
 set-told (SetOutcome.Refused r) = refusing-number SetOutcome.Refused r
 
 pub set-determined : (r s : SetOutcome) → toldSet r ≡ toldSet s → r ≡ s
@@ -257,14 +257,6 @@ pub period-call-determined :
     → PeriodCall p f ts answer work s b x
     → (r ≡ s) × ((a ≡ b) × (w ≡ x))
 period-call-determined {r = r} {s = s} c d =
-    (power-determined r s (c .rating ∙ sym (d .rating)), lent-determined (c .lent) (d .lent))
-
-pub portion-call-determined :
-    {p : ℕ} {f : List ℕ} {v : ℕ} {ts answer work a b w x : List ℕ} {r s : PowerRating}
-    → PortionCall p f v ts answer work r a w
-    → PortionCall p f v ts answer work s b x
-    → (r ≡ s) × ((a ≡ b) × (w ≡ x))
-portion-call-determined {r = r} {s = s} c d =
     (power-determined r s (c .rating ∙ sym (d .rating)), lent-determined (c .lent) (d .lent))
 
 pub set-call-determined :

@@ -8,7 +8,7 @@ use mathlib.Core.List.{List, [], _∷_, _++_}
 use lib.ListN.{replicate}
 use Rattle.meaning.specs.Result.{answerAfter, workAfter}
 use Rattle.meaning.specs.Period.{ratePeriod}
-use Rattle.meaning.specs.Portion.{ratePortion}
+use Rattle.meaning.specs.Portion.{rateSet}
 use Rattle.meaning.proofs.Computed.{computed}
 use Rattle.meaning.proofs.Rows.{x+1}
 
@@ -21,10 +21,11 @@ work = replicate 8194 9
 pub record Lent : Type 0 where
   pub coefficientsFirst : answerAfter (ratePeriod 2 x+1 (1 ∷ []) 4099 8194) answer ≡ 1 ∷ 1 ∷ replicate 4097 7
   pub answerOfZeros : answerAfter (ratePeriod 2 x+1 (0 ∷ []) 4099 8194) answer ≡ 1 ∷ replicate 4098 7
-  pub answerAfterSeventeen : answerAfter (ratePortion 2 x+1 1 (1 ∷ 0 ∷ []) 4099 8194) answer ≡ answer
+  pub answerAfterSeventeen : answerAfter (rateSet 2 (x+1 ∷ []) (1 ∷ []) (1 ∷ 0 ∷ []) 4099 8194) answer
+      ≡ answer
   pub answerAfterSixteen : answerAfter (ratePeriod 2 x+1 (1 ∷ []) 4099 8) answer ≡ answer
   pub workRated : workAfter (ratePeriod 2 x+1 (1 ∷ []) 4099 8194) work ≡ replicate 8192 0 ++ (9 ∷ 9 ∷ [])
-  pub workAfterSeventeen : workAfter (ratePortion 2 x+1 1 (1 ∷ 0 ∷ []) 4099 8194) work
+  pub workAfterSeventeen : workAfter (rateSet 2 (x+1 ∷ []) (1 ∷ []) (1 ∷ 0 ∷ []) 4099 8194) work
       ≡ replicate 8192 0 ++ (9 ∷ 9 ∷ [])
   pub workAfterSixteen : workAfter (ratePeriod 2 x+1 (1 ∷ []) 4096 8194) work ≡ work
   pub workAfterSix : workAfter (ratePeriod 4 x+1 (1 ∷ []) 4099 8194) work ≡ work

@@ -4,8 +4,9 @@
 --                   input
 --   marked-rows  == the theorem: every row holds
 --
--- Lists are written with the constant, or the first term, in front. The lent bytes are just long enough, but
--- for row D, which holds for every accepted factor, every number of zeros and all accepted lent bytes.
+-- Lists are written with the constant, or the first term, in front. A portion with one factor is a set of
+-- one. The lent bytes are just long enough, but for row D, which holds for every accepted factor, every
+-- number of zeros and all accepted lent bytes.
 -- Assumes nothing.
 use Prim.Native.Nat.{ℕ, _≤_}
 use mathlib.Core.Path.{_≡_, refl}
@@ -13,25 +14,20 @@ use mathlib.Core.Bool.{true, false}
 use mathlib.Core.List.{[], _∷_}
 use lib.Dec.{T}
 use Rattle.meaning.specs.Polynomial.{Polynomial}
-use Rattle.meaning.specs.Result.{Result, answered, refused, Rated}
+use Rattle.meaning.specs.Result.{answered, refused}
 use Rattle.meaning.specs.Conditions.{acceptedLent}
-use Rattle.meaning.specs.Power.{PowerFigures}
 use Rattle.meaning.specs.Period.{ratePeriod}
-use Rattle.meaning.specs.Portion.{ratePortion, rateSet, acceptedFactors}
+use Rattle.meaning.specs.Portion.{rateSet, acceptedFactors}
 use Rattle.meaning.specs.Free.{rateFree}
 use Rattle.meaning.proofs.Computed.{computed}
+use Rattle.meaning.proofs.Rows.{powerAnswer, setAnswer}
 use Rattle.meaning.proofs.ZeroPeriod.{zeros, zero-period}
 
--- the answer with a power, its repeat bound, and a polynomial of the degree given
-abbrev pub powerAnswer : (power degree bound : ℕ) → Polynomial → Result (Rated PowerFigures)
-powerAnswer r d b g =
-    answered (record { figures = record { power = r; degree = d; bound = b }; polynomial = g })
-
 pub record MarkedRows : Type 0 where
-  pub A : ratePortion 2 (1 ∷ 1 ∷ 0 ∷ 1 ∷ []) 6
+  pub A : rateSet 2 ((1 ∷ 1 ∷ 0 ∷ 1 ∷ []) ∷ []) (6 ∷ [])
       (0 ∷ 1 ∷ 0 ∷ 1 ∷ 0 ∷ 0 ∷ 0 ∷ 0 ∷ 1 ∷ 0 ∷ 1 ∷ 1 ∷ 0 ∷ 1 ∷ 0 ∷ 1 ∷ 1 ∷ 0 ∷ [])
       4097 8192
-      ≡ powerAnswer 4 12 28 (1 ∷ 0 ∷ 0 ∷ 0 ∷ 1 ∷ 0 ∷ 0 ∷ 0 ∷ 0 ∷ 0 ∷ 0 ∷ 0 ∷ 1 ∷ [])
+      ≡ setAnswer (4 ∷ []) 12 28 (1 ∷ 0 ∷ 0 ∷ 0 ∷ 1 ∷ 0 ∷ 0 ∷ 0 ∷ 0 ∷ 0 ∷ 0 ∷ 0 ∷ 1 ∷ [])
   pub B : ratePeriod 2 (1 ∷ 1 ∷ []) (0 ∷ 0 ∷ 0 ∷ 1 ∷ []) 4097 8192
       ≡ powerAnswer 4 4 4 (1 ∷ 0 ∷ 0 ∷ 0 ∷ 1 ∷ [])
   pub C : ratePeriod 2 (1 ∷ 1 ∷ []) (1 ∷ 1 ∷ 1 ∷ 1 ∷ []) 4097 8192 ≡ powerAnswer 1 1 1 (1 ∷ 1 ∷ [])
@@ -43,16 +39,17 @@ pub record MarkedRows : Type 0 where
       → ratePeriod p f (zeros n) answer work ≡ powerAnswer 0 0 1 (1 ∷ [])
   pub E : ratePeriod 3 (2 ∷ 1 ∷ []) (0 ∷ 1 ∷ 2 ∷ []) 4097 8192 ≡ powerAnswer 2 2 6 (1 ∷ 1 ∷ 1 ∷ [])
   pub F : ratePeriod 2 (1 ∷ 1 ∷ 1 ∷ []) (0 ∷ 0 ∷ 0 ∷ 1 ∷ []) 4097 8192 ≡ refused 17
-  pub G : ratePortion 2 (1 ∷ 1 ∷ []) 2 (1 ∷ 0 ∷ []) 4097 8192 ≡ powerAnswer 2 2 2 (1 ∷ 0 ∷ 1 ∷ [])
+  pub G : rateSet 2 ((1 ∷ 1 ∷ []) ∷ []) (2 ∷ []) (1 ∷ 0 ∷ []) 4097 8192
+      ≡ setAnswer (2 ∷ []) 2 2 (1 ∷ 0 ∷ 1 ∷ [])
   pub H : rateFree 2 (1 ∷ 0 ∷ []) 4097 8192
       ≡ answered (record { figures = record { degree = 1; unique = true }; polynomial = 0 ∷ 1 ∷ [] })
   pub I : rateFree 2 (0 ∷ 1 ∷ []) 4097 8192
       ≡ answered (record { figures = record { degree = 2; unique = false }; polynomial = 0 ∷ 0 ∷ 1 ∷ [] })
-  pub J : ratePortion 2 (0 ∷ 1 ∷ []) 3 (1 ∷ 1 ∷ 0 ∷ []) 4097 8192 ≡ powerAnswer 2 2 0 (0 ∷ 0 ∷ 1 ∷ [])
+  pub J : rateSet 2 ((0 ∷ 1 ∷ []) ∷ []) (3 ∷ []) (1 ∷ 1 ∷ 0 ∷ []) 4097 8192
+      ≡ setAnswer (2 ∷ []) 2 0 (0 ∷ 0 ∷ 1 ∷ [])
   pub K : rateSet 2 ((1 ∷ 1 ∷ []) ∷ (1 ∷ 1 ∷ 1 ∷ []) ∷ []) (1 ∷ 1 ∷ []) (0 ∷ 1 ∷ 1 ∷ []) 4097 8192
-      ≡ answered
-      (record { figures = record { powers = 0 ∷ 1 ∷ []; degree = 2 }; polynomial = 1 ∷ 1 ∷ 1 ∷ [] })
-  pub L : ratePortion 2 (1 ∷ 1 ∷ []) 1 (1 ∷ 0 ∷ []) 4097 8192 ≡ refused 17
+      ≡ setAnswer (0 ∷ 1 ∷ []) 2 0 (1 ∷ 1 ∷ 1 ∷ [])
+  pub L : rateSet 2 ((1 ∷ 1 ∷ []) ∷ []) (1 ∷ []) (1 ∷ 0 ∷ []) 4097 8192 ≡ refused 17
 
 pub marked-rows : MarkedRows
 unfolding computed

@@ -12,17 +12,11 @@ use Rattle.meaning.specs.Polynomial.{Polynomial, monicMultiple}
 use Rattle.meaning.specs.Result.{Result, refused, answered, Rated, answerAfter, workAfter}
 use Rattle.meaning.specs.Power.{PowerFigures}
 use Rattle.meaning.specs.Period.{ratePeriod}
-use Rattle.meaning.specs.Portion.{SetFigures, ratePortion, rateSet, acceptedFactors}
+use Rattle.meaning.specs.Portion.{rateSet, acceptedFactors}
 use Rattle.meaning.specs.Continuation.{continueSequence}
 use Rattle.meaning.specs.Irreducibility.{askIrreducible}
 use Rattle.meaning.proofs.Computed.{computed}
-
-abbrev powerAnswer : (power degree bound : ℕ) → Polynomial → Result (Rated PowerFigures)
-powerAnswer r d b g =
-    answered (record { figures = record { power = r; degree = d; bound = b }; polynomial = g })
-
-abbrev setAnswer : List ℕ → ℕ → Polynomial → Result (Rated SetFigures)
-setAnswer rs d g = answered (record { figures = record { powers = rs; degree = d }; polynomial = g })
+use Rattle.meaning.proofs.Rows.{powerAnswer, setAnswer}
 
 -- the terms of row E, and the period way on them over GF(3)
 abbrev row-E : Polynomial → Result (Rated PowerFigures)
@@ -55,12 +49,13 @@ pub record MultipleRows : Type 0 where
   pub answer-kept : answerAfter (row-E (1 ∷ 0 ∷ [])) (5 ∷ 6 ∷ []) ≡ 5 ∷ 6 ∷ []
   pub work-kept : workAfter (row-E (1 ∷ 0 ∷ [])) (5 ∷ 6 ∷ []) ≡ 5 ∷ 6 ∷ []
   -- row J over GF(3) with 2x: the bound is that of x
-  pub J : ratePortion 3 (0 ∷ 2 ∷ []) 3 (1 ∷ 1 ∷ 0 ∷ []) 4097 8192 ≡ powerAnswer 2 2 0 (0 ∷ 0 ∷ 1 ∷ [])
-  pub portion-seventeen : ratePortion 3 (1 ∷ 2 ∷ []) 1 (1 ∷ 0 ∷ []) 4097 8192 ≡ refused 17
-  pub portion-leading-zero : ratePortion 3 (1 ∷ 0 ∷ []) 1 (1 ∷ 0 ∷ []) 4097 8192 ≡ refused 11
+  pub J : rateSet 3 ((0 ∷ 2 ∷ []) ∷ []) (3 ∷ []) (1 ∷ 1 ∷ 0 ∷ []) 4097 8192
+      ≡ setAnswer (2 ∷ []) 2 0 (0 ∷ 0 ∷ 1 ∷ [])
+  pub single-seventeen : rateSet 3 ((1 ∷ 2 ∷ []) ∷ []) (1 ∷ []) (1 ∷ 0 ∷ []) 4097 8192 ≡ refused 17
+  pub single-leading-zero : rateSet 3 ((1 ∷ 0 ∷ []) ∷ []) (1 ∷ []) (1 ∷ 0 ∷ []) 4097 8192 ≡ refused 11
   -- 2x + 2 and 2x + 1; equal are multiples of one another, whatever their upper powers
   pub both : rateSet 3 ((2 ∷ 2 ∷ []) ∷ (1 ∷ 2 ∷ []) ∷ []) (1 ∷ 1 ∷ []) (0 ∷ 1 ∷ 0 ∷ []) 4097 8192
-      ≡ setAnswer (1 ∷ 1 ∷ []) 2 (2 ∷ 0 ∷ 1 ∷ [])
+      ≡ setAnswer (1 ∷ 1 ∷ []) 2 0 (2 ∷ 0 ∷ 1 ∷ [])
   pub equal : rateSet 3 ((1 ∷ 1 ∷ []) ∷ (2 ∷ 2 ∷ []) ∷ []) (1 ∷ 2 ∷ []) (0 ∷ 1 ∷ 1 ∷ []) 4097 8192
       ≡ refused 13
   pub reducible : rateSet 3 ((2 ∷ 2 ∷ []) ∷ (1 ∷ 0 ∷ 2 ∷ []) ∷ []) (1 ∷ 1 ∷ []) (0 ∷ 1 ∷ 1 ∷ []) 4097 8192
@@ -106,8 +101,8 @@ multiple-rows =
       answer-kept = refl;
       work-kept = refl;
       J = refl;
-      portion-seventeen = refl;
-      portion-leading-zero = refl;
+      single-seventeen = refl;
+      single-leading-zero = refl;
       both = refl;
       equal = refl;
       reducible = refl;

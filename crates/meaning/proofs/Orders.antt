@@ -10,7 +10,7 @@ use mathlib.Core.Option.{Option, none, some}
 use lib.ListN.{replicate}
 use Rattle.meaning.specs.Polynomial.{Polynomial}
 use Rattle.meaning.specs.Period.{ratePeriod}
-use Rattle.meaning.specs.Portion.{ratePortion, rateSet}
+use Rattle.meaning.specs.Portion.{rateSet}
 use Rattle.meaning.specs.Free.{rateFree}
 use Rattle.meaning.specs.Continuation.{continueSequence}
 use Rattle.meaning.specs.Irreducibility.{askIrreducible}
@@ -19,7 +19,7 @@ use Rattle.meaning.proofs.Computed.{computed}
 use Rattle.meaning.proofs.Rows.{numberIn, box, field, mode, factor, term, stop, end, x+1, x²+1}
 use Rattle.meaning.proofs.Rows.{x²+x+1, headed}
 
--- over GF(2): a coefficient that is no element, a leading coefficient that is not 1, a degree of 0
+-- over GF(2): a coefficient that is no element, a leading coefficient of 0, a degree of 0
 abbrev badCoefficient : Polynomial
 badCoefficient = 2 ∷ 1 ∷ []
 
@@ -32,8 +32,9 @@ badDegree = 1 ∷ []
 abbrev set : List Polynomial → List ℕ → List ℕ → Option ℕ
 set fs vs ts = numberIn (rateSet 2 fs vs ts 4097 8192)
 
-abbrev portion : ℕ → Polynomial → ℕ → List ℕ → Option ℕ
-portion p f v ts = numberIn (ratePortion p f v ts 4097 8192)
+-- with one factor
+abbrev single : Polynomial → ℕ → List ℕ → Option ℕ
+single f v ts = set (f ∷ []) (v ∷ []) ts
 
 abbrev ofFile : List ℕ → Option ℕ
 ofFile file = numberIn (rateFile file 4097 8192)
@@ -46,24 +47,20 @@ pub record Orders : Type 0 where
   pub period10and11 : numberIn (ratePeriod 2 (2 ∷ []) (0 ∷ []) 4097 8192) ≡ some 10
   pub period12and16 : numberIn (ratePeriod 2 x²+1 (0 ∷ []) 0 0) ≡ some 12
   pub period16and17 : numberIn (ratePeriod 2 x²+x+1 (0 ∷ 0 ∷ 0 ∷ 1 ∷ []) 4097 0) ≡ some 16
-  -- the portion way
-  pub portion6and7 : portion 4 x+1 1 [] ≡ some 6
-  pub portion7and8 : portion 2 x+1 1 (replicate 4097 2) ≡ some 7
-  pub portion8and10 : portion 2 badDegree 1 (2 ∷ []) ≡ some 8
-  pub portion10and11 : portion 2 (2 ∷ []) 1 (0 ∷ []) ≡ some 10
-  pub portion11and14 : portion 2 badLeading 0 (0 ∷ []) ≡ some 11
-  pub portion12and14 : portion 2 x²+1 0 (0 ∷ []) ≡ some 12
-  pub portion14and15 : portion 2 x+1 4097 (0 ∷ []) ≡ some 14
-  pub portion15and16 : numberIn (ratePortion 2 x+1 2 (0 ∷ []) 0 0) ≡ some 15
-  pub portion16and17 : numberIn (ratePortion 2 x+1 1 (1 ∷ 0 ∷ []) 0 0) ≡ some 16
-  -- the set way
+  -- the set way, with no factor, one and several: 9 stands between 8 and 10, and 13 between 12 and 14; of one
+  -- factor neither holds
   pub set6and7 : numberIn (rateSet 4 (x+1 ∷ []) (1 ∷ []) [] 4097 8192) ≡ some 6
-  pub set7and8 : set (x+1 ∷ []) (1 ∷ []) (replicate 4097 2) ≡ some 7
+  pub set7and8 : single x+1 1 (replicate 4097 2) ≡ some 7
   pub set8and9 : set [] [] (2 ∷ []) ≡ some 8
+  pub set8and10 : single badDegree 1 (2 ∷ []) ≡ some 8
   pub set9and10 : set (replicate 9 badDegree) [] (0 ∷ []) ≡ some 9
+  pub set9and11 : set (replicate 9 badLeading) [] (0 ∷ []) ≡ some 9
+  pub set10and11 : single (2 ∷ []) 1 (0 ∷ []) ≡ some 10
+  pub set11and14 : single badLeading 0 (0 ∷ []) ≡ some 11
   pub set12and13 : set (x²+1 ∷ x²+1 ∷ []) [] (0 ∷ []) ≡ some 12
+  pub set12and14 : single x²+1 0 (0 ∷ []) ≡ some 12
   pub set13and14 : set (x+1 ∷ x+1 ∷ []) [] (0 ∷ []) ≡ some 13
-  pub set14and15 : set (x+1 ∷ []) (4097 ∷ []) (0 ∷ []) ≡ some 14
+  pub set14and15 : single x+1 4097 (0 ∷ []) ≡ some 14
   pub set15and16 : numberIn (rateSet 2 (x+1 ∷ []) (2 ∷ []) (0 ∷ []) 0 0) ≡ some 15
   pub set16and17 : numberIn (rateSet 2 (x+1 ∷ []) (1 ∷ []) (1 ∷ 0 ∷ []) 0 0) ≡ some 16
   -- the free way, the continuation, the question whether a polynomial is irreducible
@@ -137,20 +134,16 @@ orders =
       period10and11 = refl;
       period12and16 = refl;
       period16and17 = refl;
-      portion6and7 = refl;
-      portion7and8 = refl;
-      portion8and10 = refl;
-      portion10and11 = refl;
-      portion11and14 = refl;
-      portion12and14 = refl;
-      portion14and15 = refl;
-      portion15and16 = refl;
-      portion16and17 = refl;
       set6and7 = refl;
       set7and8 = refl;
       set8and9 = refl;
+      set8and10 = refl;
       set9and10 = refl;
+      set9and11 = refl;
+      set10and11 = refl;
+      set11and14 = refl;
       set12and13 = refl;
+      set12and14 = refl;
       set13and14 = refl;
       set14and15 = refl;
       set15and16 = refl;

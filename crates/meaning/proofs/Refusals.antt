@@ -8,7 +8,7 @@ use mathlib.Core.List.{[], _∷_, _++_}
 use mathlib.Core.Option.{some}
 use lib.ListN.{replicate}
 use Rattle.meaning.specs.Period.{ratePeriod}
-use Rattle.meaning.specs.Portion.{ratePortion, rateSet, acceptedFactors}
+use Rattle.meaning.specs.Portion.{rateSet, acceptedFactors}
 use Rattle.meaning.specs.Free.{rateFree}
 use Rattle.meaning.specs.Continuation.{continueSequence}
 use Rattle.meaning.specs.Irreducibility.{askIrreducible}
@@ -69,17 +69,6 @@ pub record Refusals : Type 0 where
   pub period12 : numberIn (ratePeriod 2 x²+1 (0 ∷ 1 ∷ []) 4097 8192) ≡ some 12
   pub period16 : numberIn (ratePeriod 2 x+1 (0 ∷ 1 ∷ []) 4096 8192) ≡ some 16
   pub period17 : numberIn (ratePeriod 2 x²+x+1 (0 ∷ 0 ∷ 0 ∷ 1 ∷ []) 4097 8192) ≡ some 17
-  -- the portion way
-  pub portion6 : numberIn (ratePortion 4 x+1 1 (0 ∷ 1 ∷ []) 4097 8192) ≡ some 6
-  pub portion7 : numberIn (ratePortion 2 x+1 1 [] 4097 8192) ≡ some 7
-  pub portion8 : numberIn (ratePortion 2 x+1 1 (0 ∷ 2 ∷ []) 4097 8192) ≡ some 8
-  pub portion10 : numberIn (ratePortion 2 (1 ∷ []) 1 (0 ∷ 1 ∷ []) 4097 8192) ≡ some 10
-  pub portion11 : numberIn (ratePortion 2 [] 1 (0 ∷ 1 ∷ []) 4097 8192) ≡ some 11
-  pub portion12 : numberIn (ratePortion 2 x²+1 1 (0 ∷ 1 ∷ []) 4097 8192) ≡ some 12
-  pub portion14 : numberIn (ratePortion 2 x+1 0 (0 ∷ 1 ∷ []) 4097 8192) ≡ some 14
-  pub portion15 : numberIn (ratePortion 2 x+1 3 (0 ∷ 1 ∷ []) 4097 8192) ≡ some 15
-  pub portion16 : numberIn (ratePortion 2 x+1 2 (0 ∷ 1 ∷ []) 4096 8192) ≡ some 16
-  pub portion17 : numberIn (ratePortion 2 x+1 1 (1 ∷ 0 ∷ []) 4097 8192) ≡ some 17
   -- the set way
   pub set6 : numberIn (rateSet 4 (x+1 ∷ x²+x+1 ∷ []) (1 ∷ 1 ∷ []) (0 ∷ 1 ∷ 1 ∷ []) 4097 8192) ≡ some 6
   pub set7 : numberIn (rateSet 2 (x+1 ∷ x²+x+1 ∷ []) (1 ∷ 1 ∷ []) [] 4097 8192) ≡ some 7
@@ -157,16 +146,6 @@ refusals =
       period12 = refl;
       period16 = refl;
       period17 = refl;
-      portion6 = refl;
-      portion7 = refl;
-      portion8 = refl;
-      portion10 = refl;
-      portion11 = refl;
-      portion12 = refl;
-      portion14 = refl;
-      portion15 = refl;
-      portion16 = refl;
-      portion17 = refl;
       set6 = refl;
       set7 = refl;
       set8 = refl;

@@ -1,6 +1,8 @@
--- What the computed rows share: the number of a refusal, route files made of records, and some inputs.
+-- What the computed rows share: the number of a refusal, answers, route files made of records, and some
+-- inputs.
 --
 --   numberIn r        == the number of a refusal; none of an answer
+--   powerAnswer, setAnswer == the answer with a power, or with powers, its degree and bound, and a polynomial
 --   box, field, mode, factor, record5, term, stop, end == the bytes of one record of the route file
 --   terms ts          == a record of kind 6 for each term
 --   headed p m rest   == a file of box 7 whose header names the field p and the mode m
@@ -12,11 +14,21 @@ use mathlib.Core.List.{List, [], _∷_, _++_}
 use mathlib.Core.Option.{Option, none, some}
 use lib.ListN.{length, replicate}
 use Rattle.meaning.specs.Polynomial.{Polynomial}
-use Rattle.meaning.specs.Result.{Result, refused, answered}
+use Rattle.meaning.specs.Result.{Result, refused, answered, Rated}
+use Rattle.meaning.specs.Power.{PowerFigures}
+use Rattle.meaning.specs.Portion.{SetFigures}
 
 abbrev pub numberIn : {A : Type 0} → Result A → Option ℕ
 numberIn (refused n) = some n
 numberIn (answered a) = none
+
+abbrev pub powerAnswer : (power degree bound : ℕ) → Polynomial → Result (Rated PowerFigures)
+powerAnswer r d b g =
+    answered (record { figures = record { power = r; degree = d; bound = b }; polynomial = g })
+
+abbrev pub setAnswer : (powers : List ℕ) (degree bound : ℕ) → Polynomial → Result (Rated SetFigures)
+setAnswer rs d b g =
+    answered (record { figures = record { powers = rs; degree = d; bound = b }; polynomial = g })
 
 abbrev pub box : ℕ → List ℕ
 box n = 1 ∷ 0 ∷ 0 ∷ 0 ∷ n ∷ []

@@ -6,8 +6,7 @@
 --   …-annihilated         == the factor to its upper power annihilates it
 --   accepted-…            == the factor with its upper power is accepted; `plain`: its multiple is not x
 --   lent                  == the lent bytes are accepted
---   …-set, …-portion, …-period, …-free == the call of that way is met on a stretch, by an answer with its
---                            bytes
+--   …-set, …-period, …-free == the call of that way is met on a stretch, by an answer with its bytes
 --   three-…               == of the terms 0, 1, 0: their least degree is 2, two polynomials fit them, and the
 --                            free way returns the first
 -- Assumes nothing.
@@ -31,7 +30,7 @@ use Rattle.meaning.specs.Conditions.{named, acceptedLent}
 use Rattle.meaning.specs.Power.{isX}
 use Rattle.meaning.specs.Portion.{acceptedFactors}
 use Rattle.meaning.specs.Free.{Fits, leastDegree}
-use Rattle.meaning.specs.Calls.{PeriodCall, PortionCall, SetCall, FreeCall}
+use Rattle.meaning.specs.Calls.{PeriodCall, SetCall, FreeCall}
 use Rattle.meaning.proofs.Computed.{computed}
 use Rattle.meaning.proofs.Rows.{x+1}
 
@@ -65,9 +64,8 @@ unfolding computed
 lent = tt
 
 -- what the set way answers with one factor
-abbrev pub rated : ℕ → ℕ → SetRating
-rated degree power =
-    record { outcome = SetOutcome.Rated degree 1; powers = power ∷ 0 ∷ 0 ∷ 0 ∷ 0 ∷ 0 ∷ 0 ∷ 0 ∷ [] }
+abbrev pub rated : (degree bound power : ℕ) → SetRating
+rated d b r = record { outcome = SetOutcome.Rated d b 1; powers = r ∷ 0 ∷ 0 ∷ 0 ∷ 0 ∷ 0 ∷ 0 ∷ 0 ∷ [] }
 
 abbrev pub tooFewTerms : SetRating
 tooFewTerms =
@@ -117,15 +115,10 @@ alternating-annihilated-3 (suc (suc k)) = alternating-annihilated-3 k
 
 -- three terms from place 1 on, the period from place 3 on, four terms from place 1 on
 pub alternating-set :
-    SetCall 2 factors (3 ∷ []) (cut alternating 1 3) answer work (rated 2 2) after-x²+1 clean
+    SetCall 2 factors (3 ∷ []) (cut alternating 1 3) answer work (rated 2 2 2) after-x²+1 clean
 unfolding computed alternating
 alternating-set =
     record { rating = refl; powers = refl; lent = record { answerBytes = refl; workBytes = refl } }
-
-pub alternating-portion :
-    PortionCall 2 x+1 3 (cut alternating 1 3) answer work (PowerRating.Rated 2 2 2) after-x²+1 clean
-unfolding computed alternating
-alternating-portion = record { rating = refl; lent = record { answerBytes = refl; workBytes = refl } }
 
 pub alternating-period :
     PeriodCall 2 x+1 (cut alternating 3 2) answer work (PowerRating.Rated 2 2 2) after-x²+1 clean
@@ -139,7 +132,7 @@ alternating-free = record { rating = refl; lent = record { answerBytes = refl; w
 
 -- with the upper power 2, two terms from place 0 on
 pub alternating-short :
-    SetCall 2 factors (2 ∷ []) (cut alternating 0 2) answer work (rated 2 2) after-x²+1 clean
+    SetCall 2 factors (2 ∷ []) (cut alternating 0 2) answer work (rated 2 2 2) after-x²+1 clean
 unfolding computed alternating
 alternating-short =
     record { rating = refl; powers = refl; lent = record { answerBytes = refl; workBytes = refl } }
@@ -156,7 +149,7 @@ pub ones-annihilated : AnnihilatesEndless (prime 2) (product (prime 2) (named fa
 unfolding computed ones
 ones-annihilated k = refl
 
-pub ones-set : SetCall 2 factors (2 ∷ []) (cut ones 0 2) answer work (rated 1 1) after-x+1 clean
+pub ones-set : SetCall 2 factors (2 ∷ []) (cut ones 0 2) answer work (rated 1 1 1) after-x+1 clean
 unfolding computed ones
 ones-set = record { rating = refl; powers = refl; lent = record { answerBytes = refl; workBytes = refl } }
 
@@ -188,12 +181,12 @@ unfolding computed oneThenZeros
 oneThenZeros-annihilated zero = refl
 oneThenZeros-annihilated (suc k) = refl
 
-pub oneThenZeros-set-0 : SetCall 2 x (1 ∷ []) (cut oneThenZeros 0 1) answer work (rated 1 1) after-x clean
+pub oneThenZeros-set-0 : SetCall 2 x (1 ∷ []) (cut oneThenZeros 0 1) answer work (rated 1 0 1) after-x clean
 unfolding computed oneThenZeros
 oneThenZeros-set-0 =
     record { rating = refl; powers = refl; lent = record { answerBytes = refl; workBytes = refl } }
 
-pub oneThenZeros-set-1 : SetCall 2 x (1 ∷ []) (cut oneThenZeros 1 1) answer work (rated 0 0) after-1 clean
+pub oneThenZeros-set-1 : SetCall 2 x (1 ∷ []) (cut oneThenZeros 1 1) answer work (rated 0 1 0) after-1 clean
 unfolding computed oneThenZeros
 oneThenZeros-set-1 =
     record { rating = refl; powers = refl; lent = record { answerBytes = refl; workBytes = refl } }

@@ -1,7 +1,7 @@
 -- The wrong raters that paper 01 names, refuted by rows: what each of them answers does not meet the
 -- contract, whatever it leaves in the lent bytes of which nothing is said.
 --
---   WrongRaters == the period, the portion and the free call      wrong-raters == every row holds
+--   WrongRaters == the period and the free call                   wrong-raters == every row holds
 --   WrongSets, WrongFiles, WrongPrograms == the set call, the file call, the program
 -- Assumes nothing.
 use Prim.Native.Nat.{ℕ}
@@ -19,33 +19,21 @@ use Rattle.meaning.specs.Power.{PowerFigures}
 use Rattle.meaning.specs.Free.{FreeFigures}
 use Rattle.meaning.specs.Print.{text}
 use Rattle.meaning.specs.Answers.{SetTold, FileTold, withPowers, withOne, withSome}
-use Rattle.meaning.specs.Calls.{PeriodCall, PortionCall, SetCall, FreeCall, FileCall, ProgramCall}
+use Rattle.meaning.specs.Calls.{PeriodCall, SetCall, FreeCall, FileCall, ProgramCall}
 use Rattle.meaning.proofs.Computed.{computed}
 use Rattle.meaning.proofs.Rows.{x+1, x²+1, x²+x+1}
 use Rattle.meaning.proofs.CallRows.{answer, work, fileA, fileTwice, fileH, fileI, eightZeros, differ}
 
--- THE PORTION, THE PERIOD AND THE FREE CALL, on row A (a portion, with x³ + x + 1 and the upper power 6) and
--- on row B (a period, with x + 1)
+-- THE PERIOD AND THE FREE CALL, on row B (a period, with x + 1)
 
-abbrev termsA : List ℕ
-termsA = 0 ∷ 1 ∷ 0 ∷ 1 ∷ 0 ∷ 0 ∷ 0 ∷ 0 ∷ 1 ∷ 0 ∷ 1 ∷ 1 ∷ 0 ∷ 1 ∷ 0 ∷ 1 ∷ 1 ∷ 0 ∷ []
-
-abbrev x³+x+1 : Polynomial
-x³+x+1 = 1 ∷ 1 ∷ 0 ∷ 1 ∷ []
-
--- what a wrong rater answers on row A or B; the bytes afterwards may be any
-abbrev WrongOnA : PowerRating → Type 0
-WrongOnA r = (answer′ work′ : List ℕ) → PortionCall 2 x³+x+1 6 termsA answer work r answer′ work′ → ⊥
-
+-- what a wrong rater answers on row B; the bytes afterwards may be any
 abbrev WrongOnB : PowerRating → Type 0
 WrongOnB r = (answer′ work′ : List ℕ) → PeriodCall 2 x+1 (0 ∷ 0 ∷ 0 ∷ 1 ∷ []) answer work r answer′ work′ → ⊥
 
 pub record WrongRaters : Type 0 where
   -- finds the top digit of r − 1 = 11 (base 2) and invents the other
-  pub top-digit-only : WrongOnA (PowerRating.Rated 3 9 28)
-  -- returns f^v
-  pub upper-power : WrongOnA (PowerRating.Rated 6 18 56)
-  pub invented-power : WrongOnB (PowerRating.Rated 3 3 4)
+  pub top-digit-only : WrongOnB (PowerRating.Rated 3 3 4)
+  pub invented-power : WrongOnB (PowerRating.Rated 5 5 8)
   pub invented-bound : WrongOnB (PowerRating.Rated 4 4 5)
   pub seventeen-for-all : WrongOnB (PowerRating.Refused Refusal.NotAnnihilated)
   pub one-for-all : WrongOnB (PowerRating.Rated 0 0 1)
@@ -94,8 +82,7 @@ unfolding computed figure power-of bound-of free-degree at
 wrong-raters =
     record {
       top-digit-only = λ a w c. differ 3 4 (ap power-of (c .rating)) refl;
-      upper-power = λ a w c. differ 6 4 (ap power-of (c .rating)) refl;
-      invented-power = λ a w c. differ 3 4 (ap power-of (c .rating)) refl;
+      invented-power = λ a w c. differ 5 4 (ap power-of (c .rating)) refl;
       invented-bound = λ a w c. differ 5 4 (ap bound-of (c .rating)) refl;
       seventeen-for-all = λ a w c. differ 1000 4 (ap power-of (c .rating)) refl;
       one-for-all = λ a w c. differ 0 4 (ap power-of (c .rating)) refl;
@@ -107,8 +94,14 @@ wrong-raters =
       later-one = λ a w e c. differ 1 0 (ap (at 0) (sym e ∙ c .lent .answerBytes)) refl;
     }
 
--- THE SET CALL, on row A with its one factor and on row K: x + 1 and x² + x + 1, each 1, terms 0, 1, 1, of
--- which the powers are 0 and 1
+-- THE SET CALL, on row A with its one factor, x³ + x + 1 with the upper power 6, and on row K: x + 1 and
+-- x² + x + 1, each 1, terms 0, 1, 1, of which the powers are 0 and 1
+
+abbrev termsA : List ℕ
+termsA = 0 ∷ 1 ∷ 0 ∷ 1 ∷ 0 ∷ 0 ∷ 0 ∷ 0 ∷ 1 ∷ 0 ∷ 1 ∷ 1 ∷ 0 ∷ 1 ∷ 0 ∷ 1 ∷ 1 ∷ 0 ∷ []
+
+abbrev x³+x+1 : Polynomial
+x³+x+1 = 1 ∷ 1 ∷ 0 ∷ 1 ∷ []
 
 -- one power in the first of the eight places
 abbrev first : ℕ → List ℕ
@@ -129,18 +122,22 @@ WrongSetOnK o eight =
     → ⊥
 
 pub record WrongSets : Type 0 where
-  pub top-digit-only : WrongSetOnA (SetOutcome.Rated 9 1) (first 3)
+  pub top-digit-only : WrongSetOnA (SetOutcome.Rated 9 28 1) (first 3)
   -- returns the product of the upper powers
-  pub upper-powers : WrongSetOnA (SetOutcome.Rated 18 1) (first 6)
-  pub both-upper-powers : WrongSetOnK (SetOutcome.Rated 3 2) (1 ∷ first 1)
+  pub upper-powers : WrongSetOnA (SetOutcome.Rated 18 56 1) (first 6)
+  pub both-upper-powers : WrongSetOnK (SetOutcome.Rated 3 0 2) (1 ∷ first 1)
   -- tells another power beside the right degree; the powers in the other order
-  pub invented-power : WrongSetOnA (SetOutcome.Rated 12 1) (first 5)
-  pub powers-exchanged : WrongSetOnK (SetOutcome.Rated 2 2) (1 ∷ replicate 7 0)
+  pub invented-power : WrongSetOnA (SetOutcome.Rated 12 28 1) (first 5)
+  pub powers-exchanged : WrongSetOnK (SetOutcome.Rated 2 0 2) (1 ∷ replicate 7 0)
+  -- tells the bound of the upper power, none with one factor, that of the second factor with two
+  pub bound-of-the-upper-power : WrongSetOnA (SetOutcome.Rated 12 56 1) (first 4)
+  pub no-bound-with-one : WrongSetOnA (SetOutcome.Rated 12 0 1) (first 4)
+  pub bound-with-several : WrongSetOnK (SetOutcome.Rated 2 3 2) (0 ∷ first 1)
   pub seventeen-for-all : WrongSetOnA (SetOutcome.Refused Refusal.NotAnnihilated) eightZeros
-  pub one-for-all : WrongSetOnA (SetOutcome.Rated 0 1) eightZeros
+  pub one-for-all : WrongSetOnA (SetOutcome.Rated 0 1 1) eightZeros
   pub refuses-all : WrongSetOnA (SetOutcome.Refused Refusal.NotPrime) eightZeros
-  pub nothing-written : (work′ : List ℕ) → SetA (SetOutcome.Rated 12 1) (first 4) answer work′ → ⊥
-  pub work-not-cleared : (answer′ : List ℕ) → SetA (SetOutcome.Rated 12 1) (first 4) answer′ work → ⊥
+  pub nothing-written : (work′ : List ℕ) → SetA (SetOutcome.Rated 12 28 1) (first 4) answer work′ → ⊥
+  pub work-not-cleared : (answer′ : List ℕ) → SetA (SetOutcome.Rated 12 28 1) (first 4) answer′ work → ⊥
   pub refused-and-written : (answer′ work′ : List ℕ)
       → answer′ ≡ 1 ∷ replicate 4098 7
       → SetCall 2 [] [] (0 ∷ []) answer work
@@ -150,8 +147,11 @@ pub record WrongSets : Type 0 where
 set-degree : Result SetTold → ℕ
 set-degree r = figure (λ a. a .degree) r
 
+set-bound : Result SetTold → ℕ
+set-bound r = figure (λ a. a .bound) r
+
 pub wrong-sets : WrongSets
-unfolding computed figure set-degree at
+unfolding computed figure set-degree set-bound at
 wrong-sets =
     record {
       top-digit-only = λ a w c. differ 9 12 (ap set-degree (c .rating)) refl;
@@ -159,6 +159,9 @@ wrong-sets =
       both-upper-powers = λ a w c. differ 3 2 (ap set-degree (c .rating)) refl;
       invented-power = λ a w c. differ 5 4 (ap (at 0) (c .powers)) refl;
       powers-exchanged = λ a w c. differ 1 0 (ap (at 0) (c .powers)) refl;
+      bound-of-the-upper-power = λ a w c. differ 56 28 (ap set-bound (c .rating)) refl;
+      no-bound-with-one = λ a w c. differ 0 28 (ap set-bound (c .rating)) refl;
+      bound-with-several = λ a w c. differ 3 0 (ap set-bound (c .rating)) refl;
       seventeen-for-all = λ a w c. differ 1000 12 (ap set-degree (c .rating)) refl;
       one-for-all = λ a w c. differ 0 12 (ap set-degree (c .rating)) refl;
       refuses-all = λ a w c. differ 1000 12 (ap set-degree (c .rating)) refl;

@@ -89,14 +89,15 @@ toldEntry (EntryRating.Refused r) = refused (numberOf r)
 
 pub record SetTold : Type 0 where
   pub degree : ℕ
+  pub bound : ℕ
   pub count : ℕ
 
 unfoldable pub toldSet : SetOutcome → Result SetTold
-toldSet (SetOutcome.Rated d n) = answered (record { degree = d; count = n })
+toldSet (SetOutcome.Rated d b n) = answered (record { degree = d; bound = b; count = n })
 toldSet (SetOutcome.Refused r) = refused (numberOf r)
 
 unfoldable pub setFiguresTold : SetFigures → SetTold
-setFiguresTold a = record { degree = a .degree; count = length (a .powers) }
+setFiguresTold a = record { degree = a .degree; bound = a .bound; count = length (a .powers) }
 
 pub data FileTold : Type 0 where
   withPowers : (degree denominator count : ℕ) → FileTold

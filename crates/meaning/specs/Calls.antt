@@ -5,8 +5,8 @@
 --
 --   LentAfter result …  == the lent answer and work bytes are left as the result says
 --   PrimeCall           == prime_in_range      IrreducibleCall == is_irreducible
---   PeriodCall          == rate_period         PortionCall     == rate_portion
---   SetCall             == rate_set            FreeCall        == rate_free
+--   PeriodCall          == rate_period         SetCall         == rate_set
+--   FreeCall            == rate_free
 --   StartCall           == start_meter         TermCall        == take_term (`TermTaken` for terms held)
 --   ReadingCall         == reading
 --   EntryCall           == find_entry          CatalogueCall   == catalogue_entry
@@ -36,7 +36,7 @@ use Rattle.meaning.specs.Polynomial.{Polynomial}
 use Rattle.meaning.specs.Result.{Result, refused, answered, mapResult, Rated, figuresOf, answerAfter}
 use Rattle.meaning.specs.Result.{workAfter}
 use Rattle.meaning.specs.Period.{ratePeriod}
-use Rattle.meaning.specs.Portion.{ratePortion, rateSet}
+use Rattle.meaning.specs.Portion.{rateSet}
 use Rattle.meaning.specs.Free.{rateFree}
 use Rattle.meaning.specs.Meter.{startMeter, takeTerm, meterReading, MeterModel, Holding, unlessRefused}
 use Rattle.meaning.specs.Catalogue.{catalogue, findEntry}
@@ -64,11 +64,6 @@ pub record PeriodCall (p : ℕ) (f ts answer work : List ℕ) (r : PowerRating) 
     : Type 0 where
   pub rating : toldPower r ≡ figuresOf (ratePeriod p f ts (length answer) (length work))
   pub lent : LentAfter (ratePeriod p f ts (length answer) (length work)) answer work answer′ work′
-
-pub record PortionCall (p : ℕ) (f : Polynomial) (v : ℕ) (ts answer work : List ℕ) (r : PowerRating)
-    (answer′ work′ : List ℕ) : Type 0 where
-  pub rating : toldPower r ≡ figuresOf (ratePortion p f v ts (length answer) (length work))
-  pub lent : LentAfter (ratePortion p f v ts (length answer) (length work)) answer work answer′ work′
 
 pub record SetCall (p : ℕ) (fs : List Polynomial) (vs ts answer work : List ℕ) (r : SetRating)
     (answer′ work′ : List ℕ) : Type 0 where

@@ -1,5 +1,6 @@
--- The set way and the portion way: the powers of named factors in the minimal polynomial of a continued
--- portion. A pair is a factor with a power; D is the total degree of the pairs with their upper powers.
+-- The set way, the way for portions with one to eight named factors: their powers in the minimal polynomial
+-- of the continued portion. A pair is a factor with a power; D is the total degree of the pairs with their
+-- upper powers.
 --
 --   withPower i r l    == the pairs l with the power r in place i
 --   leastAt F l ts i   == for factor i the least r, at most its upper power, for which its r-th power times
@@ -10,18 +11,19 @@
 --                         powers is the minimal polynomial of that continuation
 --   PortionMeaning F f v ts r == r is the least power of f that annihilates that continuation, with one
 --                          factor
+--   setBound F l       == the bound that is told with the pairs of factors and powers found: with one factor
+--                         its repeat bound, and 0 with several
 --   Agrees F l ts      == all the terms agree with the continuation of the first D of them
---   setTable, portionTable == the refusals that the two ways meet, in order; `ten` and `eleven` as in Period
+--   setTable           == the refusals that the way meets, in order; `ten` and `eleven` as in Period
 --   factorTable, acceptedFactors p factors uppers == factors are accepted when 6 and 9 to 14 do not turn them
 --                          down
---   rateSet p factors uppers ts answer work, ratePortion p f v ts answer work == the answers of the two ways:
---                          9 to 11 look at the factors as they are given, and all that follows at their monic
---                          multiples
+--   rateSet p factors uppers ts answer work == the answer of the way: 9 to 11 look at the factors as they are
+--                          given, and all that follows at their monic multiples
 use Prim.Native.Nat.{ℕ}
 use mathlib.Core.Path.{_≡_}
 use mathlib.Core.Bool.{Bool, not}
 use mathlib.Core.List.{List, [], _∷_, map}
-use mathlib.Core.Option.{Option}
+use mathlib.Core.Option.{Option, some}
 use lib.ListN.{length, getD, take, set}
 use Rattle.meaning.specs.Search.{range, least, mapOption, bind, isNone, together, holdsForSome}
 use Rattle.meaning.specs.Field.{Field, prime}
@@ -34,7 +36,7 @@ use Rattle.meaning.specs.Conditions.{factorCountOutOfRange, factorDegree
 use Rattle.meaning.specs.Conditions.{coefficientOutOfRange}
 use Rattle.meaning.specs.Conditions.{isReducible, twoEqual, upperPowersOutOfRange, fewerTermsThan}
 use Rattle.meaning.specs.Conditions.{lentTooShort}
-use Rattle.meaning.specs.Power.{PowerFigures, powerRating}
+use Rattle.meaning.specs.Power.{repeatBound}
 
 unfoldable pub factorsOf : List (Polynomial × ℕ) → List Polynomial
 factorsOf l = map (λ f. f .0) l
@@ -63,16 +65,23 @@ PortionMeaning F f v ts r = LeastPower F f (onward F ((f, v) ∷ []) ts) r
 abbrev pub Agrees : Field → List (Polynomial × ℕ) → List ℕ → Type 0
 Agrees F l ts = cut (onward F l ts) 0 (length ts) ≡ ts
 
+unfoldable pub setBound : Field → List (Polynomial × ℕ) → Option ℕ
+setBound F [] = some 0
+setBound F (f ∷ l) = elim l [ [] ↦ repeatBound F (f .0) (f .1) | g ∷ m ↦ some 0 ]
+
 pub record SetFigures : Type 0 where
   pub powers : List ℕ
   pub degree : ℕ
+  pub bound : ℕ
 
-unfoldable pub setRating : Field → List (Polynomial × ℕ) → List ℕ → Rated SetFigures
+unfoldable pub setRating : Field → List (Polynomial × ℕ) → List ℕ → Option (Rated SetFigures)
 setRating F l rs =
-    record {
-      figures = record { powers = rs; degree = degree (product F (named (factorsOf l) rs)) };
+    mapOption
+    (λ b. record {
+      figures = record { powers = rs; degree = degree (product F (named (factorsOf l) rs)); bound = b };
       polynomial = product F (named (factorsOf l) rs);
-    }
+    })
+    (setBound F (named (factorsOf l) rs))
 
 unfoldable pub setTable : ℕ → Bool → Bool → List (Polynomial × ℕ) → List ℕ → ℕ → ℕ → List Check
 setTable p ten eleven l ts answer work =
@@ -94,7 +103,7 @@ unfoldable pub setAnswer :
     ℕ → Bool → Bool → List (Polynomial × ℕ) → List ℕ → ℕ → ℕ → Result (Rated SetFigures)
 setAnswer p ten eleven l ts answer work =
     settle (setTable p ten eleven l ts answer work)
-    (λ _. mapOption (setRating (prime p) l) (setPowers (prime p) l ts))
+    (λ _. bind (setPowers (prime p) l ts) (setRating (prime p) l))
 
 unfoldable pub rateSet : ℕ → List Polynomial → List ℕ → List ℕ → ℕ → ℕ → Result (Rated SetFigures)
 rateSet p factors uppers ts =
@@ -117,28 +126,3 @@ factorTable p factors uppers =
 
 unfoldable pub acceptedFactors : ℕ → List Polynomial → List ℕ → Bool
 acceptedFactors p factors uppers = isNone (firstOf (factorTable p factors uppers))
-
-unfoldable pub portionTable : ℕ → Bool → Bool → Polynomial → ℕ → List ℕ → ℕ → ℕ → List Check
-portionTable p ten eleven f v ts answer work =
-    (6, λ _. notPrime p)
-    ∷ (7, λ _. countOutOfRange (length ts))
-    ∷ (8, λ _. termOutOfField (prime p) ts)
-    ∷ (10, λ _. ten)
-    ∷ (11, λ _. eleven)
-    ∷ (12, λ _. isReducible p f)
-    ∷ (14, λ _. upperPowersOutOfRange ((f, v) ∷ []))
-    ∷ (15, λ _. fewerTermsThan (totalDegree ((f, v) ∷ [])) ts)
-    ∷ (16, λ _. lentTooShort answer work)
-    ∷ (17, λ _. not (annihilatesKnown (prime p) (product (prime p) ((f, v) ∷ [])) ts))
-    ∷ []
-
-unfoldable pub portionAnswer :
-    ℕ → Bool → Bool → Polynomial → ℕ → List ℕ → ℕ → ℕ → Result (Rated PowerFigures)
-portionAnswer p ten eleven f v ts answer work =
-    settle (portionTable p ten eleven f v ts answer work)
-    (λ _. bind (leastAt (prime p) ((f, v) ∷ []) ts 0) (powerRating (prime p) f))
-
-unfoldable pub ratePortion : ℕ → Polynomial → ℕ → List ℕ → ℕ → ℕ → Result (Rated PowerFigures)
-ratePortion p f v ts =
-    portionAnswer p (factorDegreeOutOfRange (prime p) f) (coefficientOutOfRange (prime p) f)
-    (monicMultiple (prime p) f) v ts

@@ -1,4 +1,4 @@
--- The answer of a rating with one factor: its power, the degree, the repeat bound, and the polynomial.
+-- The repeat bound, and the answer of the period way: its power, the degree, that bound, and the polynomial.
 --
 --   isX f              == f is the polynomial x
 --   repeatBound F f r  == 1 for r = 0; 0 for f = x and r above 0; else p^t·(p^d − 1), d the degree of f and

@@ -51,19 +51,20 @@ pub enum Irreducibility {
     Refused(Refusal),
 }
 
-// The rating of a period, or of a portion with one factor f: f to the least power annihilates.
+// The rating of a period: f to the least power annihilates it.
 pub enum PowerRating {
     Rated { power: u64, degree: u64, bound: u64 },
     Refused(Refusal),
 }
 
-// The rating of a portion with several factors, the powers apart.
+// The rating of a portion with one to eight factors, the powers apart: with one the repeat bound, with
+// several the bound 0.
 pub enum SetOutcome {
-    Rated { degree: u64, count: u64 },
+    Rated { degree: u64, bound: u64, count: u64 },
     Refused(Refusal),
 }
 
-// The rating of a portion with several factors: `count` powers in the order of the factors, then zeros;
+// The rating of a portion with one to eight factors: `count` powers in the order of the factors, then zeros;
 // refused: zeros.
 pub struct SetRating {
     pub outcome: SetOutcome,

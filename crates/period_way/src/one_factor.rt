@@ -1,4 +1,4 @@
-// The answer of a rating with one factor, for the period way and the portion way.
+// The answer of the period way.
 use crate::Found;
 use arith::GaloisField;
 use meaning::PowerRating;

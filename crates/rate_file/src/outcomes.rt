@@ -86,7 +86,7 @@ pub fn of_free(sender: u64, denominator: u64, rating: FreeRating) -> FileRating
     }
 }
 
-// The set way: its powers as they are.
+// The set way: its powers as they are. A file tells no bound.
 pub fn of_set(sender: u64, denominator: u64, rating: SetRating) -> FileRating
     ensures { λ r. ⌜ TellsSet sender denominator rating r ⌝ }
 {
@@ -98,7 +98,11 @@ pub fn of_set(sender: u64, denominator: u64, rating: SetRating) -> FileRating
             outcome: FileOutcome::Refused(refusal),
             powers,
         },
-        SetOutcome::Rated { degree, count } => FileRating {
+        SetOutcome::Rated {
+            degree,
+            bound: _,
+            count,
+        } => FileRating {
             sender,
             outcome: FileOutcome::Powers {
                 degree,

@@ -1,3 +1,4 @@
 pub mod SetWay
+pub mod Bounds
 pub mod Parts
 pub mod Given

@@ -4,7 +4,7 @@
 --   parts-first      == the first k of n such slices hold the first n lists, where k is no more than there
 --                        are
 -- Assumes nothing.
-use Prim.Native.Nat.{ℕ, zero, suc, _-_, min, _<_, _≤_}
+use Prim.Native.Nat.{ℕ, zero, suc, _-_, min}
 use native.Mathlib.Decide.{decLt}
 use native.Mathlib.Omega.{arith}
 use mathlib.Core.Path.{_≡_, refl, sym, ap, _∙_}

@@ -4,17 +4,17 @@
 --   set-refused      == the monic multiples are refused by one of the conditions 12 to 16
 --   set-lent, set-input == what an accepted call may hand on
 --   set-seventeen    == refused by 17
---   set-powers-input == the powers that are found can be written as a product
+--   set-powers-input, set-degrees == the powers that are found can be written as a product, and the single
+--                       one has a bound
 --   set-rated        == rated
 -- Assumes nothing.
 use Prim.Native.Nat.{ℕ, _≤_}
-use native.Mathlib.Omega.{arith}
 use mathlib.Core.Path.{_≡_, refl, sym, ap, subst, _∙_}
 use mathlib.Core.Bool.{true, false, not}
 use mathlib.Core.List.{List}
 use mathlib.Core.Option.{some}
 use lib.ListN.{length, replicate}
-use lib.Dec.{T, eqb, ltb}
+use lib.Dec.{eqb, ltb}
 use borrow.Author.Tests.{ltb-false}
 use Rattle.meaning.specs.declared.Refusal.{Refusal}
 use Rattle.meaning.specs.declared.SetOutcome.{SetOutcome}
@@ -23,16 +23,17 @@ use Rattle.meaning.specs.Search.{holdsForSome}
 use Rattle.meaning.specs.Field.{Field, prime}
 use Rattle.meaning.specs.Polynomial.{Polynomial, degree, product}
 use Rattle.meaning.specs.Sequence.{annihilatesKnown}
-use Rattle.meaning.specs.Conditions.{named, factorCountOutOfRange, totalDegree}
+use Rattle.meaning.specs.Conditions.{named, factorCountOutOfRange, factorDegreeOutOfRange, totalDegree}
 use Rattle.meaning.specs.Result.{Result, refused, answered, mapResult, firstOf, valueOf, Rated, figuresOf}
 use Rattle.meaning.specs.Result.{written, cleared, clearing, clears}
-use Rattle.meaning.specs.Portion.{SetFigures, setPowers, setRating, setAnswer, factorsOf}
+use Rattle.meaning.specs.Portion.{SetFigures, setPowers, setAnswer, factorsOf, setBound}
 use Rattle.meaning.specs.Answers.{numberOf, toldSet, setFiguresTold, padded, setPadded}
 use Rattle.meaning.specs.Calls.{LentAfter}
 use Rattle.meaning.proofs.Passes.{Passes}
-use Rattle.bridge.proofs.Searches.{or-false, mapOption-some}
+use Rattle.bridge.proofs.Searches.{or-false}
 use Rattle.bridge.proofs.Interpretation.{IsField}
-use Rattle.bridge.proofs.Accepted.{count-accepted, terms-accepted, enough-accepted}
+use Rattle.bridge.proofs.Accepted.{count-accepted, terms-accepted, enough-accepted, set-rating-of}
+use Rattle.bridge.proofs.Accepted.{set-rated as set-value}
 use Rattle.bridge.proofs.Products.{monics-nonempty, factorsOf-named}
 use Rattle.bridge.proofs.Irreducibles.{accepted-factors}
 use Rattle.bridge.proofs.Portions.{setPowers-exists}
@@ -82,23 +83,24 @@ rated-call :
     {result : Result (Rated SetFigures)} {fs : List Polynomial} (us : List ℕ) {answer work : List ℕ}
     {F : Field}
     (rs : List ℕ)
-    {powers answer′ work′ : List ℕ} {n k : ℕ} {s : SetRating}
-    → (s .outcome ≡ SetOutcome.Rated n k) × (s .powers ≡ powers)
+    {powers answer′ work′ : List ℕ} {n b k : ℕ} {s : SetRating}
+    → (s .outcome ≡ SetOutcome.Rated n b k) × (s .powers ≡ powers)
     → length rs ≡ length fs
-    → result ≡ answered (setRating F (named fs us) rs)
+    → result ≡ answered (set-rating-of F (named fs us) rs b)
     → powers ≡ padded rs
     → k ≡ length fs
     → ProductWritten F fs (padded rs) answer answer′ n
     → work′ ≡ cleared work
     → SetRatedAs result answer work s answer′ work′
-unfolding toldSet setFiguresTold mapResult figuresOf setPadded setRating
-rated-call {fs = fs} us {answer = answer} {F = F} rs {n = n} (o, z) size e i k y w =
+unfolding toldSet setFiguresTold mapResult figuresOf setPadded set-rating-of
+rated-call {fs = fs} us {answer = answer} {F = F} rs {n = n} {b = b} (o, z) size e i k y w =
     let g = answer-polynomial F fs us rs size in
     record {
       rating =
           ap toldSet o
-          ∙ ap (λ c. answered (record { degree = n; count = c })) (k ∙ sym size)
-          ∙ ap (λ d. answered (record { degree = d; count = length rs })) (y .newDegree ∙ ap degree g)
+          ∙ ap (λ c. answered (record { degree = n; bound = b; count = c })) (k ∙ sym size)
+          ∙ ap (λ d. answered (record { degree = d; bound = b; count = length rs }))
+          (y .newDegree ∙ ap degree g)
           ∙ ap (λ (r : Result (Rated SetFigures)). mapResult setFiguresTold (figuresOf r)) (sym e);
       powers = z ∙ i ∙ ap (λ (r : Result (Rated SetFigures)). setPadded (figuresOf r)) (sym e);
       lent = lent-rated e (y .answer ∙ ap (λ h. written h answer) g) w;
@@ -156,20 +158,25 @@ module _ (p : ℕ) (fs : List Polynomial) (us ts : List ℕ) (answer work : ℕ)
       not-annihilated h = rw (set-last p ts answer work fs us) (settle-last _ _ _ (k ∙ moved) q (ap not h))
 
       annihilated :
-          {rs : List ℕ}
+          (rs : List ℕ) {b : ℕ}
           → annihilatesKnown (prime p) (product (prime p) (named fs us)) ts ≡ true
           → setPowers (prime p) (named fs us) ts ≡ some rs
-          → result ≡ answered (setRating (prime p) (named fs us) rs)
+          → setBound (prime p) (named (factorsOf (named fs us)) rs) ≡ some b
+          → result ≡ answered (set-rating-of (prime p) (named fs us) rs b)
       unfolding setAnswer valueOf
-      annihilated h i =
+      annihilated rs h i j =
           rw (set-last p ts answer work fs us)
           (settle-over _ _ _ (k ∙ moved) q (ap not h)
-          ∙ ap valueOf (mapOption-some (setRating (prime p) (named fs us)) i))
+          ∙ ap valueOf (set-value (prime p) (named fs us) rs i j))
 
       -- the field as the code has it
       module _ {F : Field} (h : F ≡ prime p) where
         pub set-input : SetInput F fs us ts
         set-input = subst (λ G. SetInput G fs us ts) (sym h) accepted-input
+
+        pub set-degrees : holdsForSome (factorDegreeOutOfRange F) fs ≡ false
+        set-degrees =
+            subst (λ G. holdsForSome (factorDegreeOutOfRange G) fs ≡ false) (sym h) (m .degreesInRange)
 
         module _ (I : IsField F) {r : SetPowers} {w w′ : List ℕ} (y : SetFound F fs us ts w w′ r) where
           powers-exist : (rs : List ℕ) × (setPowers F (named fs us) ts ≡ some rs)
@@ -219,22 +226,30 @@ module _ (p : ℕ) (fs : List Polynomial) (us ts answer work : List ℕ) (m : Mu
         refused-call o k (lent-seventeen k (y .work))
 
     pub set-rated :
-        {answer′ : List ℕ} {d k : ℕ} {t : SetRating}
+        {answer′ : List ℕ} {d b k : ℕ} {t : SetRating}
         → r .annihilated ≡ true
         → k ≡ length fs
         → ProductWritten F fs (r .powers) answer answer′ d
-        → (t .outcome ≡ SetOutcome.Rated d k) × (t .powers ≡ r .powers)
+        → setBound F (named fs (r .powers)) ≡ some b
+        → (t .outcome ≡ SetOutcome.Rated d b k) × (t .powers ≡ r .powers)
         → SetRatedAs (setAnswer p false false (named fs us) ts (length answer) (length work)) answer work t
         answer′ work′
-    set-rated {answer′} {d} n k z o =
+    set-rated {answer′} {d} {b} n k z j o =
         let (rs, s) = powers-exist p fs us ts (length answer) (length work) m e q h I y in
         let i = answer-powers I input y n s in
+        let size = set-count I input s in
+        let bound : setBound F (named (factorsOf (named fs us)) rs) ≡ some b =
+        ap (λ (gs : List Polynomial). setBound F (named gs rs)) (factorsOf-named fs us)
+        ∙ ap (setBound F) (sym (named-padded fs rs size))
+        ∙ ap (λ l. setBound F (named fs l)) (sym i)
+        ∙ j in
         rated-call us rs
         o
-        (set-count I input s)
-        (annihilated p fs us ts (length answer) (length work) m e q (tried ∙ n)
+        size
+        (annihilated p fs us ts (length answer) (length work) m e q rs (tried ∙ n)
         (ap (λ G. setPowers G (named fs us) ts) (sym h) ∙ s)
-        ∙ ap (λ G. answered (setRating G (named fs us) rs)) (sym h))
+        (ap (λ G. setBound G (named (factorsOf (named fs us)) rs)) (sym h) ∙ bound)
+        ∙ ap (λ G. answered (set-rating-of G (named fs us) rs b)) (sym h))
         i
         k
         (subst (λ l. ProductWritten F fs l answer answer′ d) i z)

@@ -13,7 +13,6 @@ pub use questions::is_irreducible;
 pub use questions::prime_in_range;
 pub use rate_free::rate_free;
 pub use rate_period::rate_period;
-pub use rate_portion::rate_portion;
 pub use rate_set::rate_set;
 
 // on route files

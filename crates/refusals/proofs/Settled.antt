@@ -4,7 +4,7 @@
 --   verdict-passes   == an accepted call meets no condition of the table
 --   settle-…         == the result of the call: for a whole table, for one of which what is given is refused,
 --                       and for one whose last condition is open
---   period-last, portion-last, set-last == the tables of the three ways end with 17
+--   period-last, set-last == the tables of the two ways with factors end with 17
 -- Assumes nothing.
 use Prim.Native.Nat.{ℕ}
 use mathlib.Core.Path.{_≡_, refl, sym, ap, _∙_}
@@ -19,12 +19,12 @@ use Rattle.meaning.specs.Sequence.{annihilatesKnown}
 use Rattle.meaning.specs.Conditions.{named}
 use Rattle.meaning.specs.Result.{refused, Check, firstOf, settle, valueOf}
 use Rattle.meaning.specs.Period.{periodTable, periodPower}
-use Rattle.meaning.specs.Portion.{portionTable, setTable}
+use Rattle.meaning.specs.Portion.{setTable}
 use Rattle.meaning.specs.Answers.{numberOf}
 use Rattle.meaning.proofs.Tables.{settle-none}
 use Rattle.meaning.proofs.Passes.{Passes, firstOf-passes}
 use Rattle.refusals.specs.declared.Verdict.{Verdict}
-use Rattle.refusals.specs.Verdicts.{numberIn, allButLast, periodChecks, portionChecks, setChecks}
+use Rattle.refusals.specs.Verdicts.{numberIn, allButLast, periodChecks, setChecks}
 use Rattle.refusals.proofs.Order.{refused-before, accepted-before, first-here, first-skip}
 use Rattle.refusals.proofs.Order.{first-nowhere}
 
@@ -80,13 +80,6 @@ module _ (p : ℕ) (ts : List ℕ) (answer work : ℕ) where
       ≡ periodChecks p g ts answer work ++ ((17, λ _. isNone (periodPower (prime p) g ts)) ∷ [])
   unfolding periodTable periodChecks allButLast
   period-last g = refl
-
-  pub portion-last : (g : Polynomial) (v : ℕ)
-      → portionTable p false false g v ts answer work
-      ≡ portionChecks p g v ts answer work
-      ++ ((17, λ _. not (annihilatesKnown (prime p) (product (prime p) ((g, v) ∷ [])) ts)) ∷ [])
-  unfolding portionTable portionChecks allButLast
-  portion-last g v = refl
 
   pub set-last : (gs : List Polynomial) (us : List ℕ)
       → setTable p false false (named gs us) ts answer work

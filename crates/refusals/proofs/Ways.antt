@@ -1,28 +1,28 @@
--- The tables of the three ways by their parts: what is given, then the rest, then 17.
+-- The tables of the two ways with factors by their parts: what is given, then the rest, then 17.
 --
---   period-parts, portion-parts, set-parts == the table for a factor, or factors, and what stands for them
---   period-rest, portion-rest, set-rest == where 6 to 11 pass, the rest decides all but 17
+--   period-parts, set-parts == the table for a factor, or factors, and what stands for them
+--   period-rest, set-rest == where 6 to 11 pass, the rest decides all but 17
 -- Assumes nothing.
 use Prim.Native.Nat.{ℕ}
-use mathlib.Core.Path.{_≡_, refl, sym, ap, _∙_}
-use mathlib.Core.Bool.{Bool, false, not}
+use mathlib.Core.Path.{_≡_, refl, ap, _∙_}
+use mathlib.Core.Bool.{false, not}
 use mathlib.Core.List.{List, [], _∷_, _++_}
 use lib.ListN.{length}
 use Rattle.meaning.specs.Search.{holdsForSome, isNone}
 use Rattle.meaning.specs.Field.{prime}
 use Rattle.meaning.specs.Polynomial.{Polynomial, product}
 use Rattle.meaning.specs.Sequence.{annihilatesKnown}
-use Rattle.meaning.specs.Result.{Check, firstOf}
+use Rattle.meaning.specs.Result.{firstOf}
 use Rattle.meaning.specs.Conditions.{named, notPrime, countOutOfRange, termOutOfField, factorCountOutOfRange}
 use Rattle.meaning.specs.Conditions.{factorDegreeOutOfRange, coefficientOutOfRange}
 use Rattle.meaning.specs.Period.{periodTable, periodPower}
-use Rattle.meaning.specs.Portion.{portionTable, setTable}
+use Rattle.meaning.specs.Portion.{setTable}
 use Rattle.meaning.proofs.Tables.{firstOf-skip}
 use Rattle.bridge.proofs.Products.{length-named, factorsOf-named}
 use Rattle.refusals.specs.Verdicts.{termsTable, oneFactorTable, factorsTable, multiplesTable}
 use Rattle.refusals.specs.Verdicts.{powersTable}
 use Rattle.refusals.specs.Verdicts.{lentTable, allButLast, givenTable, givenSetTable, periodRest}
-use Rattle.refusals.specs.Verdicts.{portionRest, setRest, periodChecks, portionChecks, setChecks}
+use Rattle.refusals.specs.Verdicts.{setRest, periodChecks, setChecks}
 
 module _ (p : ℕ) (ts : List ℕ) (answer work : ℕ) where
   pub period-parts : (f g : Polynomial)
@@ -32,15 +32,6 @@ module _ (p : ℕ) (ts : List ℕ) (answer work : ℕ) where
       ++ (periodRest p g answer work ++ ((17, λ _. isNone (periodPower (prime p) g ts)) ∷ []))
   unfolding periodTable givenTable termsTable oneFactorTable periodRest lentTable
   period-parts f g = refl
-
-  pub portion-parts : (f g : Polynomial) (v : ℕ)
-      → portionTable p (factorDegreeOutOfRange (prime p) f) (coefficientOutOfRange (prime p) f) g v ts answer
-      work
-      ≡ givenTable p f ts
-      ++ (portionRest p g v ts answer work
-      ++ ((17, λ _. not (annihilatesKnown (prime p) (product (prime p) ((g, v) ∷ [])) ts)) ∷ []))
-  unfolding portionTable givenTable termsTable oneFactorTable portionRest powersTable lentTable
-  portion-parts f g v = refl
 
   -- 9, 12 and 13 of the set way look at the factors with their upper powers
   pub set-parts : (fs gs : List Polynomial) (us : List ℕ)
@@ -65,16 +56,6 @@ module _ (p : ℕ) (ts : List ℕ) (answer work : ℕ) where
         → firstOf (periodChecks p g ts answer work) ≡ firstOf (periodRest p g answer work)
     unfolding periodChecks allButLast periodTable periodRest lentTable
     period-rest g =
-        firstOf-skip _ _ six
-        ∙ firstOf-skip _ _ seven
-        ∙ firstOf-skip _ _ eight
-        ∙ firstOf-skip _ _ refl
-        ∙ firstOf-skip _ _ refl
-
-    pub portion-rest : (g : Polynomial) (v : ℕ)
-        → firstOf (portionChecks p g v ts answer work) ≡ firstOf (portionRest p g v ts answer work)
-    unfolding portionChecks allButLast portionTable portionRest powersTable lentTable
-    portion-rest g v =
         firstOf-skip _ _ six
         ∙ firstOf-skip _ _ seven
         ∙ firstOf-skip _ _ eight

@@ -2,18 +2,18 @@
 --
 --   numberIn v         == the number of the refusal that a verdict tells, or none
 --   termsTable p ts    == the refusals 6, 7 and 8, with which every way of rating begins
---   oneFactorTable p f == the refusals 10 and 11 of one factor
---   factorsTable p fs  == the refusals 9, 10 and 11 of several factors
---   multiplesTable p gs == the refusals 12 and 13 of the monic multiples of several factors
+--   oneFactorTable p f == the refusals 10 and 11 of the factor of a period
+--   factorsTable p fs  == the refusals 9, 10 and 11 of the factors of a set
+--   multiplesTable p gs == the refusals 12 and 13 of the monic multiples of these
 --   lentTable answer work == the refusal 16
 --   powersTable l ts answer work == the refusals 14, 15 and 16, for factors with their upper powers
 --   allButLast table   == the table without its last condition
 --   givenTable p f ts, givenSetTable p fs ts == what the terms and the factors as they are given meet: 6, 7,
---                         8, 10, 11; for several factors 6 to 11
---   periodRest, portionRest, setRest == what the monic multiples, the upper powers and the lent bytes meet
---                         after that: 12, 16; 12, 14, 15, 16; 12 to 16
---   periodChecks, portionChecks, setChecks == the tables of the three ways without 17, for monic multiples
---                         whose factors 10 and 11 let pass
+--                         8, 10, 11; for a set 6 to 11
+--   periodRest, setRest == what the monic multiples, the upper powers and the lent bytes meet after that: 12,
+--                         16; 12 to 16
+--   periodChecks, setChecks == the tables of the two ways without 17, for monic multiples whose factors 10
+--                         and 11 let pass
 use Prim.Native.Nat.{ℕ}
 use mathlib.Core.Bool.{false}
 use mathlib.Core.List.{List, [], _∷_, _++_}
@@ -28,7 +28,7 @@ use Rattle.meaning.specs.Conditions.{factorCountOutOfRange, factorDegreeOutOfRa
 use Rattle.meaning.specs.Conditions.{isReducible, twoEqual, upperPowersOutOfRange, fewerTermsThan}
 use Rattle.meaning.specs.Conditions.{lentTooShort}
 use Rattle.meaning.specs.Period.{periodTable}
-use Rattle.meaning.specs.Portion.{portionTable, setTable}
+use Rattle.meaning.specs.Portion.{setTable}
 use Rattle.meaning.specs.Answers.{numberOf}
 use Rattle.refusals.specs.declared.Verdict.{Verdict}
 
@@ -76,17 +76,11 @@ givenSetTable p fs ts = termsTable p ts ++ factorsTable p fs
 unfoldable pub periodRest : ℕ → Polynomial → ℕ → ℕ → List Check
 periodRest p g answer work = (12, λ _. isReducible p g) ∷ lentTable answer work
 
-unfoldable pub portionRest : ℕ → Polynomial → ℕ → List ℕ → ℕ → ℕ → List Check
-portionRest p g v ts answer work = (12, λ _. isReducible p g) ∷ powersTable ((g, v) ∷ []) ts answer work
-
 unfoldable pub setRest : ℕ → List Polynomial → List ℕ → List ℕ → ℕ → ℕ → List Check
 setRest p gs us ts answer work = multiplesTable p gs ++ powersTable (named gs us) ts answer work
 
 unfoldable pub periodChecks : ℕ → Polynomial → List ℕ → ℕ → ℕ → List Check
 periodChecks p g ts answer work = allButLast (periodTable p false false g ts answer work)
-
-unfoldable pub portionChecks : ℕ → Polynomial → ℕ → List ℕ → ℕ → ℕ → List Check
-portionChecks p g v ts answer work = allButLast (portionTable p false false g v ts answer work)
 
 unfoldable pub setChecks : ℕ → List Polynomial → List ℕ → List ℕ → ℕ → ℕ → List Check
 setChecks p gs us ts answer work = allButLast (setTable p false false (named gs us) ts answer work)

@@ -1,5 +1,5 @@
-// The conditions on factors in their order. As they are given: 10 and 11 for one factor, 9 to 11 for several;
-// 12 and 13 for the monic multiples of several.
+// The conditions on factors in their order. As they are given: 10 and 11 for the factor of a period, 9 to 11
+// for the factors of a set; 12 and 13 for the monic multiples of these.
 use crate::Verdict;
 use conditions::factors::FactorCondition;
 use conditions::factors::holds_for_some;
@@ -42,7 +42,7 @@ pub fn factors_verdict(p: u64, factors: &[&[u8]]) -> Verdict
     Verdict::Accepted
 }
 
-// The monic multiples of several factors: 12, 13.
+// The monic multiples of the factors of a set: 12, 13.
 pub fn multiples_verdict(p: u64, multiples: &[&[u8]]) -> Verdict
     ensures { λ r. ⌜ numberIn r ≡ firstOf (multiplesTable p (listsOf (now (multiples .entry)))) ⌝ }
 {

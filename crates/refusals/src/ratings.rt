@@ -1,4 +1,4 @@
-// The conditions of the period, portion and set ways in their order, all but the last, 17: those on what is
+// The conditions of the period way and the set way in their order, all but the last, 17: those on what is
 // given, and then those on the monic multiples for which the factors stand.
 use crate::Verdict;
 use crate::factors::factor_verdict;
@@ -16,7 +16,7 @@ ghost use Rattle.meaning.specs.Result.{firstOf};
 ghost use Rattle.meaning.specs.Conditions.{named};
 ghost use Rattle.meaning.specs.Slices.{listsOf};
 ghost use Rattle.refusals.specs.Verdicts.{numberIn, powersTable, givenTable, givenSetTable};
-ghost use Rattle.refusals.specs.Verdicts.{periodRest, portionRest, setRest};
+ghost use Rattle.refusals.specs.Verdicts.{periodRest, setRest};
 
 // What the upper powers, the number of terms and the lent bytes decide: 14, 15, 16.
 fn powers_verdict(
@@ -49,7 +49,7 @@ pub fn given_verdict(p: u64, factor: &[u8], terms: &[u8]) -> Verdict
     }
 }
 
-// The terms and several factors as they are given: 6 to 11.
+// The terms and the factors of a set as they are given: 6 to 11.
 pub fn given_set_verdict(p: u64, factors: &[&[u8]], terms: &[u8]) -> Verdict
     ensures { λ r. ⌜ numberIn r
         ≡ firstOf (givenSetTable p (listsOf (now (factors .entry))) (now (terms .entry))) ⌝ }
@@ -68,24 +68,6 @@ pub fn period_verdict(p: u64, multiple: &[u8], answer: usize, work: usize) -> Ve
         return Verdict::Refused(Refusal::Reducible);
     }
     lent_verdict(answer, work)
-}
-
-// The portion way after that: 12, 14, 15, 16.
-pub fn portion_verdict(
-    p: u64,
-    multiple: &[u8],
-    upper: u64,
-    terms: &[u8],
-    answer: usize,
-    work: usize,
-) -> Verdict
-    ensures { λ r. ⌜ numberIn r
-        ≡ firstOf (portionRest p (now (multiple .entry)) upper (now (terms .entry)) answer work) ⌝ }
-{
-    if reducible(p, multiple) {
-        return Verdict::Refused(Refusal::Reducible);
-    }
-    powers_verdict(&[multiple], &[upper], terms, answer, work)
 }
 
 // The set way after that: 12 to 16.

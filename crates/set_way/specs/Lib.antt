@@ -1,4 +1,3 @@
 pub mod SetWay
 pub mod actions
 pub mod search
-pub mod portion

@@ -2,7 +2,6 @@
 // work bytes are two halves of 4,096, terms are stored there alone, and the way leaves them 0 and all beyond
 // them as it was. Assumes a well-formed field and what each function says of its input.
 pub mod actions;
-pub mod portion;
 pub mod search;
 
 use crate::actions::annihilates;

@@ -9,7 +9,7 @@ use native.Mathlib.Omega.{arith}
 use mathlib.Core.Path.{_≡_, refl, sym, ap, subst, _∙_}
 use mathlib.Core.Logic.{_⊎_, inl, inr}
 use mathlib.Core.Bool.{Bool, true, false, true≢false}
-use mathlib.Core.List.{List, [], _∷_, map}
+use mathlib.Core.List.{List, map}
 use mathlib.Core.Option.{Option, none, some, Option·some-injective}
 use lib.ListN.{length, take, length-append}
 use lib.Seq.{length-take-le}
@@ -26,22 +26,22 @@ use Rattle.meaning.specs.Field.{primeInRange}
 use Rattle.meaning.specs.Polynomial.{Polynomial, monicMultiple}
 use Rattle.meaning.specs.Sequence.{cut, continuation}
 use Rattle.meaning.specs.Result.{Result, Rated, answered, refused, figuresOf, mapResult, answerAfter}
-use Rattle.meaning.specs.Result.{Check, workAfter}
-use Rattle.meaning.specs.Conditions.{named, totalDegree, factorDegreeOutOfRange}
+use Rattle.meaning.specs.Result.{workAfter}
+use Rattle.meaning.specs.Conditions.{named, factorDegreeOutOfRange}
 use Rattle.meaning.specs.Conditions.{notPrime, coefficientOutOfRange, isReducible, twoEqual}
 use Rattle.meaning.specs.Conditions.{placeOutOfRange, countOutOfRange}
 use Rattle.meaning.specs.Power.{PowerFigures, powerRating}
 use Rattle.meaning.specs.Period.{periodPower, periodTable, periodAnswer, ratePeriod}
-use Rattle.meaning.specs.Portion.{SetFigures, leastAt, portionTable, portionAnswer, ratePortion}
-use Rattle.meaning.specs.Portion.{setRating, setTable, setAnswer, rateSet}
+use Rattle.meaning.specs.Portion.{SetFigures}
+use Rattle.meaning.specs.Portion.{setTable, setAnswer, rateSet, factorsOf}
 use Rattle.meaning.specs.Free.{FreeFigures, freeRating, freeTable, rateFree}
 use Rattle.meaning.specs.Continuation.{continueSequence, continueTable, filled}
 use Rattle.meaning.specs.Irreducibility.{askIrreducible, irreducibleTable}
 use Rattle.meaning.specs.Answers.{setFiguresTold, setPadded, toldPower, toldSet, toldFree}
 use Rattle.meaning.specs.Answers.{toldFilling, toldIrreducible}
-use Rattle.meaning.specs.Calls.{PeriodCall, PortionCall, SetCall, FreeCall, bufferAfter}
+use Rattle.meaning.specs.Calls.{PeriodCall, SetCall, FreeCall, bufferAfter}
 use Rattle.meaning.proofs.Determined.{refusals, refusalOf}
-use Rattle.meaning.proofs.Determined.{period-call-determined, portion-call-determined, set-call-determined}
+use Rattle.meaning.proofs.Determined.{period-call-determined, set-call-determined}
 use Rattle.meaning.proofs.Determined.{free-call-determined, continue-call-determined}
 use Rattle.meaning.proofs.Determined.{irreducible-call-determined}
 use Rattle.meaning.proofs.Passes.{Passes}
@@ -50,24 +50,23 @@ use Rattle.bridge.proofs.Searches.{settle-refused, settle-answered, bind-some, 
 use Rattle.bridge.proofs.Searches.{map-refused, or-false}
 use Rattle.bridge.proofs.Accepted.{lent-enough}
 use Rattle.bridge.proofs.Interpretation.{IsField, inRange-isField, characteristic-two}
-use Rattle.bridge.proofs.Polynomials.{monic-nonempty, degree-length}
+use Rattle.bridge.proofs.Polynomials.{monic-nonempty}
 use Rattle.bridge.proofs.Products.{Nonempties, monics-nonempty, factorsOf-named}
-use Rattle.bridge.proofs.Products.{power-nonempty}
 use Rattle.bridge.proofs.Actions.{length-cut}
 use Rattle.bridge.proofs.Multiples.{coefficients-lead, multiple-monic}
 use Rattle.bridge.proofs.Irreducibles.{Factors, multiples-factors, factors-monics}
-use Rattle.bridge.proofs.Portions.{portion-found, setPowers-exists}
+use Rattle.bridge.proofs.Portions.{setPowers-exists}
 use Rattle.bridge.proofs.Fitting.{leastDegree-some, leastDegree-least, polynomial-some}
-use Rattle.bridge.proofs.RepeatBounds.{repeatBound-exists}
-use Rattle.bridge.proofs.Accepted.{prime-accepted, terms-accepted, enough-accepted, rating-of, power-rated}
-use Rattle.bridge.proofs.Accepted.{rated-power}
+use Rattle.bridge.proofs.RepeatBounds.{repeatBound-exists, setBound-exists}
+use Rattle.bridge.proofs.Accepted.{prime-accepted, rating-of, power-rated, set-rating-of}
+use Rattle.bridge.proofs.Accepted.{set-rated}
 use Rattle.bridge.proofs.FileRatings.{period-size, set-size, free-size}
 use Rattle.theorems.specs.Ratings.{GF}
-use Rattle.theorems.specs.Answering.{periodNumbers, portionNumbers, setNumbers, freeNumbers}
+use Rattle.theorems.specs.Answering.{periodNumbers, setNumbers, freeNumbers}
 use Rattle.theorems.specs.Answering.{continueNumbers, irreducibleNumbers, Answered, Tells}
-use Rattle.theorems.specs.Answering.{PeriodAnswers, PortionAnswers, SetAnswers, FreeAnswers}
+use Rattle.theorems.specs.Answering.{PeriodAnswers, SetAnswers, FreeAnswers}
 use Rattle.theorems.specs.Answering.{ContinueAnswers, IrreducibleAnswers, PrimeAnswers}
-use Rattle.theorems.proofs.Ways.{one-total, period-promise, portion-promise, set-promise, free-promise}
+use Rattle.theorems.proofs.Ways.{period-promise, set-promise, free-promise}
 use Rattle.theorems.proofs.Telling.{settle-tells, map-tells, Listed, meets, Sized, lent-after}
 use Rattle.theorems.proofs.Telling.{rating-answers, within}
 
@@ -204,95 +203,6 @@ period-answers p f ts answer work =
       one = λ r s _ _ _ _ c d. period-call-determined c d;
     }
 
--- THE PORTION WAY
-portion-listed : Listed portionNumbers
-unfolding Listed refusalOf refusals lookUp holdsForAll isNone
-portion-listed = tt
-
--- 10 and 11 as the portion way asks them, and its table
-module _ (p : ℕ) (f : Polynomial) (v : ℕ) (ts : List ℕ) (answer work : ℕ) where
-  abbrev portionChecks : List Check
-  portionChecks =
-      portionTable p (factorDegreeOutOfRange (GF p) f) (coefficientOutOfRange (GF p) f)
-      (monicMultiple (GF p) f) v ts answer work
-
-  pub portion-tells : Tells portionNumbers (ratePortion p f v ts answer work)
-  unfolding ratePortion portionAnswer portionTable
-  portion-tells =
-      settle-tells _ portionChecks
-      (λ h.
-      let I = inRange-isField p (prime-accepted p (h .fieldExists)) in
-      let g = monicMultiple (GF p) f in
-      power-value p g (leastAt (GF p) ((g, v) ∷ []) ts 0) I
-      (portion-found I g (multiple-monic I (coefficients-lead (GF p) f (h .coefficientsInRange))) v ts
-      (terms-accepted p ts (h .termsInField))
-      (subst (λ d. d ≤ length ts) (one-total g v)
-      (enough-accepted (totalDegree ((g, v) ∷ [])) ts (h .enoughTerms)))))
-
-module _ (p : ℕ) (f : Polynomial) (v : ℕ) (ts answer work : List ℕ) where
-  abbrev portionResult : Result (Rated PowerFigures)
-  portionResult = ratePortion p f v ts (length answer) (length work)
-
-  portion-some :
-      (r : PowerRating)
-      × (answer′ : List ℕ)
-      × (work′ : List ℕ)
-      × PortionCall p f v ts answer work r answer′ work′
-  portion-some =
-      let (r, e) =
-      power-meets portionNumbers portion-listed portionResult
-      (portion-tells p f v ts (length answer) (length work)) in (
-        r,
-        answerAfter portionResult answer,
-        workAfter portionResult work,
-        record { rating = e; lent = lent-after portionResult answer work },
-      )
-
-  portion-sized : Sized (λ a. a .degree) portionResult (length answer) (length work)
-  unfolding ratePortion portionAnswer portionTable figuresOf mapResult rating-of
-  portion-sized =
-      record {
-        polynomial =
-            λ a e.
-            let g = monicMultiple (GF p) f in
-            let (h, w) = settle-answered _ (portionChecks p f v ts (length answer) (length work)) e in
-            let I = inRange-isField p (prime-accepted p (h .fieldExists)) in
-            let (r, b, _, _, t) = rated-power p g (leastAt (GF p) ((g, v) ∷ []) ts 0) w in
-            let n = multiple-nonempty p f (h .fieldExists) (h .coefficientsInRange) in
-            subst (λ a. length (a .polynomial) ≡ suc (a .figures .degree)) t
-            (degree-length _ (power-nonempty I g r n));
-        small =
-            λ a e.
-            let (r, answer′, work′, c) = portion-some in
-            portion-promise p f v ts answer work r answer′ work′ c .rated (a .figures)
-            (c .rating ∙ ap figuresOf e) .small;
-        lent =
-            λ x. elim x [
-              | inl (a, e) ↦
-                  lent-enough (length answer) (length work)
-                  (settle-answered _ (portionChecks p f v ts (length answer) (length work)) e .0 .lentEnough)
-              | inr e ↦
-                  lent-enough (length answer) (length work)
-                  (settle-refused _ (portionChecks p f v ts (length answer) (length work)) (omega arith) e .0
-                  .lentEnough)
-            ];
-      }
-
-pub portion-answers : PortionAnswers
-unfolding holdsForAll
-portion-answers p f v ts answer work =
-    record {
-      each =
-          λ r answer′ work′ c.
-          rating-answers portionNumbers (λ a. a .degree) (λ a. a) (portionResult p f v ts answer work)
-          (toldPower r) answer work answer′ work′ (c .rating ∙ figures-themselves _)
-          (within portionNumbers tt)
-          (portion-tells p f v ts (length answer) (length work)) (portion-sized p f v ts answer work)
-          (c .lent);
-      some = portion-some p f v ts answer work;
-      one = λ r s _ _ _ _ c d. portion-call-determined c d;
-    }
-
 -- THE SET WAY
 set-listed : Listed setNumbers
 unfolding Listed refusalOf refusals lookUp holdsForAll isNone
@@ -308,7 +218,8 @@ set-tells p ten eleven l ts answer work nonempties =
     (λ h.
     let I = inRange-isField p (prime-accepted p (h .fieldExists)) in
     let (rs, e) = setPowers-exists I l (nonempties h) ts in
-    (setRating (GF p) l rs, mapOption-some (setRating (GF p) l) e))
+    let (b, k) = setBound-exists (GF p) (named (factorsOf l) rs) (characteristic-two I) in
+    (set-rating-of (GF p) l rs b, set-rated (GF p) l rs e k))
 
 pub set-lent :
     (p : ℕ) (ten eleven : Bool) (l : List (Polynomial × ℕ)) (ts : List ℕ) (answer work : ℕ)
@@ -375,8 +286,8 @@ module _ (p : ℕ) (fs : List Polynomial) (vs ts answer work : List ℕ) where
   unfolding toldSet figuresOf setFiguresTold
   set-some =
       let (o, e) =
-      meets toldSet (λ a. SetOutcome.Rated (a .degree) (a .count)) SetOutcome.Refused (λ a. refl) (λ z. refl)
-      setNumbers set-listed (mapResult setFiguresTold (figuresOf setResult))
+      meets toldSet (λ a. SetOutcome.Rated (a .degree) (a .bound) (a .count)) SetOutcome.Refused (λ a. refl)
+      (λ z. refl) setNumbers set-listed (mapResult setFiguresTold (figuresOf setResult))
       (map-tells setNumbers setFiguresTold (figuresOf setResult) refl
       (map-tells setNumbers (λ a. a .figures) setResult refl
       (set-told p fs vs ts (length answer) (length work)))) in (

@@ -18,20 +18,18 @@ use Rattle.meaning.specs.Sequence.{MinimalPolynomial, annihilatesKnown}
 use Rattle.meaning.specs.Result.{Result, answered, Rated, mapResult, figuresOf, written, answerAfter}
 use Rattle.meaning.specs.Conditions.{named, totalDegree, upperPowersOutOfRange, factorCountOutOfRange}
 use Rattle.meaning.specs.Conditions.{coefficientOutOfRange}
-use Rattle.meaning.specs.Power.{PowerFigures, isX, repeatBound}
+use Rattle.meaning.specs.Power.{PowerFigures, isX}
 use Rattle.meaning.specs.Period.{ratePeriod}
-use Rattle.meaning.specs.Portion.{acceptedFactors, factorTable, factorsOf, setPowers, setRating, onward}
-use Rattle.meaning.specs.Portion.{ratePortion}
+use Rattle.meaning.specs.Portion.{acceptedFactors, factorTable, factorsOf, setPowers, onward}
 use Rattle.meaning.specs.Answers.{toldPower, setFiguresTold}
 use Rattle.meaning.specs.Calls.{LentAfter}
 use Rattle.meaning.proofs.Passes.{accepted-passes}
 use Rattle.theorems.specs.Ratings.{GF, Returns}
-use Rattle.theorems.specs.CutAnywhere.{SetReturns, PortionReturns, PeriodReturns, FreeReturns}
-use Rattle.theorems.specs.CutAnywhere.{CutAnywherePromise}
+use Rattle.theorems.specs.CutAnywhere.{SetReturns, PeriodReturns, FreeReturns, CutAnywherePromise}
 use Rattle.bridge.proofs.Interpretation.{IsField, inRange-isField, characteristic-two}
 use Rattle.bridge.proofs.Polynomials.{monic-nonempty}
 use Rattle.bridge.proofs.Products.{MonicFactors, monics-nonempty, factorsOf-named, length-factorsOf}
-use Rattle.bridge.proofs.Products.{product-elements, product-single}
+use Rattle.bridge.proofs.Products.{product-elements, product-single, named-one}
 use Rattle.bridge.proofs.Irreducibles.{Factors, factors-monics, accepted-prime, accepted-different}
 use Rattle.bridge.proofs.Multiples.{associates-annihilate, associates-product, multiples-total}
 use Rattle.bridge.proofs.Searches.{or-false, false-T, some-head}
@@ -39,26 +37,12 @@ use Rattle.bridge.proofs.Actions.{length-cut, cut-elements, endless-known, peri
 use Rattle.bridge.proofs.Minimal.{minimal-unique, leastPower-exists}
 use Rattle.bridge.proofs.Periods.{least-periodPower, periodPower-minimal}
 use Rattle.bridge.proofs.Fitting.{stretch-answer}
-use Rattle.bridge.proofs.Portions.{setPowers-exists, setPowers-minimal, onward-cut, portion-found}
-use Rattle.bridge.proofs.Portions.{portion-minimal}
-use Rattle.bridge.proofs.RepeatBounds.{repeatBound-exists}
-use Rattle.theorems.proofs.Ways.{written-returns, one-factor, one-total}
-use Rattle.bridge.proofs.Accepted.{AcceptedTerms, accepts-free, set-answer, portion-answer, period-answer}
-use Rattle.bridge.proofs.Accepted.{rating-of, rating-degree, rating-polynomial}
+use Rattle.bridge.proofs.Portions.{setPowers-exists, setPowers-minimal, onward-cut}
+use Rattle.bridge.proofs.RepeatBounds.{repeatBound-exists, setBound-exists}
+use Rattle.theorems.proofs.Ways.{written-returns, one-factor}
+use Rattle.bridge.proofs.Accepted.{AcceptedTerms, accepts-free, set-answer, period-answer}
+use Rattle.bridge.proofs.Accepted.{set-rating-of, rating-of, rating-degree, rating-polynomial}
 use Rattle.bridge.proofs.Cutting.{shifted, shifted-minimal, product-constant}
-
--- acceptance depends on the upper powers of the factors alone
-same-table :
-    (p : ℕ) (fs : List Polynomial) (vs ws : List ℕ)
-    → named fs vs ≡ named fs ws
-    → acceptedFactors p fs vs ≡ acceptedFactors p fs ws
-unfolding acceptedFactors factorTable
-same-table p fs vs ws e = rw e
-
-named-one : (f : Polynomial) (vs : List ℕ) → named (f ∷ []) vs ≡ (f, getD vs 0 0) ∷ []
-unfolding named
-named-one f [] = refl
-named-one f (v ∷ vs) = refl
 
 -- The total degree of accepted factors is positive: there is one, with an upper power and a degree above 0.
 nonzero-upper :
@@ -83,17 +67,6 @@ positive p (f ∷ fs) (v ∷ vs) h =
     let u = nonzero-upper f v (named fs vs) (accepted-passes p (f ∷ fs) (v ∷ vs) h .uppersInRange) in
     let d = accepted-different p (f ∷ fs) (v ∷ vs) h .positive 0 (omega arith) in
     omega (arith, mul-pos {m = v} {n = degree (monicMultiple (GF p) f)} (omega arith) d)
-
--- the multiples of named factors have their upper powers
-named-multiples :
-    (h : Polynomial → Polynomial) (fs : List Polynomial) (vs : List ℕ)
-    → named (map h fs) vs ≡ map (λ (f : Polynomial × ℕ). (h (f .0), f .1)) (named fs vs)
-unfolding named
-named-multiples h [] vs = refl
-named-multiples h (f ∷ fs) [] =
-    ap (λ (l : List (Polynomial × ℕ)). (h f, 0) ∷ l) (named-multiples h fs [])
-named-multiples h (f ∷ fs) (v ∷ vs) =
-    ap (λ (l : List (Polynomial × ℕ)). (h f, v) ∷ l) (named-multiples h fs vs)
 
 module _
     (p : ℕ) (fs : List Polynomial) (vs : List ℕ) (s : Sequence)
@@ -175,24 +148,6 @@ module _
     same-as-g : (h : Polynomial) (k : ℕ) → MinimalPolynomial (GF p) h (shifted s k) → h ≡ g
     same-as-g h k x = minimal-unique I h g (shifted s k) x (minimal-from k)
 
-    -- one pair is one factor
-    only-factor : (f : Polynomial) (v : ℕ) → named fs vs ≡ (f, v) ∷ [] → fs ≡ f ∷ []
-    unfolding factorsOf
-    only-factor f v one = sym (factorsOf-named fs vs) ∙ ap factorsOf one
-
-    one-accepted :
-        (f : Polynomial) (v : ℕ) → named fs vs ≡ (f, v) ∷ [] → T (acceptedFactors p (f ∷ []) (v ∷ []))
-    unfolding named
-    one-accepted f v one =
-        let e = only-factor f v one in
-        subst T (same-table p (f ∷ []) vs (v ∷ []) (ap (λ (gs : List Polynomial). named gs vs) (sym e) ∙ one))
-        (subst (λ (gs : List Polynomial). T (acceptedFactors p gs vs)) e accepted)
-
-    one-multiple : (f : Polynomial) (v : ℕ) → named fs vs ≡ (f, v) ∷ [] → l ≡ (monicMultiple (GF p) f, v) ∷ []
-    one-multiple f v one =
-        named-multiples (monicMultiple (GF p)) fs vs
-        ∙ ap (map (λ (f : Polynomial × ℕ). (monicMultiple (GF p) (f .0), f .1))) one
-
     -- THE SET WAY
     total-positive : 1 ≤ totalDegree l
     total-positive = positive p fs vs accepted
@@ -209,12 +164,13 @@ module _
     known-annihilated k m = endless-known (GF p) (product (GF p) l) s k m annihilated
 
     set-way : (k m : ℕ) → totalDegree l ≤ m → m ≤ 4096 → SetReturns p fs vs (cut s k m) g
-    unfolding figuresOf mapResult answerAfter setRating setFiguresTold rated
+    unfolding figuresOf mapResult answerAfter set-rating-of setFiguresTold rated
     set-way k m e few answer work lent r answer′ work′ c =
+        let bound = setBound-exists (GF p) (named (factorsOf l) (powers k m .0)) (characteristic-two I) in
         let result =
         set-answer p fs vs (cut s k m) (length answer) (length work) accepted
         (terms k m (le-trans total-positive e) few)
-        lent (enough k m e) (known-annihilated k m) (powers k m .0) (powers k m .1) in (
+        lent (enough k m e) (known-annihilated k m) (powers k m .0) (bound .0) (powers k m .1) (bound .1) in (
           _,
           c .rating ∙ ap (λ x. mapResult setFiguresTold (figuresOf x)) result,
           written-returns g (rated k m) answer answer′
@@ -222,9 +178,6 @@ module _
               (same-as-g (rated k m) k (rated-minimal k m e))
               (c .lent .answerBytes ∙ ap (λ x. answerAfter x answer) result),
         )
-
-    bound-of : (f : Polynomial) (r : ℕ) → (b : ℕ) × (repeatBound (GF p) f r ≡ some b)
-    bound-of f r = repeatBound-exists (GF p) f r (characteristic-two I)
 
     -- what an answer with a power of f returns, where that power is minimal from some place on
     power-returns :
@@ -249,38 +202,6 @@ module _
           ∙ ap (λ h. written h answer) (rating-polynomial p f r b))),
     )
 
-    -- THE PORTION WAY
-    portion-way :
-        (f : Polynomial) (v : ℕ)
-        → named fs vs ≡ (f, v) ∷ []
-        → (k m : ℕ)
-        → totalDegree l ≤ m
-        → m ≤ 4096
-        → PortionReturns p f v (cut s k m) g
-    portion-way f v given-one k m d few answer work lent told answer′ work′ c =
-        let q = monicMultiple (GF p) f in
-        let one = one-multiple f v given-one in
-        let h =
-        subst (λ (n : List (Polynomial × ℕ)). T (annihilatesKnown (GF p) (product (GF p) n) (cut s k m))) one
-        (known-annihilated k m) in
-        let t = terms k m (le-trans total-positive d) few in
-        let x = one-factor p f (v ∷ []) (one-accepted f v given-one) in
-        let size : v * degree q ≤ length (cut s k m) =
-        subst (λ n. n ≤ length (cut s k m)) (ap totalDegree one ∙ one-total q v) (enough k m d) in
-        let found = portion-found I q (x .monic) v (cut s k m) (t .inField) size in
-        let bound = bound-of q (found .0) in
-        power-returns q (found .0) (bound .0) k
-        (subst (MinimalPolynomial (GF p) (power (GF p) q (found .0)))
-        (ap (λ (n : List (Polynomial × ℕ)). onward (GF p) n (cut s k m)) (sym one) ∙ continued k m d)
-        (portion-minimal I q (x .monic) v (cut s k m) (t .inField) size (x .positive) (x .irreducibility)
-        (found .1)))
-        (ratePortion p f v (cut s k m) (length answer) (length work))
-        (portion-answer p f v (cut s k m) (length answer) (length work) (found .0) (bound .0)
-        (one-accepted f v given-one) t lent
-        (subst (λ (n : List (Polynomial × ℕ)). totalDegree n ≤ length (cut s k m)) one (enough k m d)) h
-        (found .1) (bound .1))
-        told answer work answer′ work′ (c .rating) (c .lent)
-
     -- THE PERIOD WAY
     period-way :
         (f : Polynomial)
@@ -301,7 +222,7 @@ module _
         let whole : AnnihilatesEndless (GF p) (power (GF p) q v) s =
         subst (λ (h : Polynomial). AnnihilatesEndless (GF p) h s)
         (ap (λ (hs : List Polynomial). product (GF p) (named (map (monicMultiple (GF p)) hs) vs)) e
-        ∙ ap (product (GF p)) (named-one q vs)
+        ∙ ap (product (GF p)) (named-one (q ∷ []) vs refl)
         ∙ product-single I q v (monic-nonempty (GF p) q (x .monic)))
         annihilated in
         let least =
@@ -311,7 +232,7 @@ module _
         let found =
         least-periodPower I q (x .monic) (x .positive) (x .irreducibility) (cut s k n) (t .atLeastOne)
         (least .2) in
-        let bound = bound-of q (least .0) in
+        let bound = repeatBound-exists (GF p) q (least .0) (characteristic-two I) in
         power-returns q (least .0) (bound .0) k
         (subst (MinimalPolynomial (GF p) (power (GF p) q (least .0))) same
         (periodPower-minimal I q (x .monic) (x .positive) (x .irreducibility) (cut s k n) (t .atLeastOne)
@@ -345,10 +266,6 @@ cut-anywhere p fs vs s accepted noneX inField annihilated =
       set-way =
           λ k m enough few.
           set-way p fs vs s accepted noneX inField annihilated k m
-          (total p fs vs s accepted noneX inField annihilated m enough) few;
-      portion-way =
-          λ f v one k m enough few.
-          portion-way p fs vs s accepted noneX inField annihilated f v one k m
           (total p fs vs s accepted noneX inField annihilated m enough) few;
       period-way =
           λ f one k n repeats few.

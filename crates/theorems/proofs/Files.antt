@@ -274,7 +274,8 @@ module _ (file answer work : List ℕ) (r : FileRating) (answer′ work′ : Lis
                 (length work))
                 (set-promise p (polynomialsIn rs) (uppersIn rs) ts answer work
                 (record {
-                  outcome = SetOutcome.Rated (d .figures .degree) (length (d .figures .powers));
+                  outcome =
+                      SetOutcome.Rated (d .figures .degree) (d .figures .bound) (length (d .figures .powers));
                   powers = r .powers;
                 })
                 answer′ work′

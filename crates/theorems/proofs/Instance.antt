@@ -1,12 +1,12 @@
 -- The statement `cut-anywhere` is not empty: over GF(2) with the factor x + 1 and the upper power 3 the
--- sequence 1, 0, 1, 0, … meets its hypotheses, the contracts of all four ways are met on stretches of it, and
--- the polynomial is x² + 1, which is neither the factor nor its upper power. What is computed of it stands in
--- proofs/Stretches.antt of crate meaning.
+-- sequence 1, 0, 1, 0, … meets its hypotheses, the contracts of all three ways are met on stretches of it,
+-- and the polynomial is x² + 1, which is neither the factor nor its upper power. What is computed of it
+-- stands in proofs/Stretches.antt of crate meaning.
 --
 --   instance   == the theorem for this sequence; `polynomial`: its polynomial
 --   ones-instance, ones-polynomial == the same for 1, 1, 1, … with the upper power 2: the polynomial is x + 1
 --   short-instance, short-polynomial == and for 1, 0, 1, 0, … with the upper power 2
---   alternating-set, -portion, -period, -free == the contracts, met on a stretch or a period
+--   alternating-set, -period, -free == the contracts, met on a stretch or a period
 --   degree-in  == the degree that a call of the set way tells
 -- Assumes nothing.
 use Prim.Native.Nat.{ℕ, suc}
@@ -24,8 +24,7 @@ use Rattle.meaning.proofs.Stretches.{alternating-annihilated-2, alternating-ann
 use Rattle.meaning.proofs.Stretches.{ones, ones-inField, ones-annihilated, ones-set}
 use Rattle.theorems.specs.CutAnywhere.{CutAnywhere}
 use Rattle.theorems.proofs.CutAnywhere.{cut-anywhere}
-pub use Rattle.meaning.proofs.Stretches.{alternating-set, alternating-portion, alternating-period}
-pub use Rattle.meaning.proofs.Stretches.{alternating-free}
+pub use Rattle.meaning.proofs.Stretches.{alternating-set, alternating-period, alternating-free}
 
 unfoldable pub degree-in : Result SetTold → ℕ
 degree-in (refused n) = 9

@@ -12,18 +12,18 @@ use Rattle.meaning.specs.Free.{rateFree}
 use Rattle.meaning.specs.Continuation.{continueSequence}
 use Rattle.meaning.specs.Answers.{toldPower, toldSet, toldFree, toldFilling, toldIrreducible, setFiguresTold}
 use Rattle.meaning.specs.Answers.{setPadded}
-use Rattle.meaning.specs.Calls.{PeriodCall, PortionCall, SetCall, FreeCall, ContinueCall}
+use Rattle.meaning.specs.Calls.{PeriodCall, SetCall, FreeCall, ContinueCall}
 use Rattle.meaning.specs.FlatBytes.{bytesOfAll}
 use Rattle.meaning.specs.Exports.{statusOf, numberAfter, PowerTold, PowersAfter, wordOf, yesAfter}
 use Rattle.bridge.proofs.Searches.{map-answered, map-refused}
-use Rattle.theorems.specs.Answering.{periodNumbers, portionNumbers, setNumbers, freeNumbers}
+use Rattle.theorems.specs.Answering.{periodNumbers, setNumbers, freeNumbers}
 use Rattle.theorems.specs.Answering.{continueNumbers, irreducibleNumbers, Answered, OneOf, Tells}
-use Rattle.theorems.specs.OtherLanguages.{StatusTold, PeriodExport, PortionExport, SetExport}
-use Rattle.theorems.specs.OtherLanguages.{FreeExport, ContinueExport, IrreducibleExport}
+use Rattle.theorems.specs.OtherLanguages.{StatusTold, PeriodExport, SetExport, FreeExport}
+use Rattle.theorems.specs.OtherLanguages.{ContinueExport, IrreducibleExport}
 use Rattle.theorems.proofs.Telling.{no-zero}
-use Rattle.theorems.proofs.Answering.{period-answers, portion-answers, set-answers, free-answers}
+use Rattle.theorems.proofs.Answering.{period-answers, set-answers, free-answers}
 use Rattle.theorems.proofs.Answering.{continue-answers, irreducible-answers}
-use Rattle.theorems.proofs.Ways.{period-promise, portion-promise, set-promise, free-promise}
+use Rattle.theorems.proofs.Ways.{period-promise, set-promise, free-promise}
 use Rattle.theorems.proofs.Words.{continue-promise, irreducible-promise}
 
 -- THE STATUS
@@ -46,14 +46,13 @@ unfolding statusOf mapResult
 status-map g (refused n) = refl
 status-map g (answered a) = refl
 
-set-degree :
-    (x : Result SetFigures) (n : ℕ)
-    → numberAfter (λ a. a .degree) x n ≡ numberAfter (λ a. a .degree) (mapResult setFiguresTold x) n
-unfolding numberAfter mapResult setFiguresTold
-set-degree (refused k) n = refl
-set-degree (answered a) n = refl
+number-map : {A B : Type 0} (g : A → B) (f : B → ℕ) (x : Result A) (n : ℕ)
+    → numberAfter (λ a. f (g a)) x n ≡ numberAfter f (mapResult g x) n
+unfolding numberAfter mapResult
+number-map g f (refused k) n = refl
+number-map g f (answered a) n = refl
 
--- ONE FACTOR
+-- THE PERIOD WAY
 pub period-export : PeriodExport
 unfolding holdsForSome
 period-export p f ts answer work power degree bound status answer′ work′ power′ degree′ bound′ x =
@@ -74,26 +73,6 @@ period-export p f ts answer work power degree bound status answer′ work′ pow
       right = period-promise p f ts answer work r answer′ work′ c;
     }
 
-pub portion-export : PortionExport
-unfolding holdsForSome
-portion-export p f v ts answer work power degree bound status answer′ work′ power′ degree′ bound′ x =
-    let answers = portion-answers p f v ts answer work in
-    let (r, _, _, c₀) = answers .some in
-    let c : PortionCall p f v ts answer work r answer′ work′ =
-    record { rating = c₀ .rating; lent = x .lent } in
-    let each = answers .each r answer′ work′ c in
-    let figures = subst (λ y. PowerTold y power degree bound status power′ degree′ bound′) (sym (c₀ .rating))
-    (x .figures) in
-    record {
-      told = toldPower r;
-      status-told =
-          status-told portionNumbers (toldPower r) status (no-zero portionNumbers tt) (each .tells)
-          (figures .told);
-      figures-told = figures;
-      answers = each;
-      right = portion-promise p f v ts answer work r answer′ work′ c;
-    }
-
 -- THE SET WAY
 powers-left :
     (x : Result SetFigures) (powers powers′ : List ℕ)
@@ -106,8 +85,8 @@ powers-left x powers powers′ h (a, e) =
     (subst (λ y. PowersAfter y powers powers′) e h)
 
 pub set-export : SetExport
-unfolding PowersAfter holdsForSome figuresOf
-set-export p fs vs ts answer work powers degree status answer′ work′ powers′ degree′ x =
+unfolding PowersAfter holdsForSome figuresOf setFiguresTold
+set-export p fs vs ts answer work powers degree bound status answer′ work′ powers′ degree′ bound′ x =
     let result = figuresOf (rateSet p fs vs ts (length answer) (length work)) in
     let answers = set-answers p fs vs ts answer work in
     let (r, _, _, c₀) = answers .some in
@@ -125,8 +104,12 @@ set-export p fs vs ts answer work powers degree status answer′ work′ powers�
           ∙ ap statusOf (sym (c₀ .rating)));
       degree-told =
           x .degreeAfter
-          ∙ set-degree result degree
+          ∙ number-map setFiguresTold (λ a. a .degree) result degree
           ∙ ap (λ y. numberAfter (λ a. a .degree) y degree) (sym (c₀ .rating));
+      bound-told =
+          x .boundAfter
+          ∙ number-map setFiguresTold (λ a. a .bound) result bound
+          ∙ ap (λ y. numberAfter (λ a. a .bound) y bound) (sym (c₀ .rating));
       powers-told =
           λ a.
           let (b, e) = a in

@@ -4,7 +4,7 @@ use native.Mathlib.Omega.{arith}
 use Rattle.meaning.specs.Search.{holdsForSome}
 use Rattle.meaning.specs.Route.{records}
 use Rattle.theorems.specs.Ratings.{GF, RepeatPromise}
-use Rattle.theorems.specs.Answering.{periodNumbers, portionNumbers, setNumbers, freeNumbers}
+use Rattle.theorems.specs.Answering.{periodNumbers, setNumbers, freeNumbers}
 use Rattle.theorems.specs.Answering.{continueNumbers, irreducibleNumbers, readerNumbers, fileNumbers}
 use Rattle.theorems.specs.Answering.{NeverZero}
 use Rattle.theorems.specs.Catalogue.{searchNumbers}
@@ -12,21 +12,21 @@ use Rattle.theorems.specs.Promises.{Promises}
 use Rattle.bridge.proofs.Interpretation.{characteristic-two}
 use Rattle.bridge.proofs.RepeatBounds.{repeatBound-exists, repeatBound-bounds}
 use Rattle.theorems.proofs.Telling.{tells-zero, no-zero}
-use Rattle.theorems.proofs.Answering.{period-answers, portion-answers, set-answers, free-answers}
+use Rattle.theorems.proofs.Answering.{period-answers, set-answers, free-answers}
 use Rattle.theorems.proofs.Answering.{continue-answers, irreducible-answers, prime-answers}
-use Rattle.theorems.proofs.Answering.{period-told, portion-tells, set-told, free-tells, continue-told}
+use Rattle.theorems.proofs.Answering.{period-told, set-told, free-tells, continue-told}
 use Rattle.theorems.proofs.Answering.{irreducible-tells}
 use Rattle.theorems.proofs.FileAnswers.{file-answers, record-answers, program-answers, file-tells}
 use Rattle.theorems.proofs.FileAnswers.{read-tells, file-within}
 use Rattle.theorems.proofs.Words.{field-of, prime-words, irreducible-words, prime-promise}
 use Rattle.theorems.proofs.Words.{irreducible-promise, continue-promise, multiple-promise}
 use Rattle.theorems.proofs.Words.{multiples-promise}
-use Rattle.theorems.proofs.Ways.{period-promise, portion-promise, set-promise, free-promise}
+use Rattle.theorems.proofs.Ways.{period-promise, set-promise, free-promise}
 use Rattle.theorems.proofs.CutAnywhere.{cut-anywhere}
 use Rattle.theorems.proofs.Files.{file-promise}
 use Rattle.theorems.proofs.Program.{record-promise, program-as-call, program-promise}
 use Rattle.theorems.proofs.Density.{density-promise}
-use Rattle.theorems.proofs.OtherLanguages.{period-export, portion-export, set-export, free-export}
+use Rattle.theorems.proofs.OtherLanguages.{period-export, set-export, free-export}
 use Rattle.theorems.proofs.OtherLanguages.{continue-export, irreducible-export}
 use Rattle.theorems.proofs.Meters.{start-answers, meter-promise, profile-export}
 use Rattle.theorems.proofs.Catalogue.{search-answers, search-tells, entry-answers, catalogue-promise}
@@ -49,9 +49,6 @@ never-zero =
       period =
           λ p f ts answer work.
           tells-zero periodNumbers _ (no-zero periodNumbers tt) (period-told p f ts answer work);
-      portion =
-          λ p f v ts answer work.
-          tells-zero portionNumbers _ (no-zero portionNumbers tt) (portion-tells p f v ts answer work);
       set =
           λ p fs vs ts answer work.
           tells-zero setNumbers _ (no-zero setNumbers tt) (set-told p fs vs ts answer work);
@@ -75,7 +72,6 @@ pub promises : Promises
 promises =
     record {
       period-answers = period-answers;
-      portion-answers = portion-answers;
       set-answers = set-answers;
       free-answers = free-answers;
       continue-answers = continue-answers;
@@ -89,7 +85,6 @@ promises =
       entry-answers = entry-answers;
       never-zero = never-zero;
       period = period-promise;
-      portion = portion-promise;
       set = set-promise;
       free = free-promise;
       continuation = continue-promise;
@@ -110,7 +105,6 @@ promises =
       program = program-promise;
       density = density-promise;
       period-export = period-export;
-      portion-export = portion-export;
       set-export = set-export;
       free-export = free-export;
       continue-export = continue-export;

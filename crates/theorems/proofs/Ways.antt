@@ -1,12 +1,12 @@
--- Demand 2: what the calls of the four ways return is right, from their contracts alone.
+-- Demand 2: what the calls of the three ways return is right, from their contracts alone.
 -- Assumes nothing.
-use Prim.Native.Nat.{ℕ, zero, suc, _*_, _^_, _≤_, _<_}
-use native.Mathlib.Nat.{mul-le-mul-right, le-trans, add-zero}
+use Prim.Native.Nat.{ℕ, suc, _*_, _^_, _≤_, _<_}
+use native.Mathlib.Nat.{mul-le-mul-right, le-trans}
 use native.Mathlib.Omega.{arith}
 use mathlib.Core.Path.{_≡_, refl, sym, ap, subst, _∙_}
 use mathlib.Core.Bool.{true, false, not}
 use mathlib.Core.List.{List, [], _∷_, map}
-use mathlib.Core.Option.{some}
+use mathlib.Core.Option.{some, Option·some-injective}
 use lib.ListN.{length, getD, take}
 use lib.Seq.{take-at}
 use lib.Dec.{T, T-not}
@@ -17,43 +17,46 @@ use Rattle.meaning.specs.Field.{primeInRange, areElements}
 use Rattle.meaning.specs.Polynomial.{Polynomial, degree, isMonicOver, power, product, irreducible}
 use Rattle.meaning.specs.Polynomial.{monicMultiple}
 use Rattle.meaning.specs.Sequence.{Sequence, InField, periodic, annihilatesKnown, MinimalPolynomial}
-use Rattle.meaning.specs.Sequence.{AnnihilatesEndless}
 use Rattle.meaning.specs.Result.{Check, Result, Rated, answered, refused, figuresOf, mapResult, answerAfter}
 use Rattle.meaning.specs.Result.{written}
 use Rattle.meaning.specs.Conditions.{named, totalDegree, notPrime, factorDegreeOutOfRange, notMonic}
 use Rattle.meaning.specs.Conditions.{coefficientOutOfRange, isReducible, twoEqual}
 use Rattle.meaning.specs.Power.{PowerFigures, repeatBound}
 use Rattle.meaning.specs.Period.{NoPower, periodPower, ratePeriod, periodAnswer, periodTable}
-use Rattle.meaning.specs.Portion.{acceptedFactors, factorTable, factorsOf, leastAt, onward, portionTable}
-use Rattle.meaning.specs.Portion.{portionAnswer}
-use Rattle.meaning.specs.Portion.{ratePortion, SetFigures, setRating, setPowers, setTable, setAnswer, rateSet}
+use Rattle.meaning.specs.Portion.{acceptedFactors, factorTable, factorsOf, leastAt, onward, SetFigures}
+use Rattle.meaning.specs.Portion.{setPowers, setBound, setTable, setAnswer, rateSet}
 use Rattle.meaning.specs.Free.{freeTable, rateFree}
 use Rattle.meaning.specs.Answers.{SetTold, toldPower, toldSet, setFiguresTold, setPadded}
-use Rattle.meaning.specs.Calls.{PeriodCall, PortionCall, SetCall}
+use Rattle.meaning.specs.Calls.{PeriodCall, SetCall}
 use Rattle.meaning.proofs.Tables.{of-one, isNone-none}
 use Rattle.meaning.proofs.Passes.{Passes, accepted-passes}
 use Rattle.theorems.specs.Ratings.{GF, listIn, Returns, BoundTold, PeriodPromise, PeriodAnswered}
-use Rattle.theorems.specs.Ratings.{PortionPromise, PortionAnswered, SetPromise, SetAnswered}
+use Rattle.theorems.specs.Ratings.{SetPromise, SetAnswered, SingleAnswered}
 use Rattle.theorems.specs.Ratings.{FreePromise, FreeAnswered, NoneBegins}
 use Rattle.bridge.proofs.Searches.{settle-answered, settle-refused, map-answered, map-refused}
-use Rattle.bridge.proofs.Searches.{some-mapOption, true-T, not-false}
+use Rattle.bridge.proofs.Searches.{true-T, not-false}
 use Rattle.bridge.proofs.Interpretation.{IsField, prime-pos, inRange-isField, inRange-prime}
 use Rattle.bridge.proofs.Polynomials.{monic-nonempty, getD-below}
 use Rattle.bridge.proofs.Minimal.{minimal-degree}
-use Rattle.bridge.proofs.Products.{powerAt, length-named, degree-power, degree-product, product-monic}
+use Rattle.bridge.proofs.Products.{Nonempties, MonicFactors, length-named, length-factorsOf, powerAt-named}
+use Rattle.bridge.proofs.Products.{degree-power, degree-product, product-monic}
 use Rattle.bridge.proofs.Products.{accepted-monic, factorsOf-named, monics-nonempty, product-single}
+use Rattle.bridge.proofs.Products.{total-one}
 use Rattle.bridge.proofs.Irreducibles.{Factors, accepted-degree, accepted-irreducible, factors-monics}
 use Rattle.bridge.proofs.Irreducibles.{multiples-factors, single-factor}
-use Rattle.bridge.proofs.Multiples.{coefficients-lead, multiple-ten, multiple-eleven}
+use Rattle.bridge.proofs.Multiples.{coefficients-lead, multiple-ten, multiple-eleven, multiples-ten}
+use Rattle.bridge.proofs.Multiples.{multiples-eleven}
 use Rattle.bridge.proofs.Portions.{setPowers-minimal, annihilated-agrees, nothing-continues, portion-least}
 use Rattle.bridge.proofs.Portions.{portion-minimal, onward-continues, onward-unique, leastAt-upper}
 use Rattle.bridge.proofs.Portions.{setPowers-places}
 use Rattle.bridge.proofs.Periods.{periodPower-least, periodPower-minimal, periodPower-none, periodPower-size}
 use Rattle.bridge.proofs.Fitting.{leastDegree-least, least-bound, fits-only, isUnique-le, le-isUnique}
 use Rattle.bridge.proofs.Fitting.{FirstFit, free-rated}
-use Rattle.bridge.proofs.RepeatBounds.{prime-repeatBound-bits, repeatBound-meaning}
+use Rattle.bridge.proofs.RepeatBounds.{prime-repeatBound-bits, repeatBound-meaning, setBound-one}
+use Rattle.bridge.proofs.RepeatBounds.{setBound-several}
 use Rattle.bridge.proofs.Accepted.{count-accepted, terms-accepted, prime-accepted, enough-accepted}
-use Rattle.bridge.proofs.Accepted.{total-accepted, rating-of, rating-polynomial, rated-power}
+use Rattle.bridge.proofs.Accepted.{total-accepted, rating-of, rating-polynomial, rated-power, set-rating-of}
+use Rattle.bridge.proofs.Accepted.{rated-set}
 
 -- What a call returns, from the bytes that it leaves.
 whole : (h : Polynomial) → 0 < length h → length h ≡ suc (degree h)
@@ -248,103 +251,81 @@ period-promise p f ts answer work r answer′ work′ c =
           (sym (c .rating) ∙ e));
     }
 
--- THE PORTION WAY
-pub one-total : (f : Polynomial) (v : ℕ) → totalDegree ((f, v) ∷ []) ≡ v * degree f
-unfolding totalDegree
-one-total f v = add-zero (v * degree f)
-
-portion-rated :
-    (p : ℕ) (f : Polynomial) (v : ℕ) (ts answer work : List ℕ) (r : PowerRating) (answer′ work′ : List ℕ)
-    → PortionCall p f v ts answer work r answer′ work′
-    → (a : PowerFigures)
-    → toldPower r ≡ answered a
-    → PortionAnswered p (monicMultiple (GF p) f) v ts a answer′
-unfolding ratePortion portionAnswer portionTable figuresOf rating-of factorsOf
-portion-rated p f v ts answer work r answer′ work′ c a e =
-    let result = ratePortion p f v ts (length answer) (length work) in
-    let g = monicMultiple (GF p) f in
-    let one : List (Polynomial × ℕ) = (g, v) ∷ [] in
-    let (b, q, u) = map-answered (λ x. x .figures) result (sym (c .rating) ∙ e) in
-    let (h, w) =
-    settle-answered _
-    (portionTable p (factorDegreeOutOfRange (GF p) f) (coefficientOutOfRange (GF p) f) g v ts (length answer)
-    (length work))
-    q in
-    let x = multiple-of p f (h .fieldExists) (h .degreesInRange) (h .coefficientsInRange) (h .irreducible) in
-    let (n, bound, y, z, t) = rated-power p g (leastAt (GF p) one ts 0) w in
-    let els = terms-accepted p ts (h .termsInField) in
-    let enough = enough-accepted (totalDegree one) ts (h .enoughTerms) in
-    let size : v * degree g ≤ length ts = subst (λ d. d ≤ length ts) (one-total g v) enough in
-    let monics =
-    factors-monics (x .isField) one (single-factor (GF p) g (x .monic) (x .positive) (x .irreducibility)) in
-    let s = onward (GF p) one ts in
-    let min =
-    portion-minimal (x .isField) g (x .monic) v ts els size (x .positive) (x .irreducibility) y in
-    let upper : n ≤ v = leastAt-upper (x .isField) one (monics-nonempty (GF p) one monics) ts 0 y in
-    let few : n * degree g ≤ 4096 =
-    le-trans (mul-le-mul-right (degree g) upper)
-    (subst (λ d. d ≤ 4096) (one-total g v) (total-accepted one (h .uppersInRange))) in
-    let returns =
-    power-returns p g n bound s result answer answer′ min (q ∙ ap answered (sym t)) (c .lent .answerBytes) in
-    subst (λ a. PortionAnswered p g v ts a answer′) (ap (λ b. b .figures) t ∙ u)
-    (record {
-      small = power-small p g x n few;
-      continuation =
-          record {
-            continues = onward-continues (x .isField) one monics ts els enough;
-            only = onward-unique (x .isField) one monics ts els enough;
-          };
-      atMost = upper;
-      agrees =
-          annihilated-agrees (x .isField) one monics ts els enough
-          (not-false (annihilatesKnown (GF p) (product (GF p) one) ts) (h .annihilated));
-      least = portion-least (x .isField) g (x .monic) v ts els size y;
-      minimal = subst (λ h. MinimalPolynomial (GF p) h s) (sym (returns .coefficients)) min;
-      returns = returns;
-      bound =
-          bound-told p g x n bound s (onward-continues (x .isField) one monics ts els enough .inField) min few
-          z;
-    })
-
-portion-none :
-    (p : ℕ) (f : Polynomial) (v : ℕ) (ts : List ℕ) (answer work : ℕ)
-    → ratePortion p f v ts answer work ≡ refused 17
-    → NoneBegins p (power (GF p) (monicMultiple (GF p) f) v) ts
-unfolding ratePortion portionAnswer portionTable
-portion-none p f v ts answer work e s z =
-    let g = monicMultiple (GF p) f in
-    let (h, k) =
-    settle-refused _
-    (portionTable p (factorDegreeOutOfRange (GF p) f) (coefficientOutOfRange (GF p) f) g v ts answer work)
-    (omega arith) e in
-    let x = multiple-of p f (h .fieldExists) (h .degreesInRange) (h .coefficientsInRange) (h .irreducible) in
-    let same = product-single (x .isField) g v (monic-nonempty (GF p) g (x .monic)) in
-    not-continued p (product (GF p) ((g, v) ∷ [])) ts k s
-    (subst (λ g. AnnihilatesEndless (GF p) g s) (sym same) z)
-
-pub portion-promise : PortionPromise
-unfolding figuresOf
-portion-promise p f v ts answer work r answer′ work′ c =
-    record {
-      rated = portion-rated p f v ts answer work r answer′ work′ c;
-      seventeen =
-          λ e.
-          portion-none p f v ts (length answer) (length work)
-          (map-refused (λ x. x .figures) (ratePortion p f v ts (length answer) (length work))
-          (sym (c .rating) ∙ e));
-    }
-
--- the upper power of a factor
-powerAt-named :
-    (fs : List Polynomial) (vs : List ℕ) (i : ℕ) → i < length fs → powerAt (named fs vs) i ≡ getD vs i 0
-unfolding named
-powerAt-named [] vs i k = absurd (omega arith)
-powerAt-named (f ∷ fs) [] zero k = refl
-powerAt-named (f ∷ fs) [] (suc i) k = powerAt-named fs [] i (omega arith)
-powerAt-named (f ∷ fs) (v ∷ vs) zero k = refl
-powerAt-named (f ∷ fs) (v ∷ vs) (suc i) k = powerAt-named fs vs i (omega arith)
-
 -- THE SET WAY
+-- a single factor, the monic multiple of one that 6, 10 and 11 let pass
+only : (gs : List Polynomial) (vs : List ℕ) {f : Polynomial} {v : ℕ} → named gs vs ≡ (f, v) ∷ [] → gs ≡ f ∷ []
+unfolding factorsOf
+only gs vs e = sym (factorsOf-named gs vs) ∙ ap factorsOf e
+
+single-of :
+    (p : ℕ) (fs : List Polynomial) (vs : List ℕ) {f : Polynomial} {v : ℕ}
+    → let l = named (map (monicMultiple (GF p)) fs) vs in
+    l ≡ (f, v) ∷ []
+    → notPrime p ≡ false
+    → holdsForSome (factorDegreeOutOfRange (GF p)) fs ≡ false
+    → holdsForSome (coefficientOutOfRange (GF p)) fs ≡ false
+    → holdsForSome (isReducible p) (factorsOf l) ≡ false
+    → OneFactor p f
+unfolding factorsOf
+single-of p fs vs {f} e six ten eleven twelve =
+    let I = inRange-isField p (prime-accepted p six) in
+    let same = only (map (monicMultiple (GF p)) fs) vs e in
+    one-factor-of p f six
+    (of-one _ f
+    (ap (holdsForSome (factorDegreeOutOfRange (GF p))) (sym same) ∙ multiples-ten I fs eleven ten))
+    (of-one _ f (ap (holdsForSome (notMonic (GF p))) (sym same) ∙ multiples-eleven I fs eleven))
+    (of-one _ f (ap (λ l. holdsForSome (isReducible p) (factorsOf l)) (sym e) ∙ twelve))
+
+-- one power is found for it, and the bound is that of this power
+module _ (p : ℕ) (f : Polynomial) (v : ℕ) (ts : List ℕ) (x : OneFactor p f) where
+  abbrev one : List (Polynomial × ℕ)
+  one = (f, v) ∷ []
+
+  one-monics : MonicFactors (GF p) one
+  unfolding factorsOf
+  one-monics =
+      factors-monics (x .isField) one (single-factor (GF p) f (x .monic) (x .positive) (x .irreducibility))
+
+  one-nonempties : Nonempties one
+  one-nonempties = monics-nonempty (GF p) one one-monics
+
+  single-answered :
+      (rs : List ℕ) (a : SetTold) (answer′ : List ℕ)
+      → T (areElements (GF p) ts)
+      → totalDegree ((f, v) ∷ []) ≤ length ts
+      → totalDegree ((f, v) ∷ []) ≤ 4096
+      → setPowers (GF p) ((f, v) ∷ []) ts ≡ some rs
+      → setBound (GF p) (named (f ∷ []) rs) ≡ some (a .bound)
+      → Returns (product (GF p) (named (f ∷ []) rs)) (a .degree) answer′
+      → (r : ℕ) × (rs ≡ r ∷ []) × SingleAnswered p f v ts r a answer′
+  unfolding named
+  single-answered [] a answer′ els enough few e k back =
+      absurd (omega (arith, setPowers-places (x .isField) one one-nonempties ts e .0))
+  single-answered (r ∷ q ∷ rs) a answer′ els enough few e k back =
+      absurd (omega (arith, setPowers-places (x .isField) one one-nonempties ts e .0))
+  single-answered (r ∷ []) a answer′ els enough few e k back =
+      let y : leastAt (GF p) one ts 0 ≡ some r =
+      setPowers-places (x .isField) one one-nonempties ts e .1 0 (omega arith) in
+      let size : v * degree f ≤ length ts = subst (λ d. d ≤ length ts) (total-one f v) enough in
+      let upper : r ≤ v = leastAt-upper (x .isField) one one-nonempties ts 0 y in
+      let min =
+      portion-minimal (x .isField) f (x .monic) v ts els size (x .positive) (x .irreducibility) y in (
+        r,
+        refl,
+        record {
+          atMost = upper;
+          least = portion-least (x .isField) f (x .monic) v ts els size y;
+          returns =
+              subst (λ g. Returns g (a .degree) answer′)
+              (product-single (x .isField) f r (monic-nonempty (GF p) f (x .monic))) back;
+          bound =
+              bound-told p f x r (a .bound) (onward (GF p) one ts)
+              (onward-continues (x .isField) one one-monics ts els enough .inField) min
+              (le-trans (mul-le-mul-right (degree f) upper) (subst (λ d. d ≤ 4096) (total-one f v) few))
+              (sym (setBound-one (GF p) f r) ∙ k);
+        },
+      )
+
 module _ (p : ℕ) (fs : List Polynomial) (vs ts answer work : List ℕ) (r : SetRating) (answer′ work′ : List ℕ)
     (c : SetCall p fs vs ts answer work r answer′ work′)
   where
@@ -372,14 +353,16 @@ module _ (p : ℕ) (fs : List Polynomial) (vs ts answer work : List ℕ) (r : Se
         (ap (holdsForSome (isReducible p)) (sym same) ∙ h .irreducible)
         (ap twoEqual (sym same) ∙ h .different))
 
-    set-rated :
-        (a : SetTold) → toldSet (r .outcome) ≡ answered a → SetAnswered p gs vs ts a (r .powers) answer′
-    unfolding rateSet setAnswer setTable figuresOf mapResult setRating setFiguresTold setPadded answerAfter
-    set-rated a e =
-        let (b′, q′, u′) = map-answered setFiguresTold (figuresOf result) (sym (c .rating) ∙ e) in
-        let (b, q, u) = map-answered (λ x. x .figures) result q′ in
-        let (h, w) = settle-answered _ table q in
-        let (rs, y, t) = some-mapOption (setRating (GF p) l) (setPowers (GF p) l ts) w in
+    set-answered :
+        (rs : List ℕ) (bound : ℕ)
+        → Passes table
+        → setPowers (GF p) l ts ≡ some rs
+        → setBound (GF p) (named (factorsOf l) rs) ≡ some bound
+        → result ≡ answered (set-rating-of (GF p) l rs bound)
+        → SetAnswered p gs vs ts (setFiguresTold (set-rating-of (GF p) l rs bound .figures)) (r .powers)
+        answer′
+    unfolding setTable figuresOf mapResult set-rating-of setFiguresTold setPadded answerAfter
+    set-answered rs bound h y z rated =
         let I = inRange-isField p (prime-accepted p (h .fieldExists)) in
         let factors = set-factors h in
         let els = terms-accepted p ts (h .termsInField) in
@@ -389,15 +372,12 @@ module _ (p : ℕ) (fs : List Polynomial) (vs ts answer work : List ℕ) (r : Se
         let nonempties = monics-nonempty (GF p) l monics in
         let one = onward-continues I l monics ts els enough in
         let g = product (GF p) (named (factorsOf l) rs) in
-        let rated : result ≡ answered (setRating (GF p) l rs) = q ∙ ap answered (sym t) in
         let returns =
         written-returns (product (GF p) (named gs rs)) g answer answer′
         (monic-nonempty (GF p) g (meaning .minimal .monic))
         (ap (λ (hs : List Polynomial). product (GF p) (named hs rs)) (factorsOf-named gs vs))
         (c .lent .answerBytes ∙ ap (λ x. answerAfter x answer) rated) in
-        subst (λ a. SetAnswered p gs vs ts a (r .powers) answer′)
-        (ap setFiguresTold (ap (λ b. b .figures) t ∙ u) ∙ u′)
-        (record {
+        record {
           powers = rs;
           count-told = refl;
           places = c .powers ∙ ap (λ x. setPadded (figuresOf x)) rated;
@@ -423,7 +403,47 @@ module _ (p : ℕ) (fs : List Polynomial) (vs ts answer work : List ℕ) (r : Se
               ∙ sym (returns .coefficients))
               (meaning .minimal);
           returns = returns;
-        })
+          single =
+              λ f v one.
+              single-answered p f v ts
+              (single-of p fs vs one (h .fieldExists) (h .degreesInRange) (h .coefficientsInRange)
+              (h .irreducible))
+              rs (setFiguresTold (set-rating-of (GF p) l rs bound .figures)) answer′ els
+              (subst (λ (m : List (Polynomial × ℕ)). totalDegree m ≤ length ts) one enough)
+              (subst (λ (m : List (Polynomial × ℕ)). totalDegree m ≤ 4096) one
+              (total-accepted l (h .uppersInRange)))
+              (ap (λ (m : List (Polynomial × ℕ)). setPowers (GF p) m ts) (sym one) ∙ y)
+              (ap (λ (hs : List Polynomial). setBound (GF p) (named hs rs))
+              (sym (factorsOf-named gs vs ∙ only gs vs one))
+              ∙ z)
+              (subst (λ (hs : List Polynomial). Returns (product (GF p) (named hs rs)) (degree g) answer′)
+              (only gs vs one) returns);
+          several =
+              λ n.
+              Option·some-injective bound 0
+              (sym z
+              ∙ setBound-several (GF p) (named (factorsOf l) rs)
+              (λ k. omega (arith, k, length-named (factorsOf l) rs, length-factorsOf l, length-named gs vs)));
+        }
+
+    set-figures :
+        (b : Rated SetFigures)
+        → result ≡ answered b
+        → SetAnswered p gs vs ts (setFiguresTold (b .figures)) (r .powers) answer′
+    unfolding rateSet setAnswer
+    set-figures b q =
+        let (h, w) = settle-answered _ table q in
+        let (rs, bound, y, z, t) = rated-set (GF p) l (setPowers (GF p) l ts) w in
+        subst (λ b. SetAnswered p gs vs ts (setFiguresTold (b .figures)) (r .powers) answer′) t
+        (set-answered rs bound h y z (q ∙ ap answered (sym t)))
+
+    set-rated :
+        (a : SetTold) → toldSet (r .outcome) ≡ answered a → SetAnswered p gs vs ts a (r .powers) answer′
+    unfolding figuresOf
+    set-rated a e =
+        let (b′, q′, u′) = map-answered setFiguresTold (figuresOf result) (sym (c .rating) ∙ e) in
+        let (b, q, u) = map-answered (λ x. x .figures) result q′ in
+        subst (λ a. SetAnswered p gs vs ts a (r .powers) answer′) (ap setFiguresTold u ∙ u′) (set-figures b q)
 
 pub set-none :
     (p : ℕ) (fs : List Polynomial) (vs ts : List ℕ) (answer work : ℕ)
@@ -438,18 +458,42 @@ set-none p fs vs ts answer work e =
     (named (map (monicMultiple (GF p)) fs) vs) ts answer work) (omega arith) e in
     not-continued p (product (GF p) (named (map (monicMultiple (GF p)) fs) vs)) ts z
 
+single-none :
+    (p : ℕ) (fs : List Polynomial) (vs ts : List ℕ) (answer work : ℕ) (f : Polynomial) (v : ℕ)
+    → named (map (monicMultiple (GF p)) fs) vs ≡ (f, v) ∷ []
+    → rateSet p fs vs ts answer work ≡ refused 17
+    → NoneBegins p (power (GF p) f v) ts
+unfolding rateSet setAnswer setTable
+single-none p fs vs ts answer work f v one e =
+    let (h, _) =
+    settle-refused _
+    (setTable p (holdsForSome (factorDegreeOutOfRange (GF p)) fs)
+    (holdsForSome (coefficientOutOfRange (GF p)) fs)
+    (named (map (monicMultiple (GF p)) fs) vs) ts answer work) (omega arith) e in
+    let x =
+    single-of p fs vs one (h .fieldExists) (h .degreesInRange) (h .coefficientsInRange) (h .irreducible) in
+    subst (λ g. NoneBegins p g ts)
+    (ap (product (GF p)) one ∙ product-single (x .isField) f v (monic-nonempty (GF p) f (x .monic)))
+    (set-none p fs vs ts answer work e)
+
 pub set-promise : SetPromise
 unfolding figuresOf
 set-promise p fs vs ts answer work r answer′ work′ c =
     record {
       rated = set-rated p fs vs ts answer work r answer′ work′ c;
-      seventeen =
-          λ e.
-          set-none p fs vs ts (length answer) (length work)
-          (map-refused (λ x. x .figures) (rateSet p fs vs ts (length answer) (length work))
-          (map-refused setFiguresTold (figuresOf (rateSet p fs vs ts (length answer) (length work)))
-          (sym (c .rating) ∙ e)));
+      seventeen = λ e. set-none p fs vs ts (length answer) (length work) (refused-by-17 e);
+      single-seventeen =
+          λ f v one e.
+          single-none p fs vs ts (length answer) (length work) f v one (refused-by-17 e);
     }
+  where
+    refused-by-17 :
+        toldSet (r .outcome) ≡ refused 17
+        → rateSet p fs vs ts (length answer) (length work) ≡ refused 17
+    refused-by-17 e =
+        map-refused (λ x. x .figures) (rateSet p fs vs ts (length answer) (length work))
+        (map-refused setFiguresTold (figuresOf (rateSet p fs vs ts (length answer) (length work)))
+        (sym (c .rating) ∙ e))
 
 -- THE FREE WAY
 pub free-promise : FreePromise

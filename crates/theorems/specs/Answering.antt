@@ -28,7 +28,7 @@ use Rattle.meaning.specs.Search.{holdsForSome}
 use Rattle.meaning.specs.Polynomial.{Polynomial}
 use Rattle.meaning.specs.Result.{Result, refused, answered}
 use Rattle.meaning.specs.Period.{ratePeriod}
-use Rattle.meaning.specs.Portion.{ratePortion, rateSet}
+use Rattle.meaning.specs.Portion.{rateSet}
 use Rattle.meaning.specs.Free.{rateFree}
 use Rattle.meaning.specs.Catalogue.{findEntry}
 use Rattle.meaning.specs.Continuation.{continueSequence}
@@ -38,16 +38,13 @@ use Rattle.meaning.specs.Route.{readRecord}
 use Rattle.meaning.specs.File.{rateFile}
 use Rattle.meaning.specs.Answers.{toldIrreducible, toldFilling, toldPower, toldSet, toldFree, toldFile}
 use Rattle.meaning.specs.Answers.{toldRecord, FileTold, withPowers, withOne, withSome}
-use Rattle.meaning.specs.Calls.{PrimeCall, IrreducibleCall, PeriodCall, PortionCall, SetCall, FreeCall}
-use Rattle.meaning.specs.Calls.{ContinueCall, FileCall, RecordCall, ProgramCall}
+use Rattle.meaning.specs.Calls.{PrimeCall, IrreducibleCall, PeriodCall, SetCall, FreeCall, ContinueCall}
+use Rattle.meaning.specs.Calls.{FileCall, RecordCall, ProgramCall}
 
 -- THE NUMBERS OF EACH CALL
 
 abbrev pub periodNumbers : List ℕ
 periodNumbers = 6 ∷ 7 ∷ 8 ∷ 10 ∷ 11 ∷ 12 ∷ 16 ∷ 17 ∷ []
-
-abbrev pub portionNumbers : List ℕ
-portionNumbers = 6 ∷ 7 ∷ 8 ∷ 10 ∷ 11 ∷ 12 ∷ 14 ∷ 15 ∷ 16 ∷ 17 ∷ []
 
 abbrev pub setNumbers : List ℕ
 setNumbers = 6 ∷ 7 ∷ 8 ∷ 9 ∷ 10 ∷ 11 ∷ 12 ∷ 13 ∷ 14 ∷ 15 ∷ 16 ∷ 17 ∷ []
@@ -121,11 +118,6 @@ abbrev pub PeriodAnswers : Type 0
 PeriodAnswers =
     (p : ℕ) (f : Polynomial) (ts answer work : List ℕ)
     → Answering periodNumbers toldPower (λ a. a .degree) answer work (PeriodCall p f ts answer work)
-
-abbrev pub PortionAnswers : Type 0
-PortionAnswers =
-    (p : ℕ) (f : Polynomial) (v : ℕ) (ts answer work : List ℕ)
-    → Answering portionNumbers toldPower (λ a. a .degree) answer work (PortionCall p f v ts answer work)
 
 abbrev pub SetAnswers : Type 0
 SetAnswers =
@@ -219,8 +211,6 @@ ProgramAnswers = (input : List ℕ) → Printing input
 pub record NeverZero : Type 0 where
   pub period : (p : ℕ) (f : Polynomial) (ts : List ℕ) (answer work : ℕ)
       → ratePeriod p f ts answer work ≢ refused 0
-  pub portion : (p : ℕ) (f : Polynomial) (v : ℕ) (ts : List ℕ) (answer work : ℕ)
-      → ratePortion p f v ts answer work ≢ refused 0
   pub set : (p : ℕ) (fs : List Polynomial) (vs ts : List ℕ) (answer work : ℕ)
       → rateSet p fs vs ts answer work ≢ refused 0
   pub free : (p : ℕ) (ts : List ℕ) (answer work : ℕ)

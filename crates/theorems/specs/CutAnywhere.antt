@@ -24,7 +24,7 @@ use Rattle.meaning.specs.Power.{PowerFigures, isX}
 use Rattle.meaning.specs.Portion.{acceptedFactors}
 use Rattle.meaning.specs.Free.{FreeFigures}
 use Rattle.meaning.specs.Answers.{SetTold, toldPower, toldSet, toldFree}
-use Rattle.meaning.specs.Calls.{PeriodCall, PortionCall, SetCall, FreeCall}
+use Rattle.meaning.specs.Calls.{PeriodCall, SetCall, FreeCall}
 use Rattle.theorems.specs.Ratings.{GF, Returns}
 
 -- Whatever meets the contract of the call on these terms, with accepted lent bytes, rates them and returns g.
@@ -35,14 +35,6 @@ SetReturns p fs vs ts g =
     → (r : SetRating) (answer′ work′ : List ℕ)
     → SetCall p fs vs ts answer work r answer′ work′
     → (a : SetTold) × (toldSet (r .outcome) ≡ answered a) × Returns g (a .degree) answer′
-
-abbrev pub PortionReturns : ℕ → Polynomial → ℕ → List ℕ → Polynomial → Type 0
-PortionReturns p f v ts g =
-    (answer work : List ℕ)
-    → T (acceptedLent (length answer) (length work))
-    → (r : PowerRating) (answer′ work′ : List ℕ)
-    → PortionCall p f v ts answer work r answer′ work′
-    → (a : PowerFigures) × (toldPower r ≡ answered a) × Returns g (a .degree) answer′
 
 abbrev pub PeriodReturns : ℕ → Polynomial → List ℕ → Polynomial → Type 0
 PeriodReturns p f ts g =
@@ -60,20 +52,14 @@ FreeReturns p ts g =
     → FreeCall p ts answer work r answer′ work′
     → (a : FreeFigures) × (toldFree r ≡ answered a) × Returns g (a .degree) answer′
 
--- One polynomial g, the minimal polynomial of s from its first term: the set way returns it on every stretch
--- of m terms from place k, m from the total degree to 4,096; with one factor the portion way does on the same
--- stretches, and the period way on every period of n terms, n up to 4,096; the free way on every stretch of
--- at least twice its degree, of 1 to 4,096 terms.
+-- One polynomial g, the minimal polynomial of s from its first term: the set way, which is the way for
+-- portions with one factor or more, returns it on every stretch of m terms from place k, m from the total
+-- degree to 4,096; with one factor the period way on every period of n terms, n up to 4,096; the free way on
+-- every stretch of at least twice its degree, of 1 to 4,096 terms.
 pub record CutAnywhere (p : ℕ) (fs : List Polynomial) (vs : List ℕ) (s : Sequence) : Type 0 where
   pub g : Polynomial
   pub minimal : MinimalPolynomial (GF p) g s
   pub set-way : (k m : ℕ) → totalDegree (named fs vs) ≤ m → m ≤ 4096 → SetReturns p fs vs (cut s k m) g
-  pub portion-way : (f : Polynomial) (v : ℕ)
-      → named fs vs ≡ (f, v) ∷ []
-      → (k m : ℕ)
-      → totalDegree (named fs vs) ≤ m
-      → m ≤ 4096
-      → PortionReturns p f v (cut s k m) g
   pub period-way : (f : Polynomial)
       → fs ≡ f ∷ []
       → (k n : ℕ)

@@ -66,7 +66,7 @@ pub record PeriodFile (rs : List RouteRecord) (a : FileTold) (eight answer′ : 
   pub rated : PeriodAnswered (byteOf 2 rs) factor (termsOf rs) figures answer′
 
 -- Mode 2: the promise of the set way, with the factors and upper powers of the file in its order. The
--- denominator is the number of terms, and so it is in mode 3.
+-- denominator is the number of terms, and so it is in mode 3. The bound is not told.
 pub record SetFile (rs : List RouteRecord) (a : FileTold) (eight answer′ : List ℕ) : Type 0 where
   pub figures : SetTold
   pub tells : a ≡ withPowers (figures .degree) (length (termsOf rs)) (figures .count)

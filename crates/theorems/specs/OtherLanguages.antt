@@ -17,7 +17,7 @@ use Rattle.meaning.specs.Polynomial.{Polynomial, NotAProduct, monicMultiple}
 use Rattle.meaning.specs.Result.{Result, refused, answered}
 use Rattle.meaning.specs.Power.{PowerFigures}
 use Rattle.meaning.specs.Period.{ratePeriod}
-use Rattle.meaning.specs.Portion.{ratePortion, rateSet}
+use Rattle.meaning.specs.Portion.{rateSet}
 use Rattle.meaning.specs.Free.{FreeFigures}
 use Rattle.meaning.specs.Continuation.{continueSequence}
 use Rattle.meaning.specs.Irreducibility.{askIrreducible}
@@ -25,24 +25,24 @@ use Rattle.meaning.specs.Answers.{SetTold}
 use Rattle.meaning.specs.FlatBytes.{bytesOfAll}
 use Rattle.meaning.specs.Exports.{statusOf, numberAfter, PowerTold, PowerExported, SetExported, wordOf}
 use Rattle.meaning.specs.Exports.{FreeExported, Filled, yesAfter, Question}
-use Rattle.theorems.specs.Answering.{periodNumbers, portionNumbers, setNumbers, freeNumbers}
+use Rattle.theorems.specs.Answering.{periodNumbers, setNumbers, freeNumbers}
 use Rattle.theorems.specs.Answering.{continueNumbers, irreducibleNumbers, Answered, Tells}
 use Rattle.theorems.specs.Answering.{RatingAnswers}
-use Rattle.theorems.specs.Ratings.{GF, PeriodRight, PortionRight, SetRight, FreeAnswered, ContinueRight}
+use Rattle.theorems.specs.Ratings.{GF, PeriodRight, SetRight, FreeAnswered, ContinueRight}
 
 pub record StatusTold {A : Type 0} (told : Result A) (status : ℕ) : Type 0 where
   pub is : status ≡ statusOf told
   pub zero : status ≡ 0 → Answered told
 
--- ONE FACTOR: power, degree and bound are lent numbers
+-- THE PERIOD WAY: power, degree and bound are lent numbers
 
-pub record PowerExportRight (numbers : List ℕ) (Right : Result PowerFigures → Type 0) (answer work : List ℕ)
+pub record PeriodExportRight (p : ℕ) (f : Polynomial) (ts answer work : List ℕ)
     (power degree bound status : ℕ) (answer′ work′ : List ℕ) (power′ degree′ bound′ : ℕ) : Type 0 where
   pub told : Result PowerFigures
   pub status-told : StatusTold told status
   pub figures-told : PowerTold told power degree bound status power′ degree′ bound′
-  pub answers : RatingAnswers numbers (λ a. a .degree) told answer work answer′ work′
-  pub right : Right told
+  pub answers : RatingAnswers periodNumbers (λ a. a .degree) told answer work answer′ work′
+  pub right : PeriodRight p (monicMultiple (GF p) f) ts told answer′
 
 abbrev pub PeriodExport : Type 0
 PeriodExport =
@@ -50,26 +50,18 @@ PeriodExport =
     (answer′ work′ : List ℕ) (power′ degree′ bound′ : ℕ)
     → PowerExported (ratePeriod p f ts (length answer) (length work)) answer work power degree bound status
     answer′ work′ power′ degree′ bound′
-    → PowerExportRight periodNumbers (λ told. PeriodRight p (monicMultiple (GF p) f) ts told answer′) answer
-    work power degree bound status answer′ work′ power′ degree′ bound′
+    → PeriodExportRight p f ts answer work power degree bound status answer′ work′ power′ degree′ bound′
 
-abbrev pub PortionExport : Type 0
-PortionExport =
-    (p : ℕ) (f : Polynomial) (v : ℕ) (ts answer work : List ℕ) (power degree bound status : ℕ)
-    (answer′ work′ : List ℕ) (power′ degree′ bound′ : ℕ)
-    → PowerExported (ratePortion p f v ts (length answer) (length work)) answer work power degree bound status
-    answer′ work′ power′ degree′ bound′
-    → PowerExportRight portionNumbers (λ told. PortionRight p (monicMultiple (GF p) f) v ts told answer′)
-    answer work power degree bound status answer′ work′ power′ degree′ bound′
-
--- THE SET WAY: the powers are lent bytes. Eight numbers of eight bytes each, as many bytes as were lent.
+-- THE SET WAY: degree and bound are lent numbers, and the powers lent bytes. Eight numbers of eight bytes
+-- each, as many bytes as were lent.
 
 pub record SetExportRight (p : ℕ) (fs : List Polynomial) (vs ts answer work powers : List ℕ)
-    (degree status : ℕ) (answer′ work′ powers′ : List ℕ) (degree′ : ℕ) : Type 0 where
+    (degree bound status : ℕ) (answer′ work′ powers′ : List ℕ) (degree′ bound′ : ℕ) : Type 0 where
   pub told : Result SetTold
   pub eight : List ℕ
   pub status-told : StatusTold told status
   pub degree-told : degree′ ≡ numberAfter (λ a. a .degree) told degree
+  pub bound-told : bound′ ≡ numberAfter (λ a. a .bound) told bound
   pub powers-told : Answered told → powers′ ≡ take (length powers) (bytesOfAll eight) ++ drop 64 powers
   pub powers-kept : (n : ℕ) → told ≡ refused n → powers′ ≡ powers
   pub answers : RatingAnswers setNumbers (λ a. a .degree) told answer work answer′ work′
@@ -77,11 +69,11 @@ pub record SetExportRight (p : ℕ) (fs : List Polynomial) (vs ts answer work po
 
 abbrev pub SetExport : Type 0
 SetExport =
-    (p : ℕ) (fs : List Polynomial) (vs ts answer work powers : List ℕ) (degree status : ℕ)
-    (answer′ work′ powers′ : List ℕ) (degree′ : ℕ)
-    → SetExported (rateSet p fs vs ts (length answer) (length work)) answer work powers degree status answer′
-    work′ powers′ degree′
-    → SetExportRight p fs vs ts answer work powers degree status answer′ work′ powers′ degree′
+    (p : ℕ) (fs : List Polynomial) (vs ts answer work powers : List ℕ) (degree bound status : ℕ)
+    (answer′ work′ powers′ : List ℕ) (degree′ bound′ : ℕ)
+    → SetExported (rateSet p fs vs ts (length answer) (length work)) answer work powers degree bound status
+    answer′ work′ powers′ degree′ bound′
+    → SetExportRight p fs vs ts answer work powers degree bound status answer′ work′ powers′ degree′ bound′
 
 -- THE FREE WAY: the word is a lent number, 1 for `one` and 0 for `some`
 

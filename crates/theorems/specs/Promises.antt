@@ -26,16 +26,16 @@
 -- `named fs vs` each with its own, and `product` of that the product of the factors to their upper powers; ts
 -- the terms given; s an endless sequence; g a polynomial; r what a call returns, and `told…` of it what it
 -- tells.
-use Rattle.theorems.specs.Answering.{PeriodAnswers, PortionAnswers, SetAnswers, FreeAnswers}
+use Rattle.theorems.specs.Answering.{PeriodAnswers, SetAnswers, FreeAnswers}
 use Rattle.theorems.specs.Answering.{ContinueAnswers, IrreducibleAnswers, PrimeAnswers, FileAnswers}
 use Rattle.theorems.specs.Answering.{RecordAnswers, ProgramAnswers, NeverZero}
-use Rattle.theorems.specs.Ratings.{PeriodPromise, PortionPromise, SetPromise, FreePromise}
+use Rattle.theorems.specs.Ratings.{PeriodPromise, SetPromise, FreePromise}
 use Rattle.theorems.specs.Ratings.{ContinuePromise, IrreduciblePromise, PrimePromise, RepeatPromise}
 use Rattle.theorems.specs.Ratings.{MultiplePromise, MultiplesPromise, PrimeWords, IrreducibleWords}
 use Rattle.theorems.specs.CutAnywhere.{CutAnywherePromise}
 use Rattle.theorems.specs.Files.{FilePromise, RecordPromise, ProgramAsCall, ProgramPromise}
 use Rattle.theorems.specs.Density.{DensityPromise}
-use Rattle.theorems.specs.OtherLanguages.{PeriodExport, PortionExport, SetExport, FreeExport}
+use Rattle.theorems.specs.OtherLanguages.{PeriodExport, SetExport, FreeExport}
 use Rattle.theorems.specs.OtherLanguages.{ContinueExport, IrreducibleExport}
 use Rattle.theorems.specs.Meters.{StartAnswers, MeterPromise, ProfileExport}
 use Rattle.theorems.specs.Catalogue.{SearchAnswers, EntryAnswers, CataloguePromise, EntryPromise}
@@ -44,7 +44,6 @@ use Rattle.theorems.specs.Catalogue.{SearchExport}
 pub record Promises : Type 0 where
   -- demand 1
   pub period-answers : PeriodAnswers
-  pub portion-answers : PortionAnswers
   pub set-answers : SetAnswers
   pub free-answers : FreeAnswers
   pub continue-answers : ContinueAnswers
@@ -59,7 +58,6 @@ pub record Promises : Type 0 where
   pub never-zero : NeverZero
   -- demand 2
   pub period : PeriodPromise
-  pub portion : PortionPromise
   pub set : SetPromise
   pub free : FreePromise
   pub continuation : ContinuePromise
@@ -85,7 +83,6 @@ pub record Promises : Type 0 where
   pub density : DensityPromise
   -- other languages
   pub period-export : PeriodExport
-  pub portion-export : PortionExport
   pub set-export : SetExport
   pub free-export : FreeExport
   pub continue-export : ContinueExport

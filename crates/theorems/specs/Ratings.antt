@@ -4,7 +4,8 @@
 -- and MultiplePromise says that the two annihilate the same.
 --
 --   Returns g told answer′ == the call returns g: it tells the degree of g, and the answer bytes begin with g
---   …Answered        == what an answer of the way means: its figures, and the list in the answer bytes
+--   …Answered        == what an answer of the way means: its figures, and the list in the answer bytes; of a
+--                       set with a single factor SingleAnswered says more
 --   …Right           == the same of what is told, and what 17 means
 --   …Promise         == so it is of whatever meets the contract of the call, on every input
 --   OneContinuation  == the first terms have exactly one continuation that the product annihilates
@@ -40,8 +41,7 @@ use Rattle.meaning.specs.Period.{NoPower}
 use Rattle.meaning.specs.Portion.{onward, SetMeaning, PortionMeaning, Agrees}
 use Rattle.meaning.specs.Free.{FreeFigures, IsLeastDegree, Fits, Precedes}
 use Rattle.meaning.specs.Answers.{SetTold, toldPower, toldSet, toldFree, toldFilling, toldIrreducible, padded}
-use Rattle.meaning.specs.Calls.{PrimeCall, IrreducibleCall, PeriodCall, PortionCall, SetCall, FreeCall}
-use Rattle.meaning.specs.Calls.{ContinueCall}
+use Rattle.meaning.specs.Calls.{PrimeCall, IrreducibleCall, PeriodCall, SetCall, FreeCall, ContinueCall}
 
 abbrev pub GF : ℕ → Field
 GF p = prime p
@@ -104,34 +104,20 @@ pub record OneContinuation (p : ℕ) (l : List (Polynomial × ℕ)) (ts : List �
       → (k : ℕ)
       → s k ≡ onward (GF p) l ts k
 
--- The portion way: the first terms have exactly one continuation that f^v annihilates, all the terms agree
--- with it, the power is the least that annihilates it and at most v, and the polynomial returned is its
--- minimal polynomial. The factor x is allowed.
-pub record PortionAnswered (p : ℕ) (f : Polynomial) (v : ℕ) (ts : List ℕ) (a : PowerFigures)
+-- A single factor f with the upper power v: its power r is the least that annihilates the continuation by
+-- f^v, and at most v, the polynomial returned is f^r, and the bound is the repeat bound.
+pub record SingleAnswered (p : ℕ) (f : Polynomial) (v : ℕ) (ts : List ℕ) (r : ℕ) (a : SetTold)
     (answer′ : List ℕ) : Type 0 where
-  pub small : a .degree ≤ 4096
-  pub continuation : OneContinuation p ((f, v) ∷ []) ts
-  pub agrees : Agrees (GF p) ((f, v) ∷ []) ts
-  pub atMost : a .power ≤ v
-  pub least : PortionMeaning (GF p) f v ts (a .power)
-  pub minimal : MinimalPolynomial (GF p) (listIn answer′ (a .degree)) (onward (GF p) ((f, v) ∷ []) ts)
-  pub returns : Returns (power (GF p) f (a .power)) (a .degree) answer′
-  pub bound : BoundTold p f (a .power) (a .bound) (onward (GF p) ((f, v) ∷ []) ts)
+  pub atMost : r ≤ v
+  pub least : PortionMeaning (GF p) f v ts r
+  pub returns : Returns (power (GF p) f r) (a .degree) answer′
+  pub bound : BoundTold p f r (a .bound) (onward (GF p) ((f, v) ∷ []) ts)
 
--- 17 means that the terms have no continuation that f^v annihilates.
-pub record PortionRight (p : ℕ) (f : Polynomial) (v : ℕ) (ts : List ℕ) (told : Result PowerFigures)
-    (answer′ : List ℕ) : Type 0 where
-  pub rated : (a : PowerFigures) → told ≡ answered a → PortionAnswered p f v ts a answer′
-  pub seventeen : told ≡ refused 17 → NoneBegins p (power (GF p) f v) ts
-
-abbrev pub PortionPromise : Type 0
-PortionPromise =
-    (p : ℕ) (f : Polynomial) (v : ℕ) (ts answer work : List ℕ) (r : PowerRating) (answer′ work′ : List ℕ)
-    → PortionCall p f v ts answer work r answer′ work′
-    → PortionRight p (monicMultiple (GF p) f) v ts (toldPower r) answer′
-
--- The set way: the same with several factors. Their powers stand in the eight places, each is at most its
--- upper power, and the polynomial returned is the product of the factors to these powers.
+-- The set way, for portions with one to eight factors, x among them or not: the first terms have exactly one
+-- continuation that the product of the factors to their upper powers annihilates, and all the terms agree
+-- with it. The powers stand in the eight places, each is at most its upper power, and the polynomial returned
+-- is the product of the factors to these powers and the minimal polynomial of that continuation. With a
+-- single factor SingleAnswered holds too; with several the bound is 0.
 pub record SetAnswered (p : ℕ) (fs : List Polynomial) (vs ts : List ℕ) (a : SetTold) (eight answer′ : List ℕ)
     : Type 0 where
   pub powers : List ℕ
@@ -144,11 +130,20 @@ pub record SetAnswered (p : ℕ) (fs : List Polynomial) (vs ts : List ℕ) (a : 
   pub meaning : SetMeaning (GF p) (named fs vs) ts powers
   pub minimal : MinimalPolynomial (GF p) (listIn answer′ (a .degree)) (onward (GF p) (named fs vs) ts)
   pub returns : Returns (product (GF p) (named fs powers)) (a .degree) answer′
+  pub single : (f : Polynomial) (v : ℕ)
+      → named fs vs ≡ (f, v) ∷ []
+      → (r : ℕ) × (powers ≡ r ∷ []) × SingleAnswered p f v ts r a answer′
+  pub several : 1 < length fs → a .bound ≡ 0
 
+-- 17 means that the terms have no continuation that the product annihilates, with a single factor f^v.
 pub record SetRight (p : ℕ) (fs : List Polynomial) (vs ts : List ℕ) (told : Result SetTold)
     (eight answer′ : List ℕ) : Type 0 where
   pub rated : (a : SetTold) → told ≡ answered a → SetAnswered p fs vs ts a eight answer′
   pub seventeen : told ≡ refused 17 → NoneBegins p (product (GF p) (named fs vs)) ts
+  pub single-seventeen : (f : Polynomial) (v : ℕ)
+      → named fs vs ≡ (f, v) ∷ []
+      → told ≡ refused 17
+      → NoneBegins p (power (GF p) f v) ts
 
 abbrev pub SetPromise : Type 0
 SetPromise =

@@ -1,4 +1,4 @@
--- What a rating with several factors tells, as numbers.
+-- What a rating with one to eight factors tells, as numbers.
 -- Assumes nothing.
 use Prim.Native.Nat.{ℕ}
 use mathlib.Core.Path.{_≡_, refl, sym, ap, _∙_}
@@ -21,11 +21,11 @@ refused-answered : {A : Type 0} {n : ℕ} {a : A} → answered a ≡ refused n �
 refused-answered e = let z : _≡_ {A = ℕ} 0 1 = cc in omega arith
 
 -- The figures of a result by what they tell
-degree-map : (r : Result SetFigures) (n : ℕ)
-    → numberAfter (λ a. a .degree) (mapResult setFiguresTold r) n ≡ numberAfter (λ a. a .degree) r n
-unfolding numberAfter mapResult setFiguresTold
-degree-map (refused k) n = refl
-degree-map (answered a) n = refl
+number-map : (f : SetTold → ℕ) (r : Result SetFigures) (n : ℕ)
+    → numberAfter f (mapResult setFiguresTold r) n ≡ numberAfter (λ a. f (setFiguresTold a)) r n
+unfolding numberAfter mapResult
+number-map f (refused k) n = refl
+number-map f (answered a) n = refl
 
 powers-told : (r : Result SetFigures) (l m : List ℕ) {t : SetTold}
     → answered t ≡ mapResult setFiguresTold r
@@ -50,39 +50,43 @@ module _ {p : ℕ} {fs : List Polynomial} {us ts answer work : List ℕ} {a : Se
   told : {b : SetOutcome} → a .outcome ≡ b → toldSet b ≡ mapResult setFiguresTold result
   told q = ap toldSet (sym q) ∙ call .rating
 
-  exported : {b : SetOutcome} {k degree d : ℕ} {powers powers′ : List ℕ}
+  exported : {b : SetOutcome} {k degree bound degree′ bound′ : ℕ} {powers powers′ : List ℕ}
       → a .outcome ≡ b
       → k ≡ statusOf (toldSet b)
-      → d ≡ numberAfter (λ t. t .degree) (toldSet b) degree
+      → degree′ ≡ numberAfter (λ t. t .degree) (toldSet b) degree
+      → bound′ ≡ numberAfter (λ t. t .bound) (toldSet b) bound
       → PowersAfter result powers powers′
-      → SetExported (rateSet p fs us ts (length answer) (length work)) answer work powers degree k
-      answer′ work′ powers′ d
-  unfolding figuresOf
-  exported {degree = degree} q i j l =
+      → SetExported (rateSet p fs us ts (length answer) (length work)) answer work powers degree bound k
+      answer′ work′ powers′ degree′ bound′
+  unfolding figuresOf setFiguresTold
+  exported {degree = degree} {bound} q i j l s =
       record {
         told = i ∙ ap statusOf (told q) ∙ status-map setFiguresTold result ∙ status-map _ _;
-        powersLeft = l;
+        powersLeft = s;
         degreeAfter =
             j ∙ ap (λ (r : Result SetTold). numberAfter (λ t. t .degree) r degree) (told q)
-            ∙ degree-map result degree;
+            ∙ number-map (λ t. t .degree) result degree;
+        boundAfter =
+            l ∙ ap (λ (r : Result SetTold). numberAfter (λ t. t .bound) r bound) (told q)
+            ∙ number-map (λ t. t .bound) result bound;
         lent = call .lent;
       }
 
-  pub set-told : (powers powers′ : List ℕ) {degree d n : ℕ}
-      → a .outcome ≡ SetOutcome.Rated d n
+  pub set-told : (powers powers′ : List ℕ) {degree bound d b n : ℕ}
+      → a .outcome ≡ SetOutcome.Rated d b n
       → powers′ ≡ take (length powers) (bytesOfAll (a .powers)) ++ drop 64 powers
-      → SetExported (rateSet p fs us ts (length answer) (length work)) answer work powers degree 0
-      answer′ work′ powers′ d
+      → SetExported (rateSet p fs us ts (length answer) (length work)) answer work powers degree bound 0
+      answer′ work′ powers′ d b
   unfolding toldSet statusOf numberAfter
   set-told powers powers′ q e =
-      exported q refl refl
+      exported q refl refl refl
       (powers-told result powers powers′ (told q)
       (e ∙ ap (λ ns. take (length powers) (bytesOfAll ns) ++ drop 64 powers) (call .powers)))
 
-  pub set-untold : {powers : List ℕ} {degree : ℕ} {x : Refusal} {k : ℕ}
+  pub set-untold : {powers : List ℕ} {degree bound : ℕ} {x : Refusal} {k : ℕ}
       → a .outcome ≡ SetOutcome.Refused x
       → k ≡ numberOf x
-      → SetExported (rateSet p fs us ts (length answer) (length work)) answer work powers degree k
-      answer′ work′ powers degree
+      → SetExported (rateSet p fs us ts (length answer) (length work)) answer work powers degree bound k
+      answer′ work′ powers degree bound
   unfolding toldSet statusOf numberAfter
-  set-untold {powers} q i = exported q i refl (powers-untold result powers (told q))
+  set-untold {powers} q i = exported q i refl refl (powers-untold result powers (told q))

@@ -2,7 +2,7 @@
 --
 --   PartFrom b ns i from j == part i of the bytes b, cut by the lengths ns, is part i − j of the bytes from
 --                     the place `from` on, cut by the lengths from j on
---   split-length     == there are as many parts as lengths
+--   split-length, part-beyond == there are as many parts as lengths, and beyond them the empty one
 --   rated-parts      == nine slices that hold the parts, cut to the number of parts, are the first nine parts
 -- Assumes nothing.
 use Prim.Native.Nat.{ℕ, zero, suc, _+_, _-_, _≤_, _<_, min}
@@ -24,6 +24,9 @@ pub split-length : (b ns : List ℕ) → length (split b ns) ≡ length ns
 unfolding split
 split-length b [] = refl
 split-length b (n ∷ ns) = ap suc (split-length (drop n b) ns)
+
+pub part-beyond : (b ns : List ℕ) (i : ℕ) → length ns ≤ i → take (0 - 0) (drop 0 b) ≡ getD (split b ns) i []
+part-beyond b ns i h = sym (List·getD-eq-default (split b ns) [] (omega (arith, split-length b ns)))
 
 -- The end of a part
 module _ (b : List ℕ) {from n end : ℕ} (e : PartEnd (length b) from n end) where

@@ -91,7 +91,7 @@ module _ (sender : ℕ) where
     unfolding toldSet mapResult toldFile
     set-refused e = record { box = refl; rating = rw e; powers = refl }
 
-    pub set-told : {s : SetRating} {degree count : ℕ} → s .outcome ≡ SetOutcome.Rated degree count
+    pub set-told : {s : SetRating} {degree bound count : ℕ} → s .outcome ≡ SetOutcome.Rated degree bound count
         → TellsSet sender m s (places (s .powers) (FileOutcome.Powers degree m count) sender)
     unfolding toldSet mapResult toldFile
     set-told e = record { box = refl; rating = rw e; powers = refl }

@@ -1,7 +1,7 @@
 -- What the contracts of the ratings of a file cite.
 --
---   powerFigures m a, freeFigures m a == the figures of a file with the denominator m, from those of the way
---                         with one factor and of the free way
+--   powerFigures m a, freeFigures m a == the figures of a file with the denominator m, from those of the
+--                         period way and of the free way
 --   Tells sender x r   == the rating r names the sender, and tells the figures or the refusal x
 --   TellsPeriod sender ts q r == r names the sender, and tells with the shortest period of ts what the rating
 --                         q of the period way tells

@@ -5,7 +5,7 @@ use borrow.Author.Needs.{needs}
 use Rattle.arith.proofs.Represented.{field-isField}
 use Rattle.meaning.proofs.Slices.{lists-length}
 use Rattle.rate_set.proofs.SetWay.{set-refused, set-lent, set-input, set-seventeen}
-use Rattle.rate_set.proofs.SetWay.{set-powers-input, set-rated}
+use Rattle.rate_set.proofs.SetWay.{set-powers-input, set-degrees, set-rated}
 use Rattle.rate_set.proofs.rate_multiples.Statement.{statement}
 use Rattle.rate_set.proofs.rate_multiples.Tie as tie
 
@@ -56,6 +56,25 @@ write-product-requires c κs =
       ),
     )
 
+slice-aggregate-single-bound : tie.Need-slice-aggregate-single-bound
+slice-aggregate-single-bound c = search needs
+
+single-bound-requires : tie.Need-single-bound-requires
+single-bound-requires c κs =
+    let t = c .before .before .before .before .before .before .before in
+    let y = t .before .before .before in
+    let a = y .before .before in
+    let v = a .before .before in
+    let s = start v in
+    let e = v .set-verdict .ensures in (
+      s .pre .0 .wellFormed,
+      (
+        set-powers-input _ _ _ _ _ _ (s .pre .1) e (a .enum-told .given .1) (s .pre .0 .isField)
+            (field-isField (s .pre .0 .wellFormed)) (y .set-powers .ensures) (t .if1 .taken),
+        set-degrees _ _ _ _ _ _ (s .pre .1) e (a .enum-told .given .1) (s .pre .0 .isField),
+      ),
+    )
+
 rated-requires : tie.Need-rated-requires
 rated-requires c κs = search needs
 
@@ -76,7 +95,8 @@ same-length-2 c = search needs
 
 returns-2 : tie.Need-returns-2
 returns-2 c =
-    let w = c .before .before .before in
+    let b = c .before in
+    let w = b .before .before .before .before in
     let t = w .before .before .before .before in
     let y = t .before .before .before in
     let a = y .before .before in
@@ -87,6 +107,7 @@ returns-2 c =
     (t .if1 .taken)
     (sym (lists-length _))
     (w .write-product .ensures)
+    (b .single-bound .ensures)
     (c .rated .ensures)
 
 same-length-3 : tie.Need-same-length-3
@@ -116,6 +137,8 @@ rate-multiples-spec =
     set-powers-requires
     slice-aggregate-write-product
     write-product-requires
+    slice-aggregate-single-bound
+    single-bound-requires
     rated-requires
     refused-requires-2
     returns

@@ -1,9 +1,11 @@
--- `factors::factor_at` meets its contract. The invariant: part i is part i − j of the bytes from `from` on,
--- cut by the lengths from j on. The measure is the number of parts that are left. Assumes nothing.
+-- `factors::factor_at` meets its contract: there is no length for part i, or the loop finds it. The
+-- invariant: part i is part i − j of the bytes from `from` on, cut by the lengths from j on. The measure is
+-- the number of parts that are left. Assumes nothing.
 use Prim.Native.Nat.{_-_}
 use native.Mathlib.Omega.{arith}
 use borrow.Author.Needs.{needs}
-use Rattle.flat_bytes.proofs.factors.Splitting.{PartFrom, part-start, part-next, part-found}
+use Rattle.flat_bytes.proofs.factors.Splitting.{PartFrom, part-beyond, part-start, part-next}
+use Rattle.flat_bytes.proofs.factors.Splitting.{part-found}
 use Rattle.flat_bytes.proofs.factors.factor_at.Statement.{statement}
 use Rattle.flat_bytes.proofs.factors.factor_at.Tie as tie
 
@@ -12,6 +14,18 @@ Inv-loop flat lengths i size from₀ j₀ from j = PartFrom flat lengths i from 
 
 abbrev μ-loop : tie.MeasureT-loop
 μ-loop flat lengths i size from₀ j₀ from j = i - j
+
+sub-result : tie.Need-sub-result Inv-loop μ-loop
+sub-result c = search needs
+
+part-result-start : tie.Need-part-result-start Inv-loop μ-loop
+part-result-start c = search needs
+
+part-result-end : tie.Need-part-result-end Inv-loop μ-loop
+part-result-end c = search needs
+
+returns : tie.Need-returns Inv-loop μ-loop
+returns c = part-beyond _ _ _ (c .before .if1 .taken)
 
 loop-holds : tie.Need-loop-holds Inv-loop μ-loop
 loop-holds c = part-start _ _ _
@@ -31,17 +45,17 @@ loop-again c = part-next (c .before .before .loop .inv) (c .part-end .ensures) (
 part-end-requires-2 : tie.Need-part-end-requires-2 Inv-loop μ-loop
 part-end-requires-2 c κs = c .before .loop .inv .inside
 
-sub-result : tie.Need-sub-result Inv-loop μ-loop
-sub-result c = c .part-end2 .ensures .rising
+sub-result-2 : tie.Need-sub-result-2 Inv-loop μ-loop
+sub-result-2 c = c .part-end2 .ensures .rising
 
-part-result-start : tie.Need-part-result-start Inv-loop μ-loop
-part-result-start c = search needs
+part-result-start-2 : tie.Need-part-result-start-2 Inv-loop μ-loop
+part-result-start-2 c = search needs
 
-part-result-end : tie.Need-part-result-end Inv-loop μ-loop
-part-result-end c = search needs
+part-result-end-2 : tie.Need-part-result-end-2 Inv-loop μ-loop
+part-result-end-2 c = search needs
 
-returns : tie.Need-returns Inv-loop μ-loop
-returns c =
+returns-2 : tie.Need-returns-2 Inv-loop μ-loop
+returns-2 c =
     part-found (c .before .before .before .loop .inv) (c .before .part-end2 .ensures)
     (c .before .before .loop-test .left)
 
@@ -51,13 +65,17 @@ factor-at-spec =
     (tie.spec
     Inv-loop
     μ-loop
+    sub-result
+    part-result-start
+    part-result-end
+    returns
     loop-holds
     part-end-requires
     add-j
     loop-less
     loop-again
     part-end-requires-2
-    sub-result
-    part-result-start
-    part-result-end
-    returns)
+    sub-result-2
+    part-result-start-2
+    part-result-end-2
+    returns-2)

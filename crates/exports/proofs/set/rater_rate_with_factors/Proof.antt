@@ -1,9 +1,9 @@
--- `rater_rate_set` meets its contract: at each arm the rating tells what the arm names.
+-- `rater_rate_with_factors` meets its contract: at each arm the rating tells what the arm names.
 -- Assumes nothing.
 use borrow.Author.Needs.{needs}
 use Rattle.exports.proofs.set.SetStatus.{set-told, set-untold}
-use Rattle.exports.proofs.set.rater_rate_set.Statement.{statement}
-use Rattle.exports.proofs.set.rater_rate_set.Tie as tie
+use Rattle.exports.proofs.set.rater_rate_with_factors.Statement.{statement}
+use Rattle.exports.proofs.set.rater_rate_with_factors.Tie as tie
 
 rate-numbered-set-requires : tie.Need-rate-numbered-set-requires
 rate-numbered-set-requires c κs = search needs
@@ -49,8 +49,8 @@ returns-2 c =
     let j = v .before .before .before .before .before .before .before in
     set-untold (j .rate-numbered-set .ensures) (v .outcome2 .given .1) (c .refusal-number .ensures)
 
-pub rater-rate-set-spec : {M : Type 1} → statement M
-rater-rate-set-spec =
+pub rater-rate-with-factors-spec : {M : Type 1} → statement M
+rater-rate-with-factors-spec =
     tie.close
     (tie.spec
     rate-numbered-set-requires

@@ -1,0 +1,41 @@
+// The period way for programs in other languages.
+use meaning::PowerRating;
+use refusals::numbering::refusal_number;
+ghost use lib.ListN.{length};
+ghost use Rattle.meaning.specs.Period.{ratePeriod};
+ghost use Rattle.meaning.specs.Exports.{PowerExported};
+
+// Rates a period with one factor: leaves the power, the degree and the repeat bound.
+#[no_mangle]
+pub extern "C" fn rater_rate_period(
+    p: u64,
+    factor: &[u8],
+    terms: &[u8],
+    answer: &mut [u8],
+    work: &mut [u8],
+    power: &mut u64,
+    degree: &mut u64,
+    bound: &mut u64,
+) -> u64
+    ensures { λ r. ⌜ PowerExported
+        (ratePeriod p (now (factor .entry)) (now (terms .entry)) (length (now (answer .entry)))
+        (length (now (work .entry))))
+        (now (answer .entry)) (now (work .entry))
+        (now (power .entry)) (now (degree .entry)) (now (bound .entry)) r
+        (now (answer .exit)) (now (work .exit))
+        (now (power .exit)) (now (degree .exit)) (now (bound .exit)) ⌝ }
+{
+    match rater::rate_period(p, factor, terms, answer, work) {
+        PowerRating::Rated {
+            power: r,
+            degree: d,
+            bound: b,
+        } => {
+            *power = r;
+            *degree = d;
+            *bound = b;
+            0
+        }
+        PowerRating::Refused(r) => refusal_number(r),
+    }
+}
