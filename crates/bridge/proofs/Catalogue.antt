@@ -3,8 +3,8 @@
 --   entry-length     == the polynomial of a number has at most 11 coefficients
 --   entry-monic, entry-positive == for the numbers from 2 to 2,047 it is monic over GF(2) of positive degree,
 --                       by a test of them all
---   number-entry     == every such polynomial of degree at most 10 is that of its number; `entry-number`: and a
---                       number is that of its polynomial
+--   number-entry     == every such polynomial of degree at most 10 is that of its number; `entry-number`:
+--                       and a number is that of its polynomial
 --   listed           == the test by which the catalogue selects
 --   member-listed, listed-member == a number is in the catalogue exactly where it is from 2 to 2,047 and its
 --                       polynomial is irreducible
