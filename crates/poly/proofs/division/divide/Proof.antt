@@ -1,152 +1,52 @@
--- `division::divide` meets its contract. The invariant is `Dividing`, and the measure i.
--- Assumes nothing.
+-- `division::divide` meets its contract. Assumes nothing.
 use borrow.Author.Needs.{needs}
 use native.Mathlib.Omega.{arith}
-use Prim.Native.Nat.{_-_}
 use mathlib.Core.Path.{ap, _∙_}
-use lib.ListN.{length, getD}
 use denote.Ref.{now}
 use Rattle.meaning.specs.Field.{negative}
 use Rattle.meaning.specs.Polynomial.{degree}
-use Rattle.bridge.proofs.Interpretation.{number-mul-comm, number-mul-negative}
-use Rattle.bridge.proofs.Polynomials.{leading-nonempty, getD-below}
+use Rattle.bridge.proofs.Polynomials.{leading-nonempty}
 use Rattle.arith.specs.Represented.{fieldOf}
-use Rattle.arith.specs.Inverse.{inverse}
-use Rattle.arith.proofs.Represented.{field-isField}
-use Rattle.poly.proofs.division.Dividing.{Dividing, dividing-start, dividing-next, dividing-end}
-use Rattle.poly.proofs.division.Dividing.{lent-length, reduced-put, inverse-digit}
 use Rattle.poly.proofs.division.divide.Statement.{statement}
 use Rattle.poly.proofs.division.divide.Tie as tie
 
-abbrev Inv-loop : tie.InvT-loop
-Inv-loop field f₀ g e c i₀ f i =
-    Dividing (fieldOf field) (inverse (fieldOf field) (getD g (degree g) 0)) g f₀ f i
-
-abbrev μ-loop : tie.MeasureT-loop
-μ-loop field f₀ g e c i₀ f i = i
-
-sub-e : tie.Need-sub-e Inv-loop μ-loop
+sub-e : tie.Need-sub-e
 sub-e c =
     let s = c .before .before in
     omega (arith, leading-nonempty (now (s .args .g)) (s .pre .1 .nonzero))
 
-shared-slice-read-inverse : tie.Need-shared-slice-read-inverse Inv-loop μ-loop
+shared-slice-read-inverse : tie.Need-shared-slice-read-inverse
 shared-slice-read-inverse c =
-    let s = c .before .before .before in
+    let s = c .before .before .before .before in
     omega (arith, leading-nonempty (now (s .args .g)) (s .pre .1 .nonzero))
 
-inverse-requires : tie.Need-inverse-requires Inv-loop μ-loop
+inverse-requires : tie.Need-inverse-requires
 inverse-requires c κs = search needs
 
-negative-requires : tie.Need-negative-requires Inv-loop μ-loop
+negative-requires : tie.Need-negative-requires
 negative-requires c κs = search needs
 
-loop-holds : tie.Need-loop-holds Inv-loop μ-loop
-loop-holds c =
-    let s = c .before .before .before .before .before in
-    dividing-start (field-isField (s .pre .0)) (s .pre .1)
-
-sub-i : tie.Need-sub-i Inv-loop μ-loop
-sub-i c = search needs
-
-slice-read-product : tie.Need-slice-read-product Inv-loop μ-loop
-slice-read-product c = search needs
-
-product-requires : tie.Need-product-requires Inv-loop μ-loop
-product-requires c κs = search needs
-
-sub-add-multiple : tie.Need-sub-add-multiple Inv-loop μ-loop
-sub-add-multiple c = search needs
-
-sub-add-multiple-2 : tie.Need-sub-add-multiple-2 Inv-loop μ-loop
-sub-add-multiple-2 c = search needs
-
-part-add-multiple-start : tie.Need-part-add-multiple-start Inv-loop μ-loop
-part-add-multiple-start c = search needs
-
-part-add-multiple-end : tie.Need-part-add-multiple-end Inv-loop μ-loop
-part-add-multiple-end c = search needs
-
-sub-add-multiple-3 : tie.Need-sub-add-multiple-3 Inv-loop μ-loop
-sub-add-multiple-3 c = search needs
-
-part-add-multiple-start-2 : tie.Need-part-add-multiple-start-2 Inv-loop μ-loop
-part-add-multiple-start-2 c = search needs
-
-part-add-multiple-end-2 : tie.Need-part-add-multiple-end-2 Inv-loop μ-loop
-part-add-multiple-end-2 c = search needs
-
-add-multiple-requires : tie.Need-add-multiple-requires Inv-loop μ-loop
-add-multiple-requires c κs =
-    let l = c .before .before .before .before .before in
-    let s = l .before .before .before .before .before .before in
-    let a = s .args in
-    let k =
-    lent-length (fieldOf (a .field)) (now (a .g)) (leading-nonempty (now (a .g)) (s .pre .1 .nonzero))
-    (l .loop .f) (l .loop .i - 1) (omega arith) (omega (arith, l .loop .inv .within, l .loop .inv .size)) in
-    (s .pre .0, omega (arith, k))
-
-loop-less : tie.Need-loop-less Inv-loop μ-loop
-loop-less c = search needs
-
-loop-again : tie.Need-loop-again Inv-loop μ-loop
+divide-by-requires : tie.Need-divide-by-requires
 unfolding degree
-loop-again c =
-    let q = c .before .before .before .before .before in
-    let l = q .before .before .before in
-    let n = l .before in
-    let s = n .before .before .before .before .before in
-    let a = s .args in
-    let F = fieldOf (a .field) in
-    let I = field-isField (s .pre .0) in
-    let i = l .loop .i - 1 in
-    let b = getD (l .loop .f) i 0 in
-    let d = inverse F (getD (now (a .g)) (length (now (a .g)) - 1) 0) in
-    dividing-next I (s .pre .1) (l .loop .inv) (omega arith)
-    (inverse-digit I (s .pre .1) b (getD-below I (l .loop .f) (l .loop .inv .elements) i))
-    (reduced-put F (now (a .g)) (leading-nonempty (now (a .g)) (s .pre .1 .nonzero)) (l .loop .f) i
-    (omega arith)
-    (omega (arith, l .loop .inv .within, l .loop .inv .size))
-    ((F .mul) d b)
-    (q .product .ensures
-    ∙ ap (λ u. (F .mul) u b) (n .negative .ensures ∙ ap (negative F) (n .before .inverse .ensures))
-    ∙ number-mul-comm I (negative F d) b
-    ∙ number-mul-negative I b d
-    ∙ ap (negative F) (number-mul-comm I b d))
-    (c .before .before .add-multiple .ensures))
+divide-by-requires c κs =
+    let s = c .before .before .before .before .before .before in
+    let F = fieldOf (s .args .field) in
+    (s .pre .0, (s .pre .1, c .negative .ensures ∙ ap (negative F) (c .before .inverse .ensures)))
 
-same-length : tie.Need-same-length Inv-loop μ-loop
-same-length c = c .before .loop .inv .size
+same-length : tie.Need-same-length
+same-length c = search needs
 
-returns : tie.Need-returns Inv-loop μ-loop
-unfolding degree
-returns c =
-    let s = c .before .before .before .before .before .before .before in
-    dividing-end (field-isField (s .pre .0)) (s .pre .1) (c .before .loop .inv) (omega arith)
+returns : tie.Need-returns
+returns c = c .before .before .divide-by .ensures
 
 pub divide-spec : {M : Type 1} → statement M
 divide-spec =
     tie.close
     (tie.spec
-    Inv-loop
-    μ-loop
     sub-e
     shared-slice-read-inverse
     inverse-requires
     negative-requires
-    loop-holds
-    sub-i
-    slice-read-product
-    product-requires
-    sub-add-multiple
-    sub-add-multiple-2
-    part-add-multiple-start
-    part-add-multiple-end
-    sub-add-multiple-3
-    part-add-multiple-start-2
-    part-add-multiple-end-2
-    add-multiple-requires
-    loop-less
-    loop-again
+    divide-by-requires
     same-length
     returns)
