@@ -37,14 +37,14 @@ static void tell(void *task_, answer *a) {
         case PERIOD:                                                                                                  \
             a->status = VERSION##_rate_period(j->p, j->coefficients, j->bytes, j->terms, j->count, a->polynomial,     \
                                               sizeof a->polynomial, t->work, sizeof t->work, a->powers, &degree,      \
-                                              &a->bound);                                                             \
+                                              &a->repeat);                                                            \
             break;                                                                                                    \
         case SET:                                                                                                     \
             a->status = VERSION##_rate_with_factors(                                                                  \
                 j->p, j->coefficients, j->bytes, (const uint8_t *)j->lengths, 8 * j->factors,                         \
                 (const uint8_t *)j->uppers, 8 * j->factors, j->terms, j->count, a->polynomial,                        \
                 sizeof a->polynomial, t->work, sizeof t->work, (uint8_t *)a->powers, sizeof a->powers, &degree,       \
-                &a->bound);                                                                                           \
+                &a->repeat);                                                                                          \
             break;                                                                                                    \
         case IRREDUCIBLE:                                                                                             \
             a->status = VERSION##_is_irreducible(j->p, j->coefficients, j->bytes, &yes);                              \

@@ -13,12 +13,12 @@
 #define DECLARE_CALLS(VERSION)                                                                                        \
     uint64_t VERSION##_rate_period(uint64_t p, const uint8_t *factor, size_t coefficients, const uint8_t *terms,      \
                                    size_t count, uint8_t *answer, size_t answer_bytes, uint8_t *work,                 \
-                                   size_t work_bytes, uint64_t *power, uint64_t *degree, uint64_t *bound);            \
+                                   size_t work_bytes, uint64_t *power, uint64_t *degree, uint64_t *repeat);           \
     uint64_t VERSION##_rate_with_factors(uint64_t p, const uint8_t *factors, size_t factors_bytes,                    \
                                          const uint8_t *lengths, size_t lengths_bytes, const uint8_t *uppers,         \
                                          size_t uppers_bytes, const uint8_t *terms, size_t count, uint8_t *answer,    \
                                          size_t answer_bytes, uint8_t *work, size_t work_bytes, uint8_t *powers,      \
-                                         size_t powers_bytes, uint64_t *degree, uint64_t *bound);                     \
+                                         size_t powers_bytes, uint64_t *degree, uint64_t *repeat);                    \
     uint64_t VERSION##_rate_free(uint64_t p, const uint8_t *terms, size_t count, uint8_t *answer,                     \
                                  size_t answer_bytes, uint8_t *work, size_t work_bytes, uint64_t *degree,             \
                                  uint8_t *unique);                                                                    \

@@ -24,12 +24,12 @@ static uint64_t search(size_t n, uint64_t *entry, uint64_t *power) {
 static uint64_t by_calls(size_t n) {
     uint64_t first = 0;
     for (size_t i = 0; i < ENTRIES; i++) {
-        uint64_t entry = rater_catalogue_entry(i), power, degree, bound;
+        uint64_t entry = rater_catalogue_entry(i), power, degree, repeat;
         uint8_t factor[11];
         size_t count = 0;
         for (uint64_t rest = entry; rest; rest >>= 1) factor[count++] = rest & 1;
         uint64_t status = rater_rate_period(2, factor, count, terms, n, answer, sizeof answer, work, sizeof work, &power,
-                                            &degree, &bound);
+                                            &degree, &repeat);
         if (status == 0 && first == 0) first = entry;
     }
     return first;

@@ -31,7 +31,7 @@ typedef struct {
     size_t degree;
     uint8_t polynomial[4097];
     uint64_t powers[8];
-    uint64_t bound;
+    uint64_t repeat;
     uint8_t unique;
 } answer;
 

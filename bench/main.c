@@ -88,7 +88,7 @@ static const char *verdict(const job *j, const answer *ours, const answer *their
 
 // the C versions must agree with the rater to the last number, and the last entry of the profile in its figures
 static void hold(const job *j, const contestant *c, const answer *ours, const answer *theirs) {
-    bool same = ours->status == theirs->status && ours->degree == theirs->degree && ours->bound == theirs->bound &&
+    bool same = ours->status == theirs->status && ours->degree == theirs->degree && ours->repeat == theirs->repeat &&
                 ours->unique == theirs->unique && memcmp(ours->powers, theirs->powers, sizeof ours->powers) == 0;
     if (c != &profile && j->way != IRREDUCIBLE && ours->status == 0)
         same = same && memcmp(ours->polynomial, theirs->polynomial, ours->degree + 1) == 0;

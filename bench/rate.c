@@ -1,7 +1,6 @@
 // The rating program in C, for a comparison of whole processes: reads one route file on standard input and prints what
 // the rating program prints. VERSION chooses the calls, as in ways.c.
 #include "calls.h"
-#include "reference.h"
 #include <stdio.h>
 #include <string.h>
 
@@ -13,7 +12,7 @@
 
 static uint8_t file[LONGEST + 1], terms[LONGEST], answer[4097], work[8192], factors[8 * 34];
 static size_t size, count, factor_count, factor_bytes;
-static uint64_t lengths[8], uppers[8], powers[8], degree;
+static uint64_t lengths[8], uppers[8], powers[8], degree, repeat;
 static uint8_t p, mode, unique;
 
 // A factor's record as a list: one that the call turns down by 10 or 11 where the record is to be.
@@ -70,17 +69,17 @@ static uint64_t read_records(void) {
 }
 
 static uint64_t rate(void) {
-    uint64_t bound, refusal = read_records();
+    uint64_t refusal = read_records();
     if (refusal != 0) return refusal;
     switch (mode) {
     case 1:
         return CALL(rate_period)(p, factors, factor_bytes, terms, count, answer, sizeof answer, work, sizeof work,
-                                 powers, &degree, &bound);
+                                 powers, &degree, &repeat);
     case 2:
         return CALL(rate_with_factors)(p, factors, factor_bytes, (const uint8_t *)lengths, 8 * factor_count,
                                        (const uint8_t *)uppers, 8 * factor_count, terms, count, answer,
                                        sizeof answer, work, sizeof work, (uint8_t *)powers, sizeof powers, &degree,
-                                       &bound);
+                                       &repeat);
     default:
         return CALL(rate_free)(p, terms, count, answer, sizeof answer, work, sizeof work, &degree, &unique);
     }
@@ -97,7 +96,7 @@ int main(void) {
         printf("%u refused %d\n", box, (int)refusal);
         return 0;
     }
-    printf("%u ok %d/%d ", box, (int)degree, (int)(mode == 1 ? c_shortest_period(terms, count) : count));
+    printf("%u ok %d/%d ", box, (int)degree, (int)(mode == 1 ? repeat : count));
     if (mode == 3) printf("%s", unique ? "one" : "some");
     for (size_t i = 0; i < factor_count; i++) printf(i == 0 ? "%d" : ",%d", (int)powers[i]);
     printf("\npoly");

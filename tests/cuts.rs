@@ -76,7 +76,7 @@ impl Sequence {
         let rating = Rating {
             powers: vec![],
             polynomial,
-            bound: None,
+            repeat: None,
             unique: Some(true),
         };
         answers(&inputs::free(self.p, terms), &Ok(rating))?;

@@ -44,7 +44,7 @@ fn all_short() -> Outcome {
             let rating = Rating {
                 powers: vec![],
                 polynomial: fitting[0].clone(),
-                bound: None,
+                repeat: None,
                 unique: Some(unique),
             };
             expect(&free_rating(p, &terms).polynomial, &fitting[0], || {
@@ -157,7 +157,7 @@ fn known_polynomials() -> Outcome {
             let rating = Rating {
                 powers: vec![],
                 polynomial,
-                bound: None,
+                repeat: None,
                 unique: Some(true),
             };
             answers(&inputs::free(p, &terms), &Ok(rating))?;

@@ -1,10 +1,11 @@
-// rate_set: known answers, all short portions with up to three factors, stretches of sequences with known powers of one
-// factor and of up to eight, and every refusal.
+// rate_set: known answers and repeat lengths, all short portions with up to three factors, stretches of sequences with
+// known powers of one factor and of up to eight, and every refusal.
 mod common;
 
 use common::calls::{bytes_of, rate_joined_set, rate_numbered_set, rate_set_into, Told};
 use common::inputs::{self, factors, registers, total_degree};
 use common::lent::{answers, answers_by, refuses};
+use common::poly::Poly;
 use common::random::Random;
 use common::rater::{rate, set_rating, Factor, Input, Way};
 use common::{expect, faults, named, primes, run, table, Outcome};
@@ -121,7 +122,7 @@ fn lends(
     status: u64,
     powers: &[u64],
     degree: u64,
-    bound: u64,
+    repeat: u64,
 ) -> Result<(), String> {
     const MARGIN: usize = 32;
     let marks = vec![0xa5; size + 2 * MARGIN];
@@ -135,7 +136,7 @@ fn lends(
         all.resize(64, 0);
         let written = size.min(64);
         left[MARGIN..MARGIN + written].copy_from_slice(&all[..written]);
-        (expected.degree, expected.bound) = (degree, bound);
+        (expected.degree, expected.repeat) = (degree, repeat);
     }
     let case = || format!("p {}, {size} bytes for the powers {powers:?}", input.p);
     expect(told, expected, case)?;
@@ -152,7 +153,7 @@ fn any_power_bytes() -> Outcome {
         let factors = factors(&mut random, p, n, 3);
         let powers = inputs::uppers(&mut random, &factors, 400);
         let degree = total_degree(&factors, &powers) as u64;
-        let bound = set_rating(p, &factors, &powers).bound.unwrap();
+        let repeat = set_rating(p, &factors, &powers).repeat.unwrap();
         let terms = registers(&mut random, p, &factors, &powers, 500);
         let mut changed = terms.clone();
         changed[499] = (changed[499] + 1) % p;
@@ -163,12 +164,55 @@ fn any_power_bytes() -> Outcome {
                 (&powers, &changed, 17),
             ] {
                 let input = inputs::set(p, &factors, uppers, terms);
-                lends(&input, size, status, &powers, degree, bound)?;
+                lends(&input, size, status, &powers, degree, repeat)?;
                 cases += 1;
             }
         }
     }
     Ok(cases)
+}
+
+// Repeat lengths that are known: the longest of a binary register that is told, and one that is longer; orders with common
+// factors; the largest power, which need not be that of the first factor; a power of p beyond the longest; and x, with
+// which only zeros repeat.
+fn repeat_lengths() -> Outcome {
+    let mut random = Random::of_seed(57);
+    let (x, x1, three) = (vec![0, 1], vec![1, 1], vec![1, 1, 1]);
+    let (five, fifteen) = (vec![1, 1, 1, 1, 1], vec![1, 1, 0, 0, 1]);
+    let (seven, other) = (vec![1, 1, 0, 1], vec![1, 0, 1, 1]);
+    let sixteen = vec![1, 1, 0, 1, 0, 0, 0, 0, 0, 0, 0, 0, 1, 0, 0, 0, 1];
+    let seventeen = vec![1, 0, 0, 1, 0, 0, 0, 0, 0, 0, 0, 0, 0, 0, 0, 0, 0, 1];
+    let rows: &[(u64, &[&Poly], &[u64], u64)] = &[
+        (2, &[&sixteen], &[1], 65535),
+        (2, &[&seventeen], &[1], 0),
+        (2, &[&sixteen, &x1], &[1, 1], 65535),
+        (2, &[&sixteen, &x1], &[1, 2], 0),
+        (2, &[&three, &five], &[1, 1], 15),
+        (2, &[&five, &fifteen], &[1, 1], 15),
+        (2, &[&seven, &other], &[1, 1], 7),
+        (2, &[&seven, &other, &three], &[1, 2, 0], 14),
+        (2, &[&three, &seven], &[1, 5], 168),
+        (2, &[&x1], &[4096], 4096),
+        (2, &[&x1], &[2049], 4096),
+        (61, &[&vec![60, 1]], &[4096], 0),
+        (61, &[&vec![60, 1]], &[3721], 3721),
+        (61, &[&vec![60, 1]], &[3722], 0),
+        (2, &[&x], &[3], 0),
+        (2, &[&three, &x], &[1, 1], 0),
+        (2, &[&three, &x], &[1, 0], 3),
+        (2, &[&x, &x1], &[0, 0], 1),
+    ];
+    for (p, factors, powers, repeat) in rows {
+        let factors: Vec<Poly> = factors.iter().map(|&f| f.clone()).collect();
+        let uppers: Vec<u64> = powers.iter().map(|&r| r.max(1)).collect();
+        let terms = registers(&mut random, *p, &factors, powers, 4096);
+        let rating = set_rating(*p, &factors, powers);
+        expect(rating.repeat, Some(*repeat), || {
+            format!("{factors:?} {powers:?}")
+        })?;
+        answers(&inputs::set(*p, &factors, &uppers, &terms), &Ok(rating))?;
+    }
+    Ok(rows.len() as u64)
 }
 
 // Upper powers whose higher bytes count: those that a byte, two or four of them would take for 1.
@@ -258,6 +302,7 @@ fn main() {
             ("lengths that do not fit", any_lengths),
             ("any number of bytes", any_bytes),
             ("any number of bytes for the powers", any_power_bytes),
+            ("repeat lengths", repeat_lengths),
             ("upper powers of many bytes", large_uppers),
             ("a known power", || named::made(1)),
             ("known powers", || named::made(8)),

@@ -89,8 +89,8 @@ fn told(rating: PowerRating) -> Told {
         PowerRating::Rated {
             power,
             degree,
-            bound,
-        } => (told.powers[0], told.degree, told.bound) = (power, degree, bound),
+            repeat,
+        } => (told.powers[0], told.degree, told.repeat) = (power, degree, repeat),
     }
     told
 }

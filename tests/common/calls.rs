@@ -35,7 +35,7 @@ mod exported {
             work_size: usize,
             power: *mut u64,
             degree: *mut u64,
-            bound: *mut u64,
+            repeat: *mut u64,
         ) -> u64;
         pub fn rater_rate_with_factors(
             p: u64,
@@ -54,7 +54,7 @@ mod exported {
             powers: *mut u8,
             power_bytes: usize,
             degree: *mut u64,
-            bound: *mut u64,
+            repeat: *mut u64,
         ) -> u64;
         pub fn rater_rate_free(
             p: u64,
@@ -180,7 +180,7 @@ pub struct Told {
     pub status: u64,
     pub powers: [u64; 8],
     pub degree: u64,
-    pub bound: u64,
+    pub repeat: u64,
     pub unique: u8,
 }
 
@@ -191,7 +191,7 @@ impl Told {
             status,
             powers: [MARK; 8],
             degree: MARK,
-            bound: MARK,
+            repeat: MARK,
             unique: 0xa5,
         }
     }
@@ -229,7 +229,7 @@ fn rate_period(input: &Input, answer: &mut [u8], work: &mut [u8]) -> Told {
             work.len(),
             &mut told.powers[0],
             &mut told.degree,
-            &mut told.bound,
+            &mut told.repeat,
         )
     };
     told
@@ -319,7 +319,7 @@ fn call_set(
             powers.as_mut_ptr(),
             powers.len(),
             &mut told.degree,
-            &mut told.bound,
+            &mut told.repeat,
         )
     };
     told

@@ -94,7 +94,7 @@ fn telling(way: Way, expected: &Result<Rating, u64>) -> Told {
         told.powers = [0; 8];
     }
     told.powers[..rating.powers.len()].copy_from_slice(&rating.powers);
-    told.bound = rating.bound.unwrap_or(told.bound);
+    told.repeat = rating.repeat.unwrap_or(told.repeat);
     told.unique = rating.unique.map_or(told.unique, |one| one as u8);
     told
 }

@@ -41,15 +41,16 @@ pub fn numbers(word: &str) -> Vec<u64> {
     word.split(',').map(|n| n.parse().unwrap()).collect()
 }
 
-// The last words of a row for the period or the set way: powers, polynomial and bound, or the number of the refusal.
+// The last words of a row for the period or the set way: powers, polynomial and repeat length, or the number of
+// the refusal.
 pub fn powers_rating(words: &[&str]) -> Result<Rating, u64> {
-    let [powers, polynomial, bound] = words else {
+    let [powers, polynomial, repeat] = words else {
         return Err(refusal(words));
     };
     Ok(Rating {
         powers: numbers(powers),
         polynomial: sequence::of_bytes(&bytes(polynomial)),
-        bound: Some(bound.parse().unwrap()),
+        repeat: Some(repeat.parse().unwrap()),
         unique: None,
     })
 }
@@ -64,7 +65,7 @@ pub fn free_rating(words: &[&str]) -> Result<Rating, u64> {
     Ok(Rating {
         powers: vec![],
         polynomial,
-        bound: None,
+        repeat: None,
         unique: Some(*word == "one"),
     })
 }

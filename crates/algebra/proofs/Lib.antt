@@ -33,5 +33,6 @@ pub mod Residues
 pub mod Roots
 pub mod FiniteField
 pub mod Order
+pub mod Orders
 pub mod BenOr
 pub mod Raised

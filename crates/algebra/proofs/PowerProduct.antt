@@ -16,6 +16,9 @@
 --                      divides all of I
 --   least-powers-least
 --                   == a product in I with exponents up to the upper ones has no exponent below the least
+--   power-divides-product, powers-product-divides
+--                   == each power divides the product; what each power of coprime atoms divides, the product
+--                      divides
 --
 -- Assumes nothing.
 use mathlib.Core.Path.{_≡_, refl}
@@ -23,7 +26,7 @@ use mathlib.Core.List.{List, [], _∷_}
 use mathlib.Core.Logic.{inl, inr}
 use Prim.Native.Nat.{ℕ, zero, suc, _≤_, _<_, suc-le-suc}
 use lib.ListN.{length, getD}
-use native.Mathlib.Nat.{le-refl}
+use native.Mathlib.Nat.{le-refl, le-of-suc-le-suc, not-suc-le-zero}
 use native.Mathlib.Omega.{arith}
 use Rattle.algebra.proofs.Number.{Least}
 use Rattle.algebra.proofs.Ring.{Ring, mul-left-comm}
@@ -38,6 +41,9 @@ use Rattle.algebra.proofs.Ideal.{
   divides-refl,
   divides-mul,
   divides-power,
+  divides-product,
+  divides-multiple,
+  divides-trans,
   divides-member,
   quotient-ideal,
   coprime-member,
@@ -197,3 +203,24 @@ module _ {K : Type 0} (R : Ring K) where
       (first-coprime atoms (r 0) _)
       (powers .least 0 (omega arith))
       (least-powers-generate others (coprime-atoms-rest atoms) (least-powers-rest powers))
+
+  -- What the product divides, and what divides it
+  pub power-divides-product : (fs : List K) (e : ℕ → ℕ) (i : ℕ)
+      → i < length fs → Divides R (power R (getD fs i 0#) (e i)) (power-product fs e)
+  unfolding power-product
+  power-divides-product [] e i l = absurd (not-suc-le-zero l)
+  power-divides-product (f ∷ fs) e zero l = divides-product R (power R f (e 0)) _
+  power-divides-product (f ∷ fs) e (suc i) l = divides-trans R
+      (power-divides-product fs (λ j. e (suc j)) i (le-of-suc-le-suc l))
+      (divides-multiple R (power R f (e 0)) _)
+
+  pub powers-product-divides : (fs : List K) (e : ℕ → ℕ) {h : K} → CoprimeAtoms fs
+      → ((i : ℕ) → i < length fs → Divides R (power R (getD fs i 0#) (e i)) h)
+      → Divides R (power-product fs e) h
+  unfolding power-product
+  powers-product-divides [] e atoms d = one-divides R _
+  powers-product-divides (f ∷ fs) e atoms d = coprime-product-divides R
+      (first-coprime atoms (e 0) _)
+      (d 0 (omega arith))
+      (powers-product-divides fs (λ i. e (suc i)) (coprime-atoms-rest atoms)
+      (λ i l. d (suc i) (suc-le-suc l)))

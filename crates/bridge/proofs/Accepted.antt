@@ -2,7 +2,7 @@
 --
 --   AcceptedTerms     == terms that 7 and 8 do not turn down
 --   count-accepted, terms-accepted, … == what it says that a condition does not hold
---   rated-power, rated-set == the power, or the powers, and the bound of an answer
+--   rated-power       == the power and the repeat length of an answer with a power
 --   accepts-free      == the table of the free way passes accepted terms and lent bytes
 --   set-answer, period-answer == the answer of the way on accepted factors, terms and lent bytes, from the
 --                        powers that are found
@@ -25,9 +25,10 @@ use Rattle.meaning.specs.Conditions.{isReducible}
 use Rattle.meaning.specs.Conditions.{factorCountOutOfRange, factorDegreeOutOfRange, twoEqual}
 use Rattle.meaning.specs.Conditions.{coefficientOutOfRange}
 use Rattle.meaning.specs.Conditions.{upperPowersOutOfRange, fewerTermsThan, lentTooShort, acceptedLent}
-use Rattle.meaning.specs.Power.{PowerFigures, powerRating, repeatBound}
+use Rattle.meaning.specs.Power.{PowerFigures, powerRating}
+use Rattle.meaning.specs.Repeat.{shortestPeriod}
 use Rattle.meaning.specs.Period.{periodPower, periodTable, periodAnswer, ratePeriod}
-use Rattle.meaning.specs.Portion.{SetFigures, factorsOf, setPowers, setBound, setRating, setTable, setAnswer}
+use Rattle.meaning.specs.Portion.{setPowers, setRating, setTable, setAnswer}
 use Rattle.meaning.specs.Portion.{rateSet, factorTable, acceptedFactors}
 use Rattle.meaning.specs.Free.{freeTable}
 use Rattle.meaning.proofs.Tables.{of-one}
@@ -135,37 +136,6 @@ abbrev pub multiplesNamed : ℕ → List Polynomial → List ℕ → List (Polyn
 multiplesNamed p fs vs = named (map (monicMultiple (prime p)) fs) vs
 
 -- THE SET WAY
--- the answer with powers, where the bound is known
-unfoldable pub set-rating-of : Field → List (Polynomial × ℕ) → List ℕ → ℕ → Rated SetFigures
-set-rating-of F l rs b =
-    record {
-      figures = record { powers = rs; degree = degree (product F (named (factorsOf l) rs)); bound = b };
-      polynomial = product F (named (factorsOf l) rs);
-    }
-
-pub set-rated :
-    (F : Field) (l : List (Polynomial × ℕ)) {o : Option (List ℕ)} (rs : List ℕ) {b : ℕ}
-    → o ≡ some rs
-    → setBound F (named (factorsOf l) rs) ≡ some b
-    → bind o (setRating F l) ≡ some (set-rating-of F l rs b)
-unfolding setRating set-rating-of
-set-rated F l rs e k = bind-some (setRating F l) e ∙ mapOption-some _ k
-
--- the powers and the bound of an answer
-pub rated-set :
-    (F : Field) (l : List (Polynomial × ℕ)) (o : Option (List ℕ)) {a : Rated SetFigures}
-    → bind o (setRating F l) ≡ some a
-    → (rs : List ℕ)
-    × (b : ℕ)
-    × (o ≡ some rs)
-    × (setBound F (named (factorsOf l) rs) ≡ some b)
-    × (set-rating-of F l rs b ≡ a)
-unfolding setRating set-rating-of
-rated-set F l o e =
-    let (rs, y, z) = some-bind o (setRating F l) e in
-    let (b, s, t) = some-mapOption _ (setBound F (named (factorsOf l) rs)) z in
-    (rs, b, y, s, t)
-
 module _
     (p : ℕ) (fs : List Polynomial) (vs ts : List ℕ) (answer work : ℕ)
     (factors : T (acceptedFactors p fs vs)) (t : AcceptedTerms p ts)
@@ -206,61 +176,60 @@ module _
         & nothing
 
     pub set-answer :
-        (rs : List ℕ) (b : ℕ)
+        {rs : List ℕ}
         → setPowers (prime p) (named gs vs) ts ≡ some rs
-        → setBound (prime p) (named (factorsOf (named gs vs)) rs) ≡ some b
-        → rateSet p fs vs ts answer work ≡ answered (set-rating-of (prime p) (named gs vs) rs b)
+        → rateSet p fs vs ts answer work ≡ answered (setRating (prime p) (named gs vs) ts rs)
     unfolding rateSet setAnswer
-    set-answer rs b e k = answered-settle _ _ set-passes (set-rated (prime p) (named gs vs) rs e k)
+    set-answer e = answered-settle _ _ set-passes (mapOption-some (setRating (prime p) (named gs vs) ts) e)
 
 -- THE PERIOD WAY
--- the answer with a power, where the repeat bound is known
-unfoldable pub rating-of : (p : ℕ) (f : Polynomial) (r b : ℕ) → Rated PowerFigures
-rating-of p f r b =
+-- the answer with a power, where the repeat length is known
+unfoldable pub rating-of : (p : ℕ) (f : Polynomial) (r n : ℕ) → Rated PowerFigures
+rating-of p f r n =
     record {
-      figures = record { power = r; degree = degree (power (prime p) f r); bound = b };
+      figures = record { power = r; degree = degree (power (prime p) f r); repeat = n };
       polynomial = power (prime p) f r;
     }
 
 pub rating-degree :
-    (p : ℕ) (f : Polynomial) (r b : ℕ) → degree (power (prime p) f r) ≡ rating-of p f r b .figures .degree
+    (p : ℕ) (f : Polynomial) (r n : ℕ) → degree (power (prime p) f r) ≡ rating-of p f r n .figures .degree
 unfolding rating-of
-rating-degree p f r b = refl
+rating-degree p f r n = refl
 
 pub rating-polynomial :
-    (p : ℕ) (f : Polynomial) (r b : ℕ) → rating-of p f r b .polynomial ≡ power (prime p) f r
+    (p : ℕ) (f : Polynomial) (r n : ℕ) → rating-of p f r n .polynomial ≡ power (prime p) f r
 unfolding rating-of
-rating-polynomial p f r b = refl
+rating-polynomial p f r n = refl
 
 pub power-rated :
-    (p : ℕ) (f : Polynomial) (r b : ℕ)
-    → repeatBound (prime p) f r ≡ some b
-    → powerRating (prime p) f r ≡ some (rating-of p f r b)
+    (p : ℕ) (f : Polynomial) (ts : List ℕ) (r n : ℕ)
+    → shortestPeriod ts ≡ some n
+    → powerRating (prime p) f ts r ≡ some (rating-of p f r n)
 unfolding powerRating rating-of
-power-rated p f r b e = mapOption-some _ e
+power-rated p f ts r n e = mapOption-some _ e
 
--- the power and the bound of an answer with a power
+-- the power and the repeat length of an answer with a power
 pub rated-power :
-    (p : ℕ) (f : Polynomial) (o : Option ℕ) {a : Rated PowerFigures}
-    → bind o (powerRating (prime p) f) ≡ some a
-    → (r b : ℕ) × (o ≡ some r) × (repeatBound (prime p) f r ≡ some b) × (rating-of p f r b ≡ a)
+    (p : ℕ) (f : Polynomial) (ts : List ℕ) (o : Option ℕ) {a : Rated PowerFigures}
+    → bind o (powerRating (prime p) f ts) ≡ some a
+    → (r n : ℕ) × (o ≡ some r) × (shortestPeriod ts ≡ some n) × (rating-of p f r n ≡ a)
 unfolding powerRating rating-of
-rated-power p f o e =
-    let (r, y, z) = some-bind o (powerRating (prime p) f) e in
-    let (b, s, t) = some-mapOption _ (repeatBound (prime p) f r) z in
-    (r, b, y, s, t)
+rated-power p f ts o e =
+    let (r, y, z) = some-bind o (powerRating (prime p) f ts) e in
+    let (n, s, t) = some-mapOption _ (shortestPeriod ts) z in
+    (r, n, y, s, t)
 
 pub period-answer :
-    (p : ℕ) (f : Polynomial) (ts : List ℕ) (answer work r b : ℕ) (vs : List ℕ)
+    (p : ℕ) (f : Polynomial) (ts : List ℕ) (answer work r n : ℕ) (vs : List ℕ)
     → T (acceptedFactors p (f ∷ []) vs)
     → AcceptedTerms p ts
     → T (acceptedLent answer work)
     → let g = monicMultiple (prime p) f in
     periodPower (prime p) g ts ≡ some r
-    → repeatBound (prime p) g r ≡ some b
-    → ratePeriod p f ts answer work ≡ answered (rating-of p g r b)
+    → shortestPeriod ts ≡ some n
+    → ratePeriod p f ts answer work ≡ answered (rating-of p g r n)
 unfolding ratePeriod periodAnswer periodTable factorTable isNone
-period-answer p f ts answer work r b vs h t lent found bound =
+period-answer p f ts answer work r n vs h t lent found repeat =
     let x = accepted-passes p (f ∷ []) vs h in
     let g = monicMultiple (prime p) f in
     answered-settle _ _
@@ -273,4 +242,4 @@ period-answer p f ts answer work r b vs h t lent found bound =
     & lent-pass answer work lent
     & ap isNone found
     & nothing)
-    (bind-some (powerRating (prime p) g) found ∙ power-rated p g r b bound)
+    (bind-some (powerRating (prime p) g ts) found ∙ power-rated p g ts r n repeat)

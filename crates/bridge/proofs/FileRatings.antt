@@ -3,16 +3,13 @@
 --
 --   accepted-file, refused-file == the rating of a file, by its records
 --   known-mode, unknown-mode == the rating of the records, by their mode
---   period-map, period-mapped, set-map, free-map == a mode tells what its way answers, in the period mode
---                  with the shortest period
---   period-terms == a period that is rated has terms
+--   period-map, set-map, free-map == a mode tells what its way answers
 --   exactly-one == an accepted file in the period mode has one factor
 --   Whole a     == the result a has so many
 --   period-size, set-size, free-size == the answers of the ways have
 --   file-size   == the answer for a file has
 -- Assumes nothing.
 use Prim.Native.Nat.{ℕ, zero, suc, _<_, _≤_}
-use native.Mathlib.Decide.{decLt}
 use native.Mathlib.Omega.{arith}
 use mathlib.Core.Path.{_≡_, refl, sym, ap, subst, _∙_}
 use mathlib.Core.Bool.{Bool, false, not}
@@ -22,13 +19,12 @@ use lib.Dec.{eqb, eqb→eq}
 use lib.ListN.{length, getD, take, length-append, length-map}
 use Rattle.meaning.specs.Field.{prime}
 use Rattle.meaning.specs.Polynomial.{Polynomial, power, product}
-use Rattle.meaning.specs.Search.{mapOption}
-use Rattle.meaning.specs.Result.{Result, refused, answered, valueOf, Rated, mapResult}
+use Rattle.meaning.specs.Result.{Result, refused, answered, Rated, mapResult}
 use Rattle.meaning.specs.Conditions.{named}
-use Rattle.meaning.specs.Power.{PowerFigures, powerRating, repeatBound}
+use Rattle.meaning.specs.Power.{PowerFigures, powerRating}
 use Rattle.meaning.specs.Repeat.{shortestPeriod}
 use Rattle.meaning.specs.Period.{periodPower, periodTable, periodAnswer}
-use Rattle.meaning.specs.Portion.{SetFigures, factorsOf, setPowers, setTable, setAnswer}
+use Rattle.meaning.specs.Portion.{SetFigures, factorsOf, setPowers, setRating, setTable, setAnswer}
 use Rattle.meaning.specs.Free.{FreeFigures, Fits, rateFree}
 use Rattle.meaning.specs.Route.{RouteRecord, Mode, periodMode, setMode, freeMode, modeOf, byteOf, bodies}
 use Rattle.meaning.specs.Route.{suits, modeUnsuited, records, factorUpper}
@@ -42,8 +38,7 @@ use Rattle.bridge.proofs.Polynomials.{degree-length, monic-nonempty}
 use Rattle.bridge.proofs.Products.{power-nonempty, product-nonempty, Nonempties, factorsOf-named}
 use Rattle.bridge.proofs.Products.{factorAt-factorsOf, length-factorsOf, length-named}
 use Rattle.bridge.proofs.Fitting.{free-rated}
-use Rattle.bridge.proofs.Repeats.{shortest-exists}
-use Rattle.bridge.proofs.Accepted.{prime-accepted, count-accepted, set-rating-of, rated-set}
+use Rattle.bridge.proofs.Accepted.{prime-accepted}
 use Rattle.bridge.proofs.Records.{records-suited}
 
 abbrev Whole : Rated FileFigures → Type 0
@@ -68,8 +63,8 @@ pub period-size :
 unfolding periodAnswer periodTable powerRating
 period-size p ten eleven f ts answer work l e =
     let (h, v) = settle-answered _ (periodTable p ten eleven f ts answer work) e in
-    let (r, _, u) = some-bind (periodPower (prime p) f ts) (powerRating (prime p) f) v in
-    let (_, _, q) = some-mapOption _ (repeatBound (prime p) f r) u in
+    let (r, _, u) = some-bind (periodPower (prime p) f ts) (powerRating (prime p) f ts) v in
+    let (_, _, q) = some-mapOption _ (shortestPeriod ts) u in
     let I = inRange-isField p (prime-accepted p (h .fieldExists)) in
     subst (λ b. length (b .polynomial) ≡ suc (b .figures .degree)) q
     (degree-length (power (prime p) f r) (power-nonempty I f r l))
@@ -80,10 +75,10 @@ pub set-size :
     → {b : Rated SetFigures}
     → setAnswer p ten eleven l ts answer work ≡ answered b
     → length (b .polynomial) ≡ suc (b .figures .degree)
-unfolding setAnswer setTable set-rating-of
+unfolding setAnswer setTable setRating
 set-size p ten eleven l ts answer work n e =
     let (h, v) = settle-answered _ (setTable p ten eleven l ts answer work) e in
-    let (rs, _, _, _, q) = rated-set (prime p) l (setPowers (prime p) l ts) v in
+    let (rs, _, q) = some-mapOption (setRating (prime p) l ts) (setPowers (prime p) l ts) v in
     let I = inRange-isField p (prime-accepted p (h .fieldExists)) in
     subst (λ b. length (b .polynomial) ≡ suc (b .figures .degree)) q
     (degree-length (product (prime p) (named (factorsOf l) rs))
@@ -107,53 +102,17 @@ pub free-size :
     → length (b .polynomial) ≡ suc (b .figures .degree)
 free-size p ts answer work e = let (_, _, _, x) = free-rated p ts answer work e in fits-size p (x .fits)
 
--- a period that is rated has terms
-pub period-terms :
-    (p : ℕ) (ten eleven : Bool) (f : Polynomial) (ts : List ℕ) (answer work : ℕ) {b : Rated PowerFigures}
-    → periodAnswer p ten eleven f ts answer work ≡ answered b
-    → 0 < length ts
-unfolding periodAnswer periodTable
-period-terms p ten eleven f ts answer work e =
-    count-accepted (length ts)
-    (settle-answered _ (periodTable p ten eleven f ts answer work) e .0 .countInRange)
-    .0
-
 -- THE MODES
-abbrev periodFigures : ℕ → Rated PowerFigures → Rated FileFigures
-periodFigures n b = fileAnswer (b .figures .degree) n (powers (b .figures .power ∷ [])) (b .polynomial)
-
--- in the period mode with the shortest period of the terms
 pub period-map :
-    (ts : List ℕ) {n : ℕ}
-    → shortestPeriod ts ≡ some n
-    → (x : Result (Rated PowerFigures))
-    → ofPeriod ts x
-    ≡ mapResult (periodFigures n) x
-unfolding ofPeriod mapResult mapOption valueOf
-period-map ts e (refused m) = refl
-period-map ts e (answered b) = rw e
-
--- where there are no terms the way refuses them
-pub period-mapped :
-    (p : ℕ) (ten eleven : Bool) (f : Polynomial) (ts : List ℕ) (answer work : ℕ)
-    → (n : ℕ)
-    × (0 < length ts → shortestPeriod ts ≡ some n)
-    × (ofPeriod ts (periodAnswer p ten eleven f ts answer work)
-    ≡ mapResult (periodFigures n) (periodAnswer p ten eleven f ts answer work))
+    (x : Result (Rated PowerFigures))
+    → ofPeriod x
+    ≡ mapResult
+    (λ b.
+    fileAnswer (b .figures .degree) (b .figures .repeat) (powers (b .figures .power ∷ [])) (b .polynomial))
+    x
 unfolding ofPeriod mapResult
-period-mapped p ten eleven f ts answer work = elim (decLt 0 (length ts)) [
-  | yes l ↦
-      let (n, e, _) = shortest-exists ts l in
-      (n, λ _. e, period-map ts e (periodAnswer p ten eleven f ts answer work))
-  | no k ↦ (0, λ l. absurd (k l), go k (periodAnswer p ten eleven f ts answer work) refl)
-]
-  where
-    go : ¬ (0 < length ts)
-        → (x : Result (Rated PowerFigures))
-        → periodAnswer p ten eleven f ts answer work ≡ x
-        → ofPeriod ts x ≡ mapResult (periodFigures 0) x
-    go k (refused m) e = refl
-    go k (answered b) e = absurd (k (period-terms p ten eleven f ts answer work e))
+period-map (refused n) = refl
+period-map (answered b) = refl
 
 pub set-map :
     (m : ℕ) (x : Result (Rated SetFigures))
@@ -195,7 +154,7 @@ mode-size :
     → Whole a
 unfolding rateMode fileAnswer
 mode-size periodMode p fs ts answer work one e =
-    whole-of _ _ (period-mapped p _ _ (getD (map polynomialOf fs) 0 []) ts answer work .2)
+    whole-of _ _ (period-map _)
     (λ b q.
     period-size p _ _ (getD (map polynomialOf fs) 0 []) ts answer work (first-nonempty fs (one refl)) q)
     e

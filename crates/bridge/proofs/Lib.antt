@@ -1,4 +1,5 @@
 pub mod Searches
+pub mod Within
 pub mod Interpretation
 pub mod Polynomials
 pub mod Products
@@ -10,9 +11,11 @@ pub mod Irreducibles
 pub mod Remainders
 pub mod IrreducibleTests
 pub mod Residues
+pub mod Orders
 pub mod Words
 pub mod TrialDivision
 pub mod Bits
+pub mod BitOrders
 pub mod Continuations
 pub mod Minimal
 pub mod KnownActions
@@ -21,8 +24,10 @@ pub mod Fitting
 pub mod PowerSearch
 pub mod Portions
 pub mod Periods
-pub mod RepeatBounds
+pub mod Levels
 pub mod Repeats
+pub mod CommonOrders
+pub mod RepeatLengths
 pub mod Padding
 pub mod Coefficients
 pub mod MasseySteps

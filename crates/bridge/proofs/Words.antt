@@ -10,21 +10,22 @@
 --   value-append   == the digits of a joined list: those of the second list stand higher by the length of the
 --                     first; `value-snoc`: one digit more, at the end
 --   value-below    == a number of n digits in base b is less than b^n
+--   value-top      == one of d + 1 digits, the last of them 1, is b^d or more
 --   low-digit, high-digits == the lowest digit is the remainder by b, and the others are the quotient
 --   digits-value   == the digits of the value of a list are the list
 --   value-digits   == a number is the value of its digits, if they are enough; `value-digits-mod`: the value
 --                     of its k lowest digits is its remainder by b^k
 --
 -- Assumes nothing.
-use Prim.Native.Nat.{ℕ, zero, suc, _+_, _*_, _^_, _/_, _%_, _<_}
+use Prim.Native.Nat.{ℕ, zero, suc, _+_, _*_, _^_, _/_, _%_, _≤_, _<_}
 use mathlib.Core.Path.{_≡_, refl, sym, ap, ap₂, _∙_}
 use mathlib.Core.List.{List, [], _∷_, _++_}
 use lib.ListN.{length, getD, take, drop}
 use lib.Arith.{mod-mul}
-use lib.Seq.{take-all, take-suc}
+use lib.Seq.{take-all, take-suc, length-take-le}
 use native.Mathlib.Nat.{mod-lt, mod-eq-of-lt, div-eq-of-lt, add-mul-mod-self-left}
 use native.Mathlib.Nat.{add-mul-div-left, mul-le-mul-left, pow-zero, pow-succ', mul-assoc, mul-add, mod-one}
-use native.Mathlib.Nat.{pow-suc, one-le-pow, mul-zero}
+use native.Mathlib.Nat.{pow-suc, one-le-pow, mul-zero, mul-one}
 use lib.Dec.{T}
 use native.Mathlib.Omega.{arith}
 use Rattle.meaning.specs.Field.{Field, areElements}
@@ -92,6 +93,14 @@ pub value-below : {b : ℕ} {f : List ℕ} → Below b f → value b f < b ^ len
 unfolding value
 value-below below-nil = rw pow-zero (omega arith)
 value-below {b} (below-cons {f} h hs) = rw (pow-succ' b (length f)) (digit-less h (value-below hs))
+
+pub value-top : (b : ℕ) (f : List ℕ) (d : ℕ) → length f ≡ suc d → getD f d 0 ≡ 1 → b ^ d ≤ value b f
+value-top b f d e o =
+    let whole : value b f ≡ value b (take d f) + b ^ d * 1 =
+    ap (value b) (last-split f d e)
+    ∙ value-snoc b (take d f) (getD f d 0)
+    ∙ ap₂ (λ (m n : ℕ). value b (take d f) + b ^ m * n) (length-take-le d f (omega arith)) o in
+    omega (arith, mul-one (b ^ d))
 
 pub low-digit : (b c v : ℕ) → c < b → (c + b * v) % b ≡ c
 low-digit b c v h = add-mul-mod-self-left c b v ∙ mod-eq-of-lt h

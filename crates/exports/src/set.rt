@@ -35,7 +35,7 @@ fn rate_numbered_set(
 }
 
 // Rates a portion with one to eight factors: leaves the powers in the order of the factors, then zeros, the
-// degree, and the bound, which is the repeat bound of a single factor and 0 with several. The factors stand
+// degree and the repeat length, 0 where the sequence does not repeat within 65,536 terms. The factors stand
 // one after another in one slice, with their lengths apart. Lengths, upper powers and powers are numbers of
 // eight bytes each, the least significant first. Any number of bytes may be lent for the powers: as many of
 // the 64 bytes of eight powers as were lent are written, from the front, so that 8·n are enough for n
@@ -51,16 +51,16 @@ pub extern "C" fn rater_rate_with_factors(
     work: &mut [u8],
     powers: &mut [u8],
     degree: &mut u64,
-    bound: &mut u64,
+    repeat: &mut u64,
 ) -> u64
     ensures { λ r. ⌜ SetExported
         (rateSet p (split (now (factors .entry)) (numbersOf (now (lengths .entry))))
         (numbersOf (now (uppers .entry))) (now (terms .entry)) (length (now (answer .entry)))
         (length (now (work .entry))))
         (now (answer .entry)) (now (work .entry)) (now (powers .entry))
-        (now (degree .entry)) (now (bound .entry)) r
+        (now (degree .entry)) (now (repeat .entry)) r
         (now (answer .exit)) (now (work .exit)) (now (powers .exit))
-        (now (degree .exit)) (now (bound .exit)) ⌝ }
+        (now (degree .exit)) (now (repeat .exit)) ⌝ }
 {
     let rating = rate_numbered_set(p, factors, lengths, uppers, terms, answer, work);
     let outcome = rating.outcome;
@@ -68,12 +68,12 @@ pub extern "C" fn rater_rate_with_factors(
     match outcome {
         SetOutcome::Rated {
             degree: d,
-            bound: b,
+            repeat: n,
             count: _,
         } => {
             write_eight(&found, powers);
             *degree = d;
-            *bound = b;
+            *repeat = n;
             0
         }
         SetOutcome::Refused(r) => refusal_number(r),

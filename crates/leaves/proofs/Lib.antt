@@ -1,3 +1,4 @@
 pub mod Remaindering
 pub mod Suiting
 pub mod Repeating
+pub mod Orders

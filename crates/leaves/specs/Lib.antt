@@ -1,2 +1,3 @@
 pub mod Remaindered
 pub mod Suited
+pub mod Orderly

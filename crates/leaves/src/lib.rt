@@ -1,9 +1,12 @@
-// Leaves on slices, of the arithmetic and of the shortest period, for benchmarks and tests from another
-// language. Where what a leaf requires does not hold, the answer is 0, and all bytes stay as they were.
+// Leaves on slices, of the arithmetic, of the shortest period and of the orders, for benchmarks and tests
+// from another language. Where what a leaf requires does not hold, the answer is 0, and all bytes stay as
+// they were.
 use arith::GaloisField;
 use arith::primes::prime_in_range;
 use conditions::lists::coefficient_out_of_range;
 use conditions::lists::term_out_of_field;
+use orders::multiples::common_within;
+use orders::order_within;
 use poly::division::divide;
 use repetition::shortest_period;
 ghost use mathlib.Core.Path.{_≡_};
@@ -13,7 +16,10 @@ ghost use Rattle.meaning.specs.Sequence.{actAt, known};
 ghost use Rattle.meaning.specs.Repeat.{shortestPeriod};
 ghost use Rattle.arith.specs.Slices.{combined};
 ghost use Rattle.leaves.specs.Suited.{suited, whereSuited, whereFound};
+ghost use Rattle.bridge.proofs.Within.{commonWithin};
+ghost use Rattle.bridge.proofs.Orders.{orderWithin};
 ghost use Rattle.leaves.specs.Remaindered.{Remaindered};
+ghost use Rattle.leaves.specs.Orderly.{isModulus, small};
 
 // Whether `first` is at most `second` and at most 65,536, and p is a prime in range.
 fn suits(p: u64, first: usize, second: usize) -> bool
@@ -81,4 +87,54 @@ pub extern "C" fn leaf_shortest_period(terms: &[u8]) -> usize
         return 0;
     }
     shortest_period(terms)
+}
+
+// Whether f is monic over GF(p), p a prime in range, and its degree is from 1 to 32.
+fn is_modulus(p: u64, f: &[u8]) -> bool
+    ensures { λ r. ⌜ r ≡ isModulus p (now (f .entry)) ⌝ }
+{
+    if f.len() < 2 {
+        return false;
+    }
+    if 33 < f.len() {
+        return false;
+    }
+    if !prime_in_range(p) {
+        return false;
+    }
+    if term_out_of_field(p, f) {
+        return false;
+    }
+    f[f.len() - 1] == 1
+}
+
+// The order of x modulo f, which is monic of degree 1 to 32, or 0 where it exceeds the limit or there is
+// none.
+#[no_mangle]
+pub extern "C" fn leaf_order(p: u64, f: &[u8], limit: usize) -> usize
+    ensures { λ r. ⌜ r ≡ whereSuited (isModulus p (now (f .entry)))
+        (orderWithin (prime p) (now (f .entry)) limit) 0 ⌝ }
+{
+    if is_modulus(p, f) {
+        order_within(GaloisField::of_prime(p), f, limit)
+    } else {
+        0
+    }
+}
+
+// The least common multiple of m and n, or 0 where it exceeds the limit. Numbers are at most 65,536.
+#[no_mangle]
+pub extern "C" fn leaf_common(m: usize, n: usize, limit: usize) -> usize
+    ensures { λ r. ⌜ r ≡ whereSuited (small m n limit) (commonWithin limit m n) 0 ⌝ }
+{
+    if 65536 < m {
+        return 0;
+    }
+    if 65536 < n {
+        return 0;
+    }
+    if 65536 < limit {
+        return 0;
+    }
+    common_within(m, n, limit)
 }

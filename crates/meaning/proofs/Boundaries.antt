@@ -120,15 +120,23 @@ pub record Boundaries : Type 0 where
   pub upperMissing : numberIn (rateSet 2 (x+1 ∷ (0 ∷ 1 ∷ []) ∷ []) (1 ∷ []) (0 ∷ 1 ∷ []) 4097 8192)
       ≡ some 14
   pub upperBeyond : numberIn (rateSet 2 (x+1 ∷ []) (1 ∷ 0 ∷ []) (1 ∷ []) 4097 8192) ≡ none
-  -- the bound: that of a single factor, whatever the number of upper powers, and 1 on zeros; 0 with several,
-  -- also where one alone has a power, and on zeros
-  pub boundOfOne : rateSet 2 (x+1 ∷ []) (2 ∷ 0 ∷ 7 ∷ []) (1 ∷ 0 ∷ []) 4097 8192
+  -- the repeat length: with one factor and with several, whatever the number of upper powers; 1 on zeros,
+  -- also with x among the factors; 0 where x has a power
+  pub repeatOfOne : rateSet 2 (x+1 ∷ []) (2 ∷ 0 ∷ 7 ∷ []) (1 ∷ 0 ∷ []) 4097 8192
       ≡ setAnswer (2 ∷ []) 2 2 (1 ∷ 0 ∷ 1 ∷ [])
-  pub boundOnZeros : rateSet 2 (x+1 ∷ []) (1 ∷ []) (0 ∷ []) 4097 8192 ≡ setAnswer (0 ∷ []) 0 1 (1 ∷ [])
-  pub boundOfOnePower : rateSet 2 (x+1 ∷ x²+x+1 ∷ []) (1 ∷ 1 ∷ []) (1 ∷ 1 ∷ 1 ∷ []) 4097 8192
-      ≡ setAnswer (1 ∷ 0 ∷ []) 1 0 x+1
-  pub boundOfNoPower : rateSet 2 (x+1 ∷ x²+x+1 ∷ []) (1 ∷ 1 ∷ []) (0 ∷ 0 ∷ 0 ∷ []) 4097 8192
-      ≡ setAnswer (0 ∷ 0 ∷ []) 0 0 (1 ∷ [])
+  pub repeatOnZeros : rateSet 2 (x+1 ∷ []) (1 ∷ []) (0 ∷ []) 4097 8192 ≡ setAnswer (0 ∷ []) 0 1 (1 ∷ [])
+  pub repeatOfOnePower : rateSet 2 (x+1 ∷ x²+x+1 ∷ []) (1 ∷ 1 ∷ []) (1 ∷ 1 ∷ 1 ∷ []) 4097 8192
+      ≡ setAnswer (1 ∷ 0 ∷ []) 1 1 x+1
+  pub repeatOfBoth : rateSet 2 (x+1 ∷ x²+x+1 ∷ []) (2 ∷ 1 ∷ []) (0 ∷ 0 ∷ 0 ∷ 1 ∷ []) 4097 8192
+      ≡ setAnswer (2 ∷ 1 ∷ []) 4 6 (1 ∷ 1 ∷ 0 ∷ 1 ∷ 1 ∷ [])
+  pub repeatOfNoPower : rateSet 2 (x+1 ∷ x²+x+1 ∷ []) (1 ∷ 1 ∷ []) (0 ∷ 0 ∷ 0 ∷ []) 4097 8192
+      ≡ setAnswer (0 ∷ 0 ∷ []) 0 1 (1 ∷ [])
+  pub repeatOfZerosWithX : rateSet 2 ((0 ∷ 1 ∷ []) ∷ x+1 ∷ []) (1 ∷ 1 ∷ []) (0 ∷ 0 ∷ []) 4097 8192
+      ≡ setAnswer (0 ∷ 0 ∷ []) 0 1 (1 ∷ [])
+  pub repeatOfXWithPower : rateSet 2 ((0 ∷ 1 ∷ []) ∷ x+1 ∷ []) (1 ∷ 1 ∷ []) (0 ∷ 1 ∷ []) 4097 8192
+      ≡ setAnswer (1 ∷ 1 ∷ []) 2 0 (0 ∷ 1 ∷ 1 ∷ [])
+  pub repeatOfXWithoutPower : rateSet 2 ((0 ∷ 1 ∷ []) ∷ x+1 ∷ []) (1 ∷ 1 ∷ []) (1 ∷ 1 ∷ []) 4097 8192
+      ≡ setAnswer (0 ∷ 1 ∷ []) 1 1 x+1
   -- 16: 4,097 answer bytes and 8,192 work bytes
   pub lentExactly : numberIn (ratePeriod 2 x+1 (1 ∷ []) 4097 8192) ≡ none
   pub answerShort : numberIn (ratePeriod 2 x+1 (1 ∷ []) 4096 8192) ≡ some 16
@@ -254,10 +262,14 @@ boundaries =
       oneTermFewer = refl;
       upperMissing = refl;
       upperBeyond = refl;
-      boundOfOne = refl;
-      boundOnZeros = refl;
-      boundOfOnePower = refl;
-      boundOfNoPower = refl;
+      repeatOfOne = refl;
+      repeatOnZeros = refl;
+      repeatOfOnePower = refl;
+      repeatOfBoth = refl;
+      repeatOfNoPower = refl;
+      repeatOfZerosWithX = refl;
+      repeatOfXWithPower = refl;
+      repeatOfXWithoutPower = refl;
       lentExactly = refl;
       answerShort = refl;
       workShort = refl;

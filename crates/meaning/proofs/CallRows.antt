@@ -81,7 +81,7 @@ pub record CallRows : Type 0 where
       answer
       cleared
   pub setK : SetCall 2 (x+1 ∷ x²+x+1 ∷ []) (1 ∷ 1 ∷ []) (0 ∷ 1 ∷ 1 ∷ []) answer work
-      (record { outcome = SetOutcome.Rated 2 0 2; powers = 0 ∷ 1 ∷ 0 ∷ 0 ∷ 0 ∷ 0 ∷ 0 ∷ 0 ∷ [] })
+      (record { outcome = SetOutcome.Rated 2 3 2; powers = 0 ∷ 1 ∷ 0 ∷ 0 ∷ 0 ∷ 0 ∷ 0 ∷ 0 ∷ [] })
       (1 ∷ 1 ∷ 1 ∷ replicate 4096 7)
       cleared
   pub setNine : SetCall 2 [] [] (0 ∷ []) answer work

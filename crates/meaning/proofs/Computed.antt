@@ -10,6 +10,7 @@ use Rattle.meaning.specs.Polynomial.{monicMultiple, product, eachHead, m
 use Rattle.meaning.specs.Polynomial.{irreducible}
 use Rattle.meaning.specs.Sequence.{actAt, known, periodic, annihilatesKnown, annihilatesPeriod}
 use Rattle.meaning.specs.Sequence.{actOnKnown, actOnPeriod, cut, next, continuation}
+use Rattle.meaning.specs.RepeatLength.{comesAgain, longestRepeat, leastWithin, repeatLength}
 use Rattle.meaning.specs.Result.{mapResult, firstOf, valueOf, settle, figuresOf, written, cleared}
 use Rattle.meaning.specs.Result.{answerAfter, clearing, clears, workAfter}
 use Rattle.meaning.specs.Conditions.{named, totalDegree, notPrime, countOutOfRange, placeOutOfRange}
@@ -19,11 +20,11 @@ use Rattle.meaning.specs.Conditions.{coefficientOutOfRange, notMonic}
 use Rattle.meaning.specs.Conditions.{isAsked, isReducible, twoEqual, upperPowersOutOfRange}
 use Rattle.meaning.specs.Conditions.{fewerTermsThan}
 use Rattle.meaning.specs.Conditions.{startUnlikeDegree, lentTooShort, acceptedLent}
-use Rattle.meaning.specs.Power.{isX, repeatBound, powerRating}
+use Rattle.meaning.specs.Power.{isX, powerRating}
 use Rattle.meaning.specs.Repeat.{repeatsEvery, shortestPeriod}
 use Rattle.meaning.specs.Period.{periodPower, periodTable, periodAnswer, ratePeriod}
 use Rattle.meaning.specs.Portion.{factorsOf, withPower, leastAt, setPowers, onward, setRating, setTable}
-use Rattle.meaning.specs.Portion.{setBound, setAnswer, rateSet, factorTable, acceptedFactors}
+use Rattle.meaning.specs.Portion.{setAnswer, rateSet, factorTable, acceptedFactors}
 use Rattle.meaning.specs.Free.{fitsDegree, leastDegree, isUnique, freePolynomial, freeRating, freeTable}
 use Rattle.meaning.specs.Free.{rateFree}
 use Rattle.meaning.specs.Meter.{freeFigures, startMeter, meterFull, termTable, takeTerm, meterReading}
@@ -70,6 +71,10 @@ unfoldable pub openSequence-2 : Unit {0}
 unfolding continuation
 openSequence-2 = tt
 
+unfoldable pub openRepeatLength : Unit {0}
+unfolding comesAgain longestRepeat leastWithin repeatLength
+openRepeatLength = tt
+
 unfoldable pub openResult : Unit {0}
 unfolding mapResult firstOf valueOf settle figuresOf written cleared answerAfter clearing clears
     workAfter
@@ -89,7 +94,7 @@ unfolding upperPowersOutOfRange fewerTermsThan startUnlikeDegree lentTooShort ac
 openConditions-3 = tt
 
 unfoldable pub openPower : Unit {0}
-unfolding isX repeatBound powerRating
+unfolding isX powerRating
 openPower = tt
 
 unfoldable pub openRepeat : Unit {0}
@@ -101,8 +106,8 @@ unfolding periodPower periodTable periodAnswer ratePeriod
 openPeriod = tt
 
 unfoldable pub openPortion : Unit {0}
-unfolding factorsOf withPower leastAt setPowers onward setBound setRating setTable setAnswer rateSet
-    factorTable acceptedFactors
+unfolding factorsOf withPower leastAt setPowers onward setRating setTable setAnswer rateSet factorTable
+    acceptedFactors
 openPortion = tt
 
 unfoldable pub openFree : Unit {0}
@@ -167,7 +172,7 @@ unfolding openSearch openField openPolynomial-1 openPolynomial-2 openSequence-1
 opened-1 = tt
 
 unfoldable pub opened-2 : Unit {0}
-unfolding openSequence-2 openResult openConditions-1 openConditions-2 openConditions-3
+unfolding openSequence-2 openRepeatLength openResult openConditions-1 openConditions-2 openConditions-3
 opened-2 = tt
 
 unfoldable pub opened-3 : Unit {0}

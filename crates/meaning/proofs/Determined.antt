@@ -171,11 +171,11 @@ filling-determined = determined toldFilling filling filling-told
 
 power : Result PowerFigures → Option PowerRating
 power (refused n) = refusing PowerRating.Refused n
-power (answered a) = some (PowerRating.Rated (a .power) (a .degree) (a .bound))
+power (answered a) = some (PowerRating.Rated (a .power) (a .degree) (a .repeat))
 
 power-told : (r : PowerRating) → power (toldPower r) ≡ some r
 unfolding power toldPower
-power-told (PowerRating.Rated r d b) = refl
+power-told (PowerRating.Rated r d n) = refl
 power-told (PowerRating.Refused r) = refusing-number PowerRating.Refused r
 
 pub power-determined : (r s : PowerRating) → toldPower r ≡ toldPower s → r ≡ s
@@ -183,11 +183,11 @@ power-determined = determined toldPower power power-told
 
 set : Result SetTold → Option SetOutcome
 set (refused n) = refusing SetOutcome.Refused n
-set (answered a) = some (SetOutcome.Rated (a .degree) (a .bound) (a .count))
+set (answered a) = some (SetOutcome.Rated (a .degree) (a .repeat) (a .count))
 
 set-told : (r : SetOutcome) → set (toldSet r) ≡ some r
 unfolding set toldSet
-set-told (SetOutcome.Rated d b n) = refl
+set-told (SetOutcome.Rated d m n) = refl
 set-told (SetOutcome.Refused r) = refusing-number SetOutcome.Refused r
 
 pub set-determined : (r s : SetOutcome) → toldSet r ≡ toldSet s → r ≡ s

@@ -11,8 +11,9 @@ pub mod Orders
 pub mod MeterRows
 pub mod CatalogueRows
 pub mod FirstFits
-pub mod Lines
 pub mod RepeatRows
+pub mod RepeatLengthRows
+pub mod Lines
 pub mod Lent
 pub mod Determined
 pub mod CallRows

@@ -37,7 +37,7 @@ pub record MarkedRows : Type 0 where
       → 1 ≤ n
       → n ≤ 4096
       → ratePeriod p f (zeros n) answer work ≡ powerAnswer 0 0 1 (1 ∷ [])
-  pub E : ratePeriod 3 (2 ∷ 1 ∷ []) (0 ∷ 1 ∷ 2 ∷ []) 4097 8192 ≡ powerAnswer 2 2 6 (1 ∷ 1 ∷ 1 ∷ [])
+  pub E : ratePeriod 3 (2 ∷ 1 ∷ []) (0 ∷ 1 ∷ 2 ∷ []) 4097 8192 ≡ powerAnswer 2 2 3 (1 ∷ 1 ∷ 1 ∷ [])
   pub F : ratePeriod 2 (1 ∷ 1 ∷ 1 ∷ []) (0 ∷ 0 ∷ 0 ∷ 1 ∷ []) 4097 8192 ≡ refused 17
   pub G : rateSet 2 ((1 ∷ 1 ∷ []) ∷ []) (2 ∷ []) (1 ∷ 0 ∷ []) 4097 8192
       ≡ setAnswer (2 ∷ []) 2 2 (1 ∷ 0 ∷ 1 ∷ [])
@@ -48,7 +48,7 @@ pub record MarkedRows : Type 0 where
   pub J : rateSet 2 ((0 ∷ 1 ∷ []) ∷ []) (3 ∷ []) (1 ∷ 1 ∷ 0 ∷ []) 4097 8192
       ≡ setAnswer (2 ∷ []) 2 0 (0 ∷ 0 ∷ 1 ∷ [])
   pub K : rateSet 2 ((1 ∷ 1 ∷ []) ∷ (1 ∷ 1 ∷ 1 ∷ []) ∷ []) (1 ∷ 1 ∷ []) (0 ∷ 1 ∷ 1 ∷ []) 4097 8192
-      ≡ setAnswer (0 ∷ 1 ∷ []) 2 0 (1 ∷ 1 ∷ 1 ∷ [])
+      ≡ setAnswer (0 ∷ 1 ∷ []) 2 3 (1 ∷ 1 ∷ 1 ∷ [])
   pub L : rateSet 2 ((1 ∷ 1 ∷ []) ∷ []) (1 ∷ []) (1 ∷ 0 ∷ []) 4097 8192 ≡ refused 17
 
 pub marked-rows : MarkedRows

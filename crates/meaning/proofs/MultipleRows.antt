@@ -35,7 +35,7 @@ pub record MultipleRows : Type 0 where
   pub leading-zero : monicMultiple (prime 3) (1 ∷ 0 ∷ []) ≡ []
   pub empty : monicMultiple (prime 3) [] ≡ []
   -- row E with the factor 2x + 1, twice x + 2; 2x is x
-  pub E : row-E (1 ∷ 2 ∷ []) ≡ powerAnswer 2 2 6 (1 ∷ 1 ∷ 1 ∷ [])
+  pub E : row-E (1 ∷ 2 ∷ []) ≡ powerAnswer 2 2 3 (1 ∷ 1 ∷ 1 ∷ [])
   pub x : row-E (0 ∷ 2 ∷ []) ≡ refused 17
   pub x-on-zeros : ratePeriod 3 (0 ∷ 2 ∷ []) (0 ∷ 0 ∷ []) 4097 8192 ≡ powerAnswer 0 0 1 (1 ∷ [])
   -- 11 of the list as it is given, in its place after 10
@@ -48,14 +48,14 @@ pub record MultipleRows : Type 0 where
   -- 11 leaves all lent bytes
   pub answer-kept : answerAfter (row-E (1 ∷ 0 ∷ [])) (5 ∷ 6 ∷ []) ≡ 5 ∷ 6 ∷ []
   pub work-kept : workAfter (row-E (1 ∷ 0 ∷ [])) (5 ∷ 6 ∷ []) ≡ 5 ∷ 6 ∷ []
-  -- row J over GF(3) with 2x: the bound is that of x
+  -- row J over GF(3) with 2x: it does not repeat, as with x
   pub J : rateSet 3 ((0 ∷ 2 ∷ []) ∷ []) (3 ∷ []) (1 ∷ 1 ∷ 0 ∷ []) 4097 8192
       ≡ setAnswer (2 ∷ []) 2 0 (0 ∷ 0 ∷ 1 ∷ [])
   pub single-seventeen : rateSet 3 ((1 ∷ 2 ∷ []) ∷ []) (1 ∷ []) (1 ∷ 0 ∷ []) 4097 8192 ≡ refused 17
   pub single-leading-zero : rateSet 3 ((1 ∷ 0 ∷ []) ∷ []) (1 ∷ []) (1 ∷ 0 ∷ []) 4097 8192 ≡ refused 11
   -- 2x + 2 and 2x + 1; equal are multiples of one another, whatever their upper powers
   pub both : rateSet 3 ((2 ∷ 2 ∷ []) ∷ (1 ∷ 2 ∷ []) ∷ []) (1 ∷ 1 ∷ []) (0 ∷ 1 ∷ 0 ∷ []) 4097 8192
-      ≡ setAnswer (1 ∷ 1 ∷ []) 2 0 (2 ∷ 0 ∷ 1 ∷ [])
+      ≡ setAnswer (1 ∷ 1 ∷ []) 2 2 (2 ∷ 0 ∷ 1 ∷ [])
   pub equal : rateSet 3 ((1 ∷ 1 ∷ []) ∷ (2 ∷ 2 ∷ []) ∷ []) (1 ∷ 2 ∷ []) (0 ∷ 1 ∷ 1 ∷ []) 4097 8192
       ≡ refused 13
   pub reducible : rateSet 3 ((2 ∷ 2 ∷ []) ∷ (1 ∷ 0 ∷ 2 ∷ []) ∷ []) (1 ∷ 1 ∷ []) (0 ∷ 1 ∷ 1 ∷ []) 4097 8192

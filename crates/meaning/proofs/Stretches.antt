@@ -64,8 +64,8 @@ unfolding computed
 lent = tt
 
 -- what the set way answers with one factor
-abbrev pub rated : (degree bound power : ℕ) → SetRating
-rated d b r = record { outcome = SetOutcome.Rated d b 1; powers = r ∷ 0 ∷ 0 ∷ 0 ∷ 0 ∷ 0 ∷ 0 ∷ 0 ∷ [] }
+abbrev pub rated : (degree repeat power : ℕ) → SetRating
+rated d n r = record { outcome = SetOutcome.Rated d n 1; powers = r ∷ 0 ∷ 0 ∷ 0 ∷ 0 ∷ 0 ∷ 0 ∷ 0 ∷ [] }
 
 abbrev pub tooFewTerms : SetRating
 tooFewTerms =

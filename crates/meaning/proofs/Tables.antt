@@ -8,7 +8,8 @@ use mathlib.Core.Option.{Option, none, some}
 use lib.Dec.{T, eqb}
 use borrow.Author.Tests.{ne-eqb}
 use native.Mathlib.Omega.{arith}
-use Rattle.meaning.specs.Search.{least, holdsForAll, holdsForSome, firstThat, selected, isNone}
+use Rattle.meaning.specs.Search.{least, mapOption, holdsForAll, holdsForSome, firstThat, selected}
+use Rattle.meaning.specs.Search.{isNone}
 use Rattle.meaning.specs.Result.{Check, firstOf, settle, valueOf, clearing, clears}
 
 -- a condition that does not hold is passed over
@@ -51,6 +52,10 @@ pub least-zero : (b : ℕ) (t : ℕ → Bool) → t 0 ≡ true → least b t ≡
 unfolding least
 least-zero zero t e = rw (e, least)
 least-zero (suc b) t e = rw (e, least)
+
+pub least-one : (b : ℕ) (t : ℕ → Bool) → t 0 ≡ false → t 1 ≡ true → least (suc b) t ≡ some 1
+unfolding least mapOption
+least-one b t e h = rw (e, least-zero b (λ r. t (suc r)) h, least)
 
 -- the first element passes
 pub firstThat-here : {A : Type 0} (t : A → Bool) (a : A) (l : List A) → t a ≡ true

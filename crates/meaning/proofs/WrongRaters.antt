@@ -24,7 +24,10 @@ use Rattle.meaning.proofs.Computed.{computed}
 use Rattle.meaning.proofs.Rows.{x+1, x²+1, x²+x+1}
 use Rattle.meaning.proofs.CallRows.{answer, work, fileA, fileTwice, fileH, fileI, eightZeros, differ}
 
--- THE PERIOD AND THE FREE CALL, on row B (a period, with x + 1)
+-- THE PERIOD AND THE FREE CALL, on row B (a period, with x + 1) and row E
+
+abbrev x+2 : Polynomial
+x+2 = 2 ∷ 1 ∷ []
 
 -- what a wrong rater answers on row B; the bytes afterwards may be any
 abbrev WrongOnB : PowerRating → Type 0
@@ -34,7 +37,11 @@ pub record WrongRaters : Type 0 where
   -- finds the top digit of r − 1 = 11 (base 2) and invents the other
   pub top-digit-only : WrongOnB (PowerRating.Rated 3 3 4)
   pub invented-power : WrongOnB (PowerRating.Rated 5 5 8)
-  pub invented-bound : WrongOnB (PowerRating.Rated 4 4 5)
+  pub invented-repeat : WrongOnB (PowerRating.Rated 4 4 5)
+  -- tells twice the period on row E: a number of terms after which it repeats, not the least
+  pub repeat-not-least : (answer′ work′ : List ℕ)
+      → PeriodCall 3 x+2 (0 ∷ 1 ∷ 2 ∷ []) answer work (PowerRating.Rated 2 2 6) answer′ work′
+      → ⊥
   pub seventeen-for-all : WrongOnB (PowerRating.Refused Refusal.NotAnnihilated)
   pub one-for-all : WrongOnB (PowerRating.Rated 0 0 1)
   pub refuses-all : WrongOnB (PowerRating.Refused Refusal.NotPrime)
@@ -67,8 +74,8 @@ figure f (answered a) = f a
 power-of : Result PowerFigures → ℕ
 power-of r = figure (λ a. a .power) r
 
-bound-of : Result PowerFigures → ℕ
-bound-of r = figure (λ a. a .bound) r
+repeat-of : Result PowerFigures → ℕ
+repeat-of r = figure (λ a. a .repeat) r
 
 free-degree : Result FreeFigures → ℕ
 free-degree r = figure (λ a. a .degree) r
@@ -78,12 +85,13 @@ at : ℕ → List ℕ → ℕ
 at i l = getD l i 0
 
 pub wrong-raters : WrongRaters
-unfolding computed figure power-of bound-of free-degree at
+unfolding computed figure power-of repeat-of free-degree at
 wrong-raters =
     record {
       top-digit-only = λ a w c. differ 3 4 (ap power-of (c .rating)) refl;
       invented-power = λ a w c. differ 5 4 (ap power-of (c .rating)) refl;
-      invented-bound = λ a w c. differ 5 4 (ap bound-of (c .rating)) refl;
+      invented-repeat = λ a w c. differ 5 4 (ap repeat-of (c .rating)) refl;
+      repeat-not-least = λ a w c. differ 6 3 (ap repeat-of (c .rating)) refl;
       seventeen-for-all = λ a w c. differ 1000 4 (ap power-of (c .rating)) refl;
       one-for-all = λ a w c. differ 0 4 (ap power-of (c .rating)) refl;
       refuses-all = λ a w c. differ 1000 4 (ap power-of (c .rating)) refl;
@@ -125,14 +133,15 @@ pub record WrongSets : Type 0 where
   pub top-digit-only : WrongSetOnA (SetOutcome.Rated 9 28 1) (first 3)
   -- returns the product of the upper powers
   pub upper-powers : WrongSetOnA (SetOutcome.Rated 18 56 1) (first 6)
-  pub both-upper-powers : WrongSetOnK (SetOutcome.Rated 3 0 2) (1 ∷ first 1)
+  pub both-upper-powers : WrongSetOnK (SetOutcome.Rated 3 3 2) (1 ∷ first 1)
   -- tells another power beside the right degree; the powers in the other order
   pub invented-power : WrongSetOnA (SetOutcome.Rated 12 28 1) (first 5)
-  pub powers-exchanged : WrongSetOnK (SetOutcome.Rated 2 0 2) (1 ∷ replicate 7 0)
-  -- tells the bound of the upper power, none with one factor, that of the second factor with two
-  pub bound-of-the-upper-power : WrongSetOnA (SetOutcome.Rated 12 56 1) (first 4)
-  pub no-bound-with-one : WrongSetOnA (SetOutcome.Rated 12 0 1) (first 4)
-  pub bound-with-several : WrongSetOnK (SetOutcome.Rated 2 3 2) (0 ∷ first 1)
+  pub powers-exchanged : WrongSetOnK (SetOutcome.Rated 2 3 2) (1 ∷ replicate 7 0)
+  -- tells the repeat length of the upper power, none with one factor, none with two, twice it
+  pub repeat-of-the-upper-power : WrongSetOnA (SetOutcome.Rated 12 56 1) (first 4)
+  pub no-repeat-with-one : WrongSetOnA (SetOutcome.Rated 12 0 1) (first 4)
+  pub no-repeat-with-several : WrongSetOnK (SetOutcome.Rated 2 0 2) (0 ∷ first 1)
+  pub repeat-not-least : WrongSetOnK (SetOutcome.Rated 2 6 2) (0 ∷ first 1)
   pub seventeen-for-all : WrongSetOnA (SetOutcome.Refused Refusal.NotAnnihilated) eightZeros
   pub one-for-all : WrongSetOnA (SetOutcome.Rated 0 1 1) eightZeros
   pub refuses-all : WrongSetOnA (SetOutcome.Refused Refusal.NotPrime) eightZeros
@@ -147,11 +156,11 @@ pub record WrongSets : Type 0 where
 set-degree : Result SetTold → ℕ
 set-degree r = figure (λ a. a .degree) r
 
-set-bound : Result SetTold → ℕ
-set-bound r = figure (λ a. a .bound) r
+set-repeat : Result SetTold → ℕ
+set-repeat r = figure (λ a. a .repeat) r
 
 pub wrong-sets : WrongSets
-unfolding computed figure set-degree set-bound at
+unfolding computed figure set-degree set-repeat at
 wrong-sets =
     record {
       top-digit-only = λ a w c. differ 9 12 (ap set-degree (c .rating)) refl;
@@ -159,9 +168,10 @@ wrong-sets =
       both-upper-powers = λ a w c. differ 3 2 (ap set-degree (c .rating)) refl;
       invented-power = λ a w c. differ 5 4 (ap (at 0) (c .powers)) refl;
       powers-exchanged = λ a w c. differ 1 0 (ap (at 0) (c .powers)) refl;
-      bound-of-the-upper-power = λ a w c. differ 56 28 (ap set-bound (c .rating)) refl;
-      no-bound-with-one = λ a w c. differ 0 28 (ap set-bound (c .rating)) refl;
-      bound-with-several = λ a w c. differ 3 0 (ap set-bound (c .rating)) refl;
+      repeat-of-the-upper-power = λ a w c. differ 56 28 (ap set-repeat (c .rating)) refl;
+      no-repeat-with-one = λ a w c. differ 0 28 (ap set-repeat (c .rating)) refl;
+      no-repeat-with-several = λ a w c. differ 0 3 (ap set-repeat (c .rating)) refl;
+      repeat-not-least = λ a w c. differ 6 3 (ap set-repeat (c .rating)) refl;
       seventeen-for-all = λ a w c. differ 1000 12 (ap set-degree (c .rating)) refl;
       one-for-all = λ a w c. differ 0 12 (ap set-degree (c .rating)) refl;
       refuses-all = λ a w c. differ 1000 12 (ap set-degree (c .rating)) refl;

@@ -1,26 +1,27 @@
 -- Row D of paper 01: a period of zeros has power 0 and the polynomial 1, with every accepted factor.
 -- Assumes nothing.
-use Prim.Native.Nat.{ℕ, zero, suc, _≤_}
+use Prim.Native.Nat.{ℕ, zero, suc, _+_, _%_, _≤_}
 use native.Mathlib.Nat.{zero-mod}
 use native.Mathlib.Omega.{arith}
-use mathlib.Core.Path.{_≡_, refl, _∙_, ap}
+use mathlib.Core.Path.{_≡_, refl, sym, _∙_, ap}
 use mathlib.Core.Bool.{Bool, true, false, not, true≢false}
 use mathlib.Core.List.{List, [], _∷_}
 use mathlib.Core.Option.{some}
 use lib.ListN.{length, getD, replicate, length-replicate}
-use lib.Dec.{T}
+use lib.Dec.{T, eqb}
 use borrow.Author.Tests.{eq-eqb, ne-eqb, le-ltb, lt-ltb}
-use Rattle.meaning.specs.Search.{holdsForAll, isNone, bind, mapOption}
+use Rattle.meaning.specs.Search.{range, holdsForAll, isNone, bind, mapOption}
 use Rattle.meaning.specs.Field.{prime, isElement, areElements, primeInRange, isPrime, largestPrime}
 use Rattle.meaning.specs.Polynomial.{Polynomial, power, degree, monicMultiple}
 use Rattle.meaning.specs.Sequence.{actAt, periodic, annihilatesPeriod}
-use Rattle.meaning.specs.Result.{valueOf, answered}
-use Rattle.meaning.specs.Power.{powerRating, repeatBound}
+use Rattle.meaning.specs.Result.{valueOf, answered, Rated}
+use Rattle.meaning.specs.Power.{PowerFigures, powerRating}
+use Rattle.meaning.specs.Repeat.{repeatsEvery, shortestPeriod}
 use Rattle.meaning.specs.Conditions.{notPrime, countOutOfRange, termOutOfField, coefficientOutOfRange}
 use Rattle.meaning.specs.Conditions.{factorDegreeOutOfRange, lentTooShort, acceptedLent}
 use Rattle.meaning.specs.Portion.{acceptedFactors, factorTable}
 use Rattle.meaning.specs.Period.{periodPower, periodTable, periodAnswer, ratePeriod}
-use Rattle.meaning.proofs.Tables.{settle-none, holdsForAll-every, of-one, least-zero}
+use Rattle.meaning.proofs.Tables.{settle-none, holdsForAll-every, of-one, least-zero, least-one}
 use Rattle.meaning.proofs.Passes.{Passes, _&_, nothing, accepted-passes}
 
 abbrev pub zeros : ℕ → List ℕ
@@ -39,6 +40,24 @@ one-on-zeros p n k = rw (zero-at n, zero-mod, zero-mod)
 pub power-zero : (p : ℕ) (f : Polynomial) (n : ℕ) → periodPower (prime p) f (zeros n) ≡ some 0
 unfolding periodPower annihilatesPeriod power
 power-zero p f n = least-zero _ _ (holdsForAll-every _ (λ k. eq-eqb _ 0 (one-on-zeros p n k)) _)
+
+-- zeros repeat every term
+zero-periodic : (n i : ℕ) → periodic (zeros n) i ≡ 0
+unfolding periodic
+zero-periodic n i = zero-at n (i % length (zeros n))
+
+zeros-repeat : (n : ℕ) → repeatsEvery (zeros n) 1 ≡ true
+unfolding repeatsEvery
+zeros-repeat n =
+    holdsForAll-every (λ i. eqb (periodic (zeros n) (i + 1)) (periodic (zeros n) i))
+    (λ i. eq-eqb _ _ (zero-periodic n (i + 1) ∙ sym (zero-periodic n i)))
+    (range 0 (length (zeros n)))
+
+pub repeat-one : (n : ℕ) → 1 ≤ n → shortestPeriod (zeros n) ≡ some 1
+unfolding shortestPeriod repeatsEvery
+repeat-one zero l = absurd (omega arith)
+repeat-one (suc n) l =
+    least-one (length (zeros n)) (repeatsEvery (zeros (suc n))) refl (zeros-repeat (suc n))
 
 -- 7 passes
 pub count-passes : (n : ℕ) → 1 ≤ n → n ≤ 4096 → countOutOfRange (length (zeros n)) ≡ false
@@ -82,15 +101,19 @@ zeros-passes p n f answer work h a l m =
     & ap isNone (power-zero p (monicMultiple (prime p) f) n)
     & nothing
 
+abbrev zero-rating : ℕ → Rated PowerFigures
+zero-rating k = record { figures = record { power = 0; degree = 0; repeat = k }; polynomial = 1 ∷ [] }
+
 pub zero-period : (p n : ℕ) (f : Polynomial) (answer work : ℕ)
     → T (acceptedFactors p (f ∷ []) (1 ∷ []))
     → T (acceptedLent answer work)
     → 1 ≤ n
     → n ≤ 4096
     → ratePeriod p f (zeros n) answer work
-    ≡ answered (record { figures = record { power = 0; degree = 0; bound = 1 }; polynomial = 1 ∷ [] })
-unfolding ratePeriod periodAnswer acceptedLent valueOf bind powerRating repeatBound mapOption power degree
+    ≡ answered (zero-rating 1)
+unfolding ratePeriod periodAnswer acceptedLent valueOf bind powerRating mapOption power degree
 zero-period p n f answer work h a l m =
     settle-none _ _ (zeros-passes p n f answer work h (not-false-of _ a) l m .noneHolds)
-    ∙ ap (λ o. valueOf (bind o (powerRating (prime p) (monicMultiple (prime p) f))))
+    ∙ ap (λ o. valueOf (bind o (powerRating (prime p) (monicMultiple (prime p) f) (zeros n))))
     (power-zero p (monicMultiple (prime p) f) n)
+    ∙ ap (λ o. valueOf (mapOption zero-rating o)) (repeat-one n l)

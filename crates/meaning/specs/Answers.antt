@@ -71,7 +71,7 @@ toldFilling Filling.Filled = answered tt
 toldFilling (Filling.Refused r) = refused (numberOf r)
 
 unfoldable pub toldPower : PowerRating → Result PowerFigures
-toldPower (PowerRating.Rated r d b) = answered (record { power = r; degree = d; bound = b })
+toldPower (PowerRating.Rated r d n) = answered (record { power = r; degree = d; repeat = n })
 toldPower (PowerRating.Refused r) = refused (numberOf r)
 
 unfoldable pub toldFree : FreeRating → Result FreeFigures
@@ -89,15 +89,15 @@ toldEntry (EntryRating.Refused r) = refused (numberOf r)
 
 pub record SetTold : Type 0 where
   pub degree : ℕ
-  pub bound : ℕ
+  pub repeat : ℕ
   pub count : ℕ
 
 unfoldable pub toldSet : SetOutcome → Result SetTold
-toldSet (SetOutcome.Rated d b n) = answered (record { degree = d; bound = b; count = n })
+toldSet (SetOutcome.Rated d m n) = answered (record { degree = d; repeat = m; count = n })
 toldSet (SetOutcome.Refused r) = refused (numberOf r)
 
 unfoldable pub setFiguresTold : SetFigures → SetTold
-setFiguresTold a = record { degree = a .degree; bound = a .bound; count = length (a .powers) }
+setFiguresTold a = record { degree = a .degree; repeat = a .repeat; count = length (a .powers) }
 
 pub data FileTold : Type 0 where
   withPowers : (degree denominator count : ℕ) → FileTold

@@ -5,15 +5,15 @@
 --   statusOf r         == 0 where the call is accepted, and else the number of the refusal
 --   numberAfter f r n  == the lent number n afterwards: f of the answer, and n as it was where refused
 --   PowerTold r …      == the status is that of the result r, and the three lent numbers are its power,
---                         degree and repeat bound, or as they were where it is refused
+--                         degree and repeat length, or as they were where it is refused
 --   PowerExported r …  == the same of a rating r, and the answer and work bytes are left as it says
 --                         (`rater_rate_period`)
 --   PowersAfter r b b′ == the bytes b lent for the powers, any number of them, are b′ afterwards. The powers
 --                         in the order of the factors, then zeros, are eight numbers, and so 64 bytes: as
 --                         many of these as were lent, from the front, and those lent beyond 64 as they were;
 --                         b as it was where refused. So 8·n bytes take the powers of n factors
---   SetExported r …    == `rater_rate_with_factors` with the result r: degree and bound are lent numbers; its
---                         factors are the parts of one slice (`split`)
+--   SetExported r …    == `rater_rate_with_factors` with the result r: degree and repeat length are
+--                         lent numbers; its factors are the parts of one slice (`split`)
 --   wordNumber u       == the word as a number: 1 for `one`, 0 for `some`
 --   FreeExported p ts … == `rater_rate_free`: the degree and the number of the word in the two lent numbers
 --   ProfileExported p ts … == `rater_profile`: the entries of the profile at the front of the lent bytes, as
@@ -47,16 +47,16 @@ numberAfter f (refused k) n = n
 numberAfter f (answered a) n = f a
 
 -- THE PERIOD WAY
-pub record PowerTold (result : Result PowerFigures) (power degree bound status power′ degree′ bound′ : ℕ)
+pub record PowerTold (result : Result PowerFigures) (power degree repeat status power′ degree′ repeat′ : ℕ)
     : Type 0 where
   pub told : status ≡ statusOf result
   pub powerAfter : power′ ≡ numberAfter (λ a. a .power) result power
   pub degreeAfter : degree′ ≡ numberAfter (λ a. a .degree) result degree
-  pub boundAfter : bound′ ≡ numberAfter (λ a. a .bound) result bound
+  pub repeatAfter : repeat′ ≡ numberAfter (λ a. a .repeat) result repeat
 
 pub record PowerExported (result : Result (Rated PowerFigures)) (answer work : List ℕ)
-    (power degree bound status : ℕ) (answer′ work′ : List ℕ) (power′ degree′ bound′ : ℕ) : Type 0 where
-  pub figures : PowerTold (figuresOf result) power degree bound status power′ degree′ bound′
+    (power degree repeat status : ℕ) (answer′ work′ : List ℕ) (power′ degree′ repeat′ : ℕ) : Type 0 where
+  pub figures : PowerTold (figuresOf result) power degree repeat status power′ degree′ repeat′
   pub lent : LentAfter result answer work answer′ work′
 
 -- THE SET WAY
@@ -66,11 +66,11 @@ PowersAfter (answered a) powers powers′ =
     powers′ ≡ take (length powers) (bytesOfAll (padded (a .powers))) ++ drop 64 powers
 
 pub record SetExported (result : Result (Rated SetFigures)) (answer work powers : List ℕ)
-    (degree bound status : ℕ) (answer′ work′ powers′ : List ℕ) (degree′ bound′ : ℕ) : Type 0 where
+    (degree repeat status : ℕ) (answer′ work′ powers′ : List ℕ) (degree′ repeat′ : ℕ) : Type 0 where
   pub told : status ≡ statusOf result
   pub powersLeft : PowersAfter (figuresOf result) powers powers′
   pub degreeAfter : degree′ ≡ numberAfter (λ a. a .degree) (figuresOf result) degree
-  pub boundAfter : bound′ ≡ numberAfter (λ a. a .bound) (figuresOf result) bound
+  pub repeatAfter : repeat′ ≡ numberAfter (λ a. a .repeat) (figuresOf result) repeat
   pub lent : LentAfter result answer work answer′ work′
 
 -- THE FREE WAY

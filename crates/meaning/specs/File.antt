@@ -9,8 +9,8 @@
 --   termsOf rs          == the terms of the records of kinds 5 and 6, in order
 --   Label               == what is printed after the density: the powers in factor order, or whether one
 --                          polynomial fits
---   FileFigures         == the degree (complexity), the denominator of the density, which is the shortest
---                          period in the period mode and else the number of terms given, and the label
+--   FileFigures         == the degree (complexity), the denominator of the density, which is the repeat
+--                          length in the period mode and else the number of terms given, and the label
 --   rateRecords rs answer work == the answer of the mode's way on what the records hold
 --   rateFile file answer work  == the answer for a file: the refusals 1 to 5, then those of its mode
 use Prim.Native.Nat.{ℕ}
@@ -19,13 +19,12 @@ use mathlib.Core.List.{List, [], _∷_, _++_, map}
 use mathlib.Core.Option.{none, some}
 use lib.ListN.{length, getD, take, drop}
 use lib.Dec.{eqb}
-use Rattle.meaning.specs.Search.{holdsForAll, holdsForSome, mapOption}
+use Rattle.meaning.specs.Search.{holdsForAll, holdsForSome}
 use Rattle.meaning.specs.Field.{Field, prime, areElements}
 use Rattle.meaning.specs.Polynomial.{Polynomial}
-use Rattle.meaning.specs.Result.{Result, refused, answered, valueOf, Rated}
+use Rattle.meaning.specs.Result.{Result, refused, answered, Rated}
 use Rattle.meaning.specs.Conditions.{degreeOutOfRange}
 use Rattle.meaning.specs.Power.{PowerFigures}
-use Rattle.meaning.specs.Repeat.{shortestPeriod}
 use Rattle.meaning.specs.Period.{periodAnswer}
 use Rattle.meaning.specs.Portion.{SetFigures, setAnswer}
 use Rattle.meaning.specs.Free.{FreeFigures, rateFree}
@@ -70,12 +69,11 @@ unfoldable pub fileAnswer : ℕ → ℕ → Label → Polynomial → Rated FileF
 fileAnswer d m l g =
     record { figures = record { degree = d; denominator = m; label = l }; polynomial = g }
 
-unfoldable pub ofPeriod : List ℕ → Result (Rated PowerFigures) → Result (Rated FileFigures)
-ofPeriod ts (refused n) = refused n
-ofPeriod ts (answered a) =
-    valueOf
-    (mapOption (λ n. fileAnswer (a .figures .degree) n (powers (a .figures .power ∷ [])) (a .polynomial))
-    (shortestPeriod ts))
+unfoldable pub ofPeriod : Result (Rated PowerFigures) → Result (Rated FileFigures)
+ofPeriod (refused n) = refused n
+ofPeriod (answered a) =
+    answered
+    (fileAnswer (a .figures .degree) (a .figures .repeat) (powers (a .figures .power ∷ [])) (a .polynomial))
 
 unfoldable pub ofSet : ℕ → Result (Rated SetFigures) → Result (Rated FileFigures)
 ofSet m (refused n) = refused n
@@ -93,7 +91,7 @@ ofFree m (answered a) =
 
 unfoldable pub rateMode : Mode → ℕ → List WrittenFactor → List ℕ → ℕ → ℕ → Result (Rated FileFigures)
 rateMode periodMode p fs ts answer work =
-    ofPeriod ts
+    ofPeriod
     (periodAnswer p
     (holdsForSome (fileDegreeOutOfRange (prime p)) fs)
     (holdsForSome (fileCoefficientOutOfRange (prime p)) fs)

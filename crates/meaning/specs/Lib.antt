@@ -2,6 +2,7 @@ pub mod Search
 pub mod Field
 pub mod Polynomial
 pub mod Sequence
+pub mod RepeatLength
 pub mod Result
 pub mod Conditions
 pub mod Power

@@ -42,7 +42,7 @@ periodTable p ten eleven f ts answer work =
 unfoldable pub periodAnswer : ℕ → Bool → Bool → Polynomial → List ℕ → ℕ → ℕ → Result (Rated PowerFigures)
 periodAnswer p ten eleven f ts answer work =
     settle (periodTable p ten eleven f ts answer work)
-    (λ _. bind (periodPower (prime p) f ts) (powerRating (prime p) f))
+    (λ _. bind (periodPower (prime p) f ts) (powerRating (prime p) f ts))
 
 unfoldable pub ratePeriod : ℕ → Polynomial → List ℕ → ℕ → ℕ → Result (Rated PowerFigures)
 ratePeriod p f ts =

@@ -11,9 +11,10 @@
 --                         powers is the minimal polynomial of that continuation
 --   PortionMeaning F f v ts r == r is the least power of f that annihilates that continuation, with one
 --                          factor
---   setBound F l       == the bound that is told with the pairs of factors and powers found: with one factor
---                         its repeat bound, and 0 with several
 --   Agrees F l ts      == all the terms agree with the continuation of the first D of them
+--   SetFigures         == the powers, the degree (the complexity) and the repeat length
+--   setRating F l ts rs == the answer with the powers rs: their product, and the repeat length of that
+--                         continuation, whatever the number of factors
 --   setTable           == the refusals that the way meets, in order; `ten` and `eleven` as in Period
 --   factorTable, acceptedFactors p factors uppers == factors are accepted when 6 and 9 to 14 do not turn them
 --                          down
@@ -23,9 +24,9 @@ use Prim.Native.Nat.{ℕ}
 use mathlib.Core.Path.{_≡_}
 use mathlib.Core.Bool.{Bool, not}
 use mathlib.Core.List.{List, [], _∷_, map}
-use mathlib.Core.Option.{Option, some}
+use mathlib.Core.Option.{Option}
 use lib.ListN.{length, getD, take, set}
-use Rattle.meaning.specs.Search.{range, least, mapOption, bind, isNone, together, holdsForSome}
+use Rattle.meaning.specs.Search.{range, least, mapOption, isNone, together, holdsForSome}
 use Rattle.meaning.specs.Field.{Field, prime}
 use Rattle.meaning.specs.Polynomial.{Polynomial, degree, product, monicMultiple}
 use Rattle.meaning.specs.Sequence.{Sequence, annihilatesKnown, continuation, cut, MinimalPolynomial}
@@ -36,7 +37,7 @@ use Rattle.meaning.specs.Conditions.{factorCountOutOfRange, factorDegree
 use Rattle.meaning.specs.Conditions.{coefficientOutOfRange}
 use Rattle.meaning.specs.Conditions.{isReducible, twoEqual, upperPowersOutOfRange, fewerTermsThan}
 use Rattle.meaning.specs.Conditions.{lentTooShort}
-use Rattle.meaning.specs.Power.{repeatBound}
+use Rattle.meaning.specs.RepeatLength.{repeatLength}
 
 unfoldable pub factorsOf : List (Polynomial × ℕ) → List Polynomial
 factorsOf l = map (λ f. f .0) l
@@ -65,23 +66,22 @@ PortionMeaning F f v ts r = LeastPower F f (onward F ((f, v) ∷ []) ts) r
 abbrev pub Agrees : Field → List (Polynomial × ℕ) → List ℕ → Type 0
 Agrees F l ts = cut (onward F l ts) 0 (length ts) ≡ ts
 
-unfoldable pub setBound : Field → List (Polynomial × ℕ) → Option ℕ
-setBound F [] = some 0
-setBound F (f ∷ l) = elim l [ [] ↦ repeatBound F (f .0) (f .1) | g ∷ m ↦ some 0 ]
-
 pub record SetFigures : Type 0 where
   pub powers : List ℕ
   pub degree : ℕ
-  pub bound : ℕ
+  pub repeat : ℕ
 
-unfoldable pub setRating : Field → List (Polynomial × ℕ) → List ℕ → Option (Rated SetFigures)
-setRating F l rs =
-    mapOption
-    (λ b. record {
-      figures = record { powers = rs; degree = degree (product F (named (factorsOf l) rs)); bound = b };
+unfoldable pub setRating : Field → List (Polynomial × ℕ) → List ℕ → List ℕ → Rated SetFigures
+setRating F l ts rs =
+    record {
+      figures =
+          record {
+            powers = rs;
+            degree = degree (product F (named (factorsOf l) rs));
+            repeat = repeatLength (product F (named (factorsOf l) rs)) (onward F l ts);
+          };
       polynomial = product F (named (factorsOf l) rs);
-    })
-    (setBound F (named (factorsOf l) rs))
+    }
 
 unfoldable pub setTable : ℕ → Bool → Bool → List (Polynomial × ℕ) → List ℕ → ℕ → ℕ → List Check
 setTable p ten eleven l ts answer work =
@@ -103,7 +103,7 @@ unfoldable pub setAnswer :
     ℕ → Bool → Bool → List (Polynomial × ℕ) → List ℕ → ℕ → ℕ → Result (Rated SetFigures)
 setAnswer p ten eleven l ts answer work =
     settle (setTable p ten eleven l ts answer work)
-    (λ _. bind (setPowers (prime p) l ts) (setRating (prime p) l))
+    (λ _. mapOption (setRating (prime p) l ts) (setPowers (prime p) l ts))
 
 unfoldable pub rateSet : ℕ → List Polynomial → List ℕ → List ℕ → ℕ → ℕ → Result (Rated SetFigures)
 rateSet p factors uppers ts =

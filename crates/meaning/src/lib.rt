@@ -51,16 +51,24 @@ pub enum Irreducibility {
     Refused(Refusal),
 }
 
-// The rating of a period: f to the least power annihilates it.
+// The rating of a period: f to the least power annihilates it, and it repeats every `repeat` terms.
 pub enum PowerRating {
-    Rated { power: u64, degree: u64, bound: u64 },
+    Rated {
+        power: u64,
+        degree: u64,
+        repeat: u64,
+    },
     Refused(Refusal),
 }
 
-// The rating of a portion with one to eight factors, the powers apart: with one the repeat bound, with
-// several the bound 0.
+// The rating of a portion with one to eight factors, the powers apart. The continuation repeats every
+// `repeat` terms; 0 where it never does, or not within 65,536 terms.
 pub enum SetOutcome {
-    Rated { degree: u64, bound: u64, count: u64 },
+    Rated {
+        degree: u64,
+        repeat: u64,
+        count: u64,
+    },
     Refused(Refusal),
 }
 

@@ -1,5 +1,4 @@
--- The degree of the answer of the period way is at most 4,096: what the writer of powers and the repeat bound
--- ask.
+-- The degree of the answer of the period way is at most 4,096: what the writer of powers asks.
 --
 --   period-small      == the power of a period, times the degree of its factor
 --

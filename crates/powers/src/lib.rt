@@ -1,4 +1,4 @@
-// Powers of polynomials: powers of p and the repeat bound, the search for the least power that annihilates
+// Powers of polynomials: powers of p, the search for the least power that annihilates
 // terms, and the product of powers in the answer.
 pub mod digit_search;
 pub mod levels;

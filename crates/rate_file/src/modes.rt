@@ -11,7 +11,7 @@ use rate_period::rate_period;
 use route::framing::body_of;
 use route::framing::part;
 use route::payload::lay_factor;
-ghost use Prim.Native.Nat.{_≤_, _<_};
+ghost use Prim.Native.Nat.{_≤_};
 ghost use mathlib.Core.Path.{_≡_};
 ghost use mathlib.Core.List.{[], map, flatten};
 ghost use lib.ListN.{length, getD};
@@ -50,9 +50,9 @@ pub fn rate_period_file(
     work: &mut [u8],
 ) -> FileRating
     requires { ⌜ (1 ≤ length (factorsIn (now file)))
-        × (length (getD (polynomialsIn (now file)) 0 []) ≤ 33) × (0 < length (now terms)) ⌝ }
+        × (length (getD (polynomialsIn (now file)) 0 []) ≤ 33) ⌝ }
     ensures { λ r. ⌜ RatedFile sender
-        (ofPeriod (now (terms .entry))
+        (ofPeriod
         (ratePeriod p (getD (polynomialsIn (now (file .entry))) 0 []) (now (terms .entry))
         (length (now (answer .entry))) (length (now (work .entry)))))
         (now (answer .entry)) (now (work .entry)) r (now (answer .exit)) (now (work .exit)) ⌝ }
@@ -60,7 +60,7 @@ pub fn rate_period_file(
     let mut factor = [0u8; 33];
     let n = lay_factor(body_of(file, 4, 0), &mut factor, 0);
     let rating = rate_period(p, part(&factor, 0, n), terms, answer, work);
-    of_power(sender, terms, rating)
+    of_power(sender, rating)
 }
 
 // The set way on the terms and the factors of the file, which are `count`.

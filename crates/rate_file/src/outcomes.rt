@@ -7,12 +7,9 @@ use meaning::PowerRating;
 use meaning::Refusal;
 use meaning::SetOutcome;
 use meaning::SetRating;
-use repetition::shortest_period;
-ghost use Prim.Native.Nat.{_<_};
-ghost use lib.ListN.{length};
 ghost use Rattle.meaning.specs.Result.{refused, mapResult};
-ghost use Rattle.meaning.specs.Answers.{numberOf, toldFree};
-ghost use Rattle.rate_file.specs.outcomes.Outcomes.{freeFigures, Tells, TellsPeriod, TellsSet};
+ghost use Rattle.meaning.specs.Answers.{numberOf, toldPower, toldFree};
+ghost use Rattle.rate_file.specs.outcomes.Outcomes.{powerFigures, freeFigures, Tells, TellsSet};
 
 // A refused file: no powers.
 pub fn of_refusal(sender: u64, refusal: Refusal) -> FileRating
@@ -26,27 +23,24 @@ pub fn of_refusal(sender: u64, refusal: Refusal) -> FileRating
     }
 }
 
-// The period way: one power. The density is by the shortest period of the terms, which is looked for where
-// they are rated.
-pub fn of_power(sender: u64, terms: &[u8], rating: PowerRating) -> FileRating
-    requires { ⌜ 0 < length (now terms) ⌝ }
-    ensures { λ r. ⌜ TellsPeriod sender (now (terms .entry)) rating r ⌝ }
+// The period way: one power. The density is by the repeat length.
+pub fn of_power(sender: u64, rating: PowerRating) -> FileRating
+    ensures { λ r. ⌜ Tells sender (mapResult powerFigures (toldPower rating)) r ⌝ }
 {
     match rating {
         PowerRating::Refused(refusal) => of_refusal(sender, refusal),
         PowerRating::Rated {
             power,
             degree,
-            bound: _,
+            repeat,
         } => {
             let mut powers = [0u64; 8];
             powers[0] = power;
-            let denominator = shortest_period(terms) as u64;
             FileRating {
                 sender,
                 outcome: FileOutcome::Powers {
                     degree,
-                    denominator,
+                    denominator: repeat,
                     count: 1,
                 },
                 powers,
@@ -86,7 +80,7 @@ pub fn of_free(sender: u64, denominator: u64, rating: FreeRating) -> FileRating
     }
 }
 
-// The set way: its powers as they are. A file tells no bound.
+// The set way: its powers as they are. A file tells no repeat length.
 pub fn of_set(sender: u64, denominator: u64, rating: SetRating) -> FileRating
     ensures { λ r. ⌜ TellsSet sender denominator rating r ⌝ }
 {
@@ -100,7 +94,7 @@ pub fn of_set(sender: u64, denominator: u64, rating: SetRating) -> FileRating
         },
         SetOutcome::Rated {
             degree,
-            bound: _,
+            repeat: _,
             count,
         } => FileRating {
             sender,

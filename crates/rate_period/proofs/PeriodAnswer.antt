@@ -61,10 +61,10 @@ module _ (p : ℕ) (f : Polynomial) (ts : List ℕ) (answer work : ℕ) (x : Mul
   period-settled :
       result
       ≡ settle (periodChecks p f ts answer work ++ ((17, seventeen) ∷ []))
-      (λ _. bind (periodPower (prime p) f ts) (powerRating (prime p) f))
+      (λ _. bind (periodPower (prime p) f ts) (powerRating (prime p) f ts))
   unfolding periodAnswer
   period-settled =
-      ap (λ table. settle table (λ _. bind (periodPower (prime p) f ts) (powerRating (prime p) f)))
+      ap (λ table. settle table (λ _. bind (periodPower (prime p) f ts) (powerRating (prime p) f ts)))
       (period-last p ts answer work f)
 
   pub period-prime : T (primeInRange p)
@@ -102,22 +102,22 @@ module _ (p : ℕ) (f : Polynomial) (ts : List ℕ) (answer work : ℕ) (x : Mul
             notMany = few;
           }
 
-      period-rating : result ≡ ratingFound (prime p) f (periodPower (prime p) f ts)
+      period-rating : result ≡ ratingFound (prime p) f ts (periodPower (prime p) f ts)
       unfolding isNone
       period-rating = go (periodPower (prime p) f ts) refl
         where
           go :
               (o : Option ℕ)
               → periodPower (prime p) f ts ≡ o
-              → result ≡ ratingFound (prime p) f (periodPower (prime p) f ts)
+              → result ≡ ratingFound (prime p) f ts (periodPower (prime p) f ts)
           go none z =
               period-settled
-              ∙ settled-none (prime p) f _ seventeen _ (k ∙ moved) q (ap isNone z)
-              ∙ ap (ratingFound (prime p) f) (sym z)
+              ∙ settled-none (prime p) f ts _ seventeen _ (k ∙ moved) q (ap isNone z)
+              ∙ ap (ratingFound (prime p) f ts) (sym z)
           go (some r) z =
               period-settled
-              ∙ settled-some (prime p) f _ seventeen _ (k ∙ moved) q (ap isNone z) z
-              ∙ ap (ratingFound (prime p) f) (sym z)
+              ∙ settled-some (prime p) f ts _ seventeen _ (k ∙ moved) q (ap isNone z) z
+              ∙ ap (ratingFound (prime p) f ts) (sym z)
 
       module _ {F : Field} (h : F ≡ prime p) where
         pub period-input : PeriodInput F f ts
@@ -126,9 +126,10 @@ module _ (p : ℕ) (f : Polynomial) (ts : List ℕ) (answer work : ℕ) (x : Mul
         pub period-answerable :
             {found : Found} {w w′ : List ℕ}
             → PeriodFound F f ts w w′ found
-            → Answerable F f (told found)
+            → Answerable F f ts (told found)
         period-answerable y =
             record {
+              atLeastOne = count-accepted (length ts) (x .countInRange) .0;
               monic = rw h (factor-monic (x .accepted));
               degreeInRange = rw h (x .accepted .degreeInRange);
               small =
@@ -154,15 +155,14 @@ module _ (p : ℕ) (f ts answer work : List ℕ) (m : Multiple p f ts) {v : Verd
       → v ≡ Verdict.Accepted
       → F ≡ prime p
       → PeriodFound F f ts work work′ found
-      → FoundRated F f (told found) answer r answer′
+      → FoundRated F f ts (told found) answer r answer′
       → RatedAs (periodAnswer p false false f ts (length answer) (length work)) answer work r answer′ work′
   period-rated q h x y =
-      let isPrime = period-prime p f ts (length answer) (length work) m in
       let z = period-rating p f ts (length answer) (length work) m e q in
       let k = x .power ∙ ap (λ (G : Field). periodPower G f ts) h in
       record {
-        rating = call-rating p f h k y z;
-        lent = call-lent p f h k y z isPrime (x .work);
+        rating = call-rating p f ts h k y z;
+        lent = call-lent p f ts h k y z (count-accepted (length ts) (m .countInRange) .0) (x .work);
       }
 
 -- what is given, where it is let pass
@@ -188,7 +188,7 @@ module _ (p : ℕ) (f ts answer work : List ℕ) {v : Verdict} (e : numberIn v
   given-refused q =
       let g = monicMultiple (prime p) f in
       let z =
-      ap (λ table. settle table (λ _. bind (periodPower (prime p) g ts) (powerRating (prime p) g)))
+      ap (λ table. settle table (λ _. bind (periodPower (prime p) g ts) (powerRating (prime p) g ts)))
       (period-parts p ts (length answer) (length work) f g)
       ∙ settle-given (givenTable p f ts) _ _ e q in
       let y = refused-as z (never-clears (givenTable p f ts) refl e q) in

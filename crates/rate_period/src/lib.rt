@@ -33,16 +33,16 @@ fn rate_multiple(
         Verdict::Refused(r) => PowerRating::Refused(r),
         Verdict::Accepted => {
             let found = period_power(field, work, f, terms);
-            rated(field, answer, f, found)
+            rated(field, answer, f, terms, found)
         }
     }
 }
 
 // The least power of the factor that annihilates the endless repetition of the terms, with the degree of the
-// factor to this power and the repeat bound; or the refusal by 6, 7, 8, 10, 11, 12, 16 or 17. The factor
-// stands for its monic multiple; a monic one is its own, and no copy is made of it. Accepted, it leaves the
-// multiple to the least power at the front of the answer; accepted or refused by 17, zeros in the first 8,192
-// work bytes. Every other lent byte stays as it was.
+// factor to this power and the repeat length, which is their shortest period; or the refusal by 6, 7, 8, 10,
+// 11, 12, 16 or 17. The factor stands for its monic multiple; a monic one is its own, and no copy is made of
+// it. Accepted, it leaves the multiple to the least power at the front of the answer; accepted or refused by
+// 17, zeros in the first 8,192 work bytes. Every other lent byte stays as it was.
 pub fn rate_period(
     p: u64,
     factor: &[u8],

@@ -20,7 +20,7 @@ use denote.Ref.{RefT}
 use Rattle.meaning.specs.declared.Refusal.{Refusal}
 use Rattle.meaning.specs.declared.SetOutcome.{SetOutcome}
 use Rattle.meaning.specs.declared.SetRating.{SetRating}
-use Rattle.meaning.specs.Search.{holdsForSome, bind}
+use Rattle.meaning.specs.Search.{holdsForSome, mapOption}
 use Rattle.meaning.specs.Field.{Field, prime, primeInRange}
 use Rattle.meaning.specs.Polynomial.{Polynomial, monicMultiple}
 use Rattle.meaning.specs.Conditions.{named, factorCountOutOfRange, factorDegreeOutOfRange}
@@ -146,8 +146,8 @@ module _ (p : ℕ) (fs : List Polynomial) (us ts answer work : List ℕ) {v : Ve
       let gs = map (monicMultiple (prime p)) fs in
       let z =
       ap
-      (λ table. settle table (λ _. bind (setPowers (prime p) (named gs us) ts)
-      (setRating (prime p) (named gs us))))
+      (λ table. settle table (λ _. mapOption (setRating (prime p) (named gs us) ts)
+      (setPowers (prime p) (named gs us) ts)))
       (set-parts p ts (length answer) (length work) fs gs us (length-map fs (monicMultiple (prime p))))
       ∙ settle-given (givenSetTable p fs ts) _ _ e q in
       let y = refused-call o z (lent-refused z (never-clears (givenSetTable p fs ts) refl e q)) in

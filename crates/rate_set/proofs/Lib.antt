@@ -1,4 +1,4 @@
 pub mod SetWay
-pub mod Bounds
+pub mod Powered
 pub mod Parts
 pub mod Given

@@ -4,8 +4,8 @@
 --   set-refused      == the monic multiples are refused by one of the conditions 12 to 16
 --   set-lent, set-input == what an accepted call may hand on
 --   set-seventeen    == refused by 17
---   set-powers-input, set-degrees == the powers that are found can be written as a product, and the single
---                       one has a bound
+--   set-powers-input, set-powered == the powers that are found can be written as a product, and tell the
+--                       repeat length
 --   set-rated        == rated
 -- Assumes nothing.
 use Prim.Native.Nat.{ℕ, _≤_}
@@ -23,20 +23,22 @@ use Rattle.meaning.specs.Search.{holdsForSome}
 use Rattle.meaning.specs.Field.{Field, prime}
 use Rattle.meaning.specs.Polynomial.{Polynomial, degree, product}
 use Rattle.meaning.specs.Sequence.{annihilatesKnown}
-use Rattle.meaning.specs.Conditions.{named, factorCountOutOfRange, factorDegreeOutOfRange, totalDegree}
+use Rattle.meaning.specs.Conditions.{named, factorCountOutOfRange, totalDegree}
 use Rattle.meaning.specs.Result.{Result, refused, answered, mapResult, firstOf, valueOf, Rated, figuresOf}
 use Rattle.meaning.specs.Result.{written, cleared, clearing, clears}
-use Rattle.meaning.specs.Portion.{SetFigures, setPowers, setAnswer, factorsOf, setBound}
+use Rattle.meaning.specs.RepeatLength.{repeatLength}
+use Rattle.meaning.specs.Portion.{SetFigures, factorsOf, setPowers, onward, setRating, setAnswer}
 use Rattle.meaning.specs.Answers.{numberOf, toldSet, setFiguresTold, padded, setPadded}
 use Rattle.meaning.specs.Calls.{LentAfter}
 use Rattle.meaning.proofs.Passes.{Passes}
-use Rattle.bridge.proofs.Searches.{or-false}
+use Rattle.bridge.proofs.Searches.{or-false, mapOption-some}
 use Rattle.bridge.proofs.Interpretation.{IsField}
-use Rattle.bridge.proofs.Accepted.{count-accepted, terms-accepted, enough-accepted, set-rating-of}
-use Rattle.bridge.proofs.Accepted.{set-rated as set-value}
+use Rattle.bridge.proofs.Accepted.{count-accepted, terms-accepted, enough-accepted}
 use Rattle.bridge.proofs.Products.{monics-nonempty, factorsOf-named}
-use Rattle.bridge.proofs.Irreducibles.{accepted-factors}
+use Rattle.bridge.proofs.Irreducibles.{Factors, accepted-factors}
 use Rattle.bridge.proofs.Portions.{setPowers-exists}
+use Rattle.bridge.proofs.CommonOrders.{repeatByOrders}
+use Rattle.bridge.proofs.RepeatLengths.{set-repeatLength}
 use Rattle.refusals.specs.declared.Verdict.{Verdict}
 use Rattle.refusals.specs.Verdicts.{numberIn, multiplesTable, powersTable, lentTable, setRest, setChecks}
 use Rattle.refusals.proofs.Settled.{verdict-passes, settle-early, settle-last, settle-over, set-last}
@@ -51,7 +53,9 @@ use Rattle.set_way.proofs.Sizes.{set-count, set-product, named-padded}
 use Rattle.bridge.proofs.Accepted.{lent-enough}
 use Rattle.refusals.proofs.Lent.{clearingIn, never-clears, lent-refused, lent-seventeen}
 use Rattle.refusals.proofs.Lent.{lent-rated}
+use Rattle.orders.specs.Factors.{PoweredFactors}
 use Rattle.rate_set.specs.Multiples.{Multiples, SetRatedAs}
+use Rattle.rate_set.proofs.Powered.{product-powered, accepted-degrees}
 
 -- A refusal tells its number and no powers.
 pub refused-call :
@@ -80,27 +84,33 @@ answer-polynomial F fs us rs size =
     ∙ ap (λ gs. product F (named gs rs)) (sym (factorsOf-named fs us))
 
 rated-call :
-    {result : Result (Rated SetFigures)} {fs : List Polynomial} (us : List ℕ) {answer work : List ℕ}
+    {result : Result (Rated SetFigures)} {fs : List Polynomial} (us ts : List ℕ) {answer work : List ℕ}
     {F : Field}
     (rs : List ℕ)
     {powers answer′ work′ : List ℕ} {n b k : ℕ} {s : SetRating}
     → (s .outcome ≡ SetOutcome.Rated n b k) × (s .powers ≡ powers)
     → length rs ≡ length fs
-    → result ≡ answered (set-rating-of F (named fs us) rs b)
+    → result ≡ answered (setRating F (named fs us) ts rs)
+    → b ≡ repeatLength (product F (named (factorsOf (named fs us)) rs)) (onward F (named fs us) ts)
     → powers ≡ padded rs
     → k ≡ length fs
     → ProductWritten F fs (padded rs) answer answer′ n
     → work′ ≡ cleared work
     → SetRatedAs result answer work s answer′ work′
-unfolding toldSet setFiguresTold mapResult figuresOf setPadded set-rating-of
-rated-call {fs = fs} us {answer = answer} {F = F} rs {n = n} {b = b} (o, z) size e i k y w =
+unfolding toldSet setFiguresTold mapResult figuresOf setPadded setRating
+rated-call {fs = fs} us ts {answer = answer} {F = F} rs {n = n} {b = b} (o, z) size e j i k y w =
     let g = answer-polynomial F fs us rs size in
     record {
       rating =
           ap toldSet o
-          ∙ ap (λ c. answered (record { degree = n; bound = b; count = c })) (k ∙ sym size)
-          ∙ ap (λ d. answered (record { degree = d; bound = b; count = length rs }))
+          ∙ ap (λ c. answered (record { degree = n; repeat = b; count = c })) (k ∙ sym size)
+          ∙ ap (λ d. answered (record { degree = d; repeat = b; count = length rs }))
           (y .newDegree ∙ ap degree g)
+          ∙ ap (λ m. answered (record {
+            degree = degree (product F (named (factorsOf (named fs us)) rs));
+            repeat = m;
+            count = length rs;
+          })) j
           ∙ ap (λ (r : Result (Rated SetFigures)). mapResult setFiguresTold (figuresOf r)) (sym e);
       powers = z ∙ i ∙ ap (λ (r : Result (Rated SetFigures)). setPadded (figuresOf r)) (sym e);
       lent = lent-rated e (y .answer ∙ ap (λ h. written h answer) g) w;
@@ -158,25 +168,20 @@ module _ (p : ℕ) (fs : List Polynomial) (us ts : List ℕ) (answer work : ℕ)
       not-annihilated h = rw (set-last p ts answer work fs us) (settle-last _ _ _ (k ∙ moved) q (ap not h))
 
       annihilated :
-          (rs : List ℕ) {b : ℕ}
+          (rs : List ℕ)
           → annihilatesKnown (prime p) (product (prime p) (named fs us)) ts ≡ true
           → setPowers (prime p) (named fs us) ts ≡ some rs
-          → setBound (prime p) (named (factorsOf (named fs us)) rs) ≡ some b
-          → result ≡ answered (set-rating-of (prime p) (named fs us) rs b)
+          → result ≡ answered (setRating (prime p) (named fs us) ts rs)
       unfolding setAnswer valueOf
-      annihilated rs h i j =
+      annihilated rs h i =
           rw (set-last p ts answer work fs us)
           (settle-over _ _ _ (k ∙ moved) q (ap not h)
-          ∙ ap valueOf (set-value (prime p) (named fs us) rs i j))
+          ∙ ap valueOf (mapOption-some (setRating (prime p) (named fs us) ts) i))
 
       -- the field as the code has it
       module _ {F : Field} (h : F ≡ prime p) where
         pub set-input : SetInput F fs us ts
         set-input = subst (λ G. SetInput G fs us ts) (sym h) accepted-input
-
-        pub set-degrees : holdsForSome (factorDegreeOutOfRange F) fs ≡ false
-        set-degrees =
-            subst (λ G. holdsForSome (factorDegreeOutOfRange G) fs ≡ false) (sym h) (m .degreesInRange)
 
         module _ (I : IsField F) {r : SetPowers} {w w′ : List ℕ} (y : SetFound F fs us ts w w′ r) where
           powers-exist : (rs : List ℕ) × (setPowers F (named fs us) ts ≡ some rs)
@@ -192,6 +197,9 @@ module _ (p : ℕ) (fs : List Polynomial) (us ts : List ℕ) (answer work : ℕ)
           set-powers-input n =
               let (rs, s) = powers-exist in
               subst (ProductInput F fs) (sym (answer-powers I set-input y n s)) (set-product I set-input s)
+
+          pub set-powered : r .annihilated ≡ true → PoweredFactors F fs (r .powers)
+          set-powered n = product-powered (set-powers-input n) (accepted-degrees m)
 
 module _ (p : ℕ) (fs : List Polynomial) (us ts answer work : List ℕ) (m : Multiples p fs ts)
     {v : Verdict} (e : numberIn v ≡ firstOf (setRest p fs us ts (length answer) (length work))) where
@@ -230,7 +238,7 @@ module _ (p : ℕ) (fs : List Polynomial) (us ts answer work : List ℕ) (m : Mu
         → r .annihilated ≡ true
         → k ≡ length fs
         → ProductWritten F fs (r .powers) answer answer′ d
-        → setBound F (named fs (r .powers)) ≡ some b
+        → b ≡ repeatByOrders F (named fs (r .powers))
         → (t .outcome ≡ SetOutcome.Rated d b k) × (t .powers ≡ r .powers)
         → SetRatedAs (setAnswer p false false (named fs us) ts (length answer) (length work)) answer work t
         answer′ work′
@@ -238,18 +246,20 @@ module _ (p : ℕ) (fs : List Polynomial) (us ts answer work : List ℕ) (m : Mu
         let (rs, s) = powers-exist p fs us ts (length answer) (length work) m e q h I y in
         let i = answer-powers I input y n s in
         let size = set-count I input s in
-        let bound : setBound F (named (factorsOf (named fs us)) rs) ≡ some b =
-        ap (λ (gs : List Polynomial). setBound F (named gs rs)) (factorsOf-named fs us)
-        ∙ ap (setBound F) (sym (named-padded fs rs size))
-        ∙ ap (λ l. setBound F (named fs l)) (sym i)
-        ∙ j in
-        rated-call us rs
+        let factors = subst (Factors F) (sym (factorsOf-named fs us)) (input .factors) in
+        let repeat =
+        j
+        ∙ ap (λ l. repeatByOrders F (named fs l)) i
+        ∙ ap (repeatByOrders F) (named-padded fs rs size)
+        ∙ ap (λ (gs : List Polynomial). repeatByOrders F (named gs rs)) (sym (factorsOf-named fs us))
+        ∙ sym (set-repeatLength I (named fs us) factors ts (input .inField) (input .enough) s) in
+        rated-call us ts rs
         o
         size
         (annihilated p fs us ts (length answer) (length work) m e q rs (tried ∙ n)
         (ap (λ G. setPowers G (named fs us) ts) (sym h) ∙ s)
-        (ap (λ G. setBound G (named (factorsOf (named fs us)) rs)) (sym h) ∙ bound)
-        ∙ ap (λ G. answered (set-rating-of G (named fs us) rs b)) (sym h))
+        ∙ ap (λ G. answered (setRating G (named fs us) ts rs)) (sym h))
+        repeat
         i
         k
         (subst (λ l. ProductWritten F fs l answer answer′ d) i z)

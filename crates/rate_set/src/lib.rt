@@ -3,9 +3,9 @@ use arith::GaloisField;
 use meaning::Refusal;
 use meaning::SetOutcome;
 use meaning::SetRating;
+use orders::repeat_length;
 use poly::multiples::lay_multiples;
 use poly::multiples::multiple_at;
-use powers::levels::repeat_bound;
 use powers::product::write_product;
 use refusals::Verdict;
 use refusals::ratings::given_set_verdict;
@@ -14,19 +14,16 @@ use set_way::set_powers;
 ghost use mathlib.Core.Path.{_≡_};
 ghost use mathlib.Core.Bool.{false};
 ghost use mathlib.Core.List.{map};
-ghost use mathlib.Core.Option.{some};
 ghost use lib.ListN.{length, replicate};
 ghost use Rattle.meaning.specs.declared.SetOutcome.{SetOutcome};
-ghost use Rattle.meaning.specs.Search.{holdsForSome};
 ghost use Rattle.meaning.specs.Field.{prime};
 ghost use Rattle.meaning.specs.Polynomial.{monicMultiple};
-ghost use Rattle.meaning.specs.Conditions.{named, factorDegreeOutOfRange};
-ghost use Rattle.meaning.specs.Portion.{setBound, setAnswer};
+ghost use Rattle.meaning.specs.Conditions.{named};
+ghost use Rattle.meaning.specs.Portion.{setAnswer};
 ghost use Rattle.meaning.specs.Calls.{SetCall};
 ghost use Rattle.meaning.specs.Slices.{listsOf};
-ghost use Rattle.arith.specs.Represented.{fieldOf, WellFormed, FieldOfPrime};
+ghost use Rattle.arith.specs.Represented.{fieldOf, FieldOfPrime};
 ghost use Rattle.poly.specs.multiples.Laid.{Laid};
-ghost use Rattle.powers.specs.product.Writing.{ProductInput};
 ghost use Rattle.rate_set.specs.Multiples.{Multiples, SetRatedAs};
 
 // A refusal, which has no powers.
@@ -39,32 +36,17 @@ fn refused(r: Refusal) -> SetRating
     }
 }
 
-// A rating with the degree of the polynomial, the bound, and as many powers as there are factors.
-fn rated(degree: u64, bound: u64, count: u64, powers: [u64; 8]) -> SetRating
-    ensures { λ s. ⌜ (s .outcome ≡ SetOutcome.Rated degree bound count) × (s .powers ≡ powers) ⌝ }
+// A rating with the degree of the polynomial, the repeat length, and as many powers as there are factors.
+fn rated(degree: u64, repeat: u64, count: u64, powers: [u64; 8]) -> SetRating
+    ensures { λ s. ⌜ (s .outcome ≡ SetOutcome.Rated degree repeat count) × (s .powers ≡ powers) ⌝ }
 {
     SetRating {
         outcome: SetOutcome::Rated {
             degree,
-            bound,
+            repeat,
             count,
         },
         powers,
-    }
-}
-
-// The bound that is told with the powers found: the repeat bound of a single factor, and 0 with several.
-fn single_bound(field: GaloisField, multiples: &[&[u8]], powers: &[u64]) -> u64
-    requires { ⌜ WellFormed field ⌝ }
-    requires { ⌜ ProductInput (fieldOf field) (listsOf (now multiples)) (now powers) ⌝ }
-    requires { ⌜ holdsForSome (factorDegreeOutOfRange (fieldOf field)) (listsOf (now multiples)) ≡ false ⌝ }
-    ensures { λ b. ⌜ setBound (fieldOf field) (named (listsOf (now (multiples .entry))) (now (powers .entry)))
-        ≡ some b ⌝ }
-{
-    if multiples.len() == 1 {
-        repeat_bound(field, multiples[0], powers[0])
-    } else {
-        0
     }
 }
 
@@ -92,9 +74,9 @@ fn rate_multiples(
             if found.annihilated {
                 let powers = found.powers;
                 let degree = write_product(field, answer, multiples, &powers);
-                let bound = single_bound(field, multiples, &powers);
+                let repeat = repeat_length(field, multiples, &powers);
                 let count = multiples.len() as u64;
-                rated(degree, bound, count, powers)
+                rated(degree, repeat, count, powers)
             } else {
                 refused(Refusal::NotAnnihilated)
             }
@@ -135,10 +117,10 @@ fn rate_laid(
 }
 
 // The powers of the factors in the minimal polynomial of the continuation of the first D terms, D the total
-// degree of the upper powers, the degree of that polynomial, and the bound: with a single factor the repeat
-// bound of its power, and 0 with several; or the refusal by 6 to 17. Each factor stands for its monic
-// multiple. Accepted, it leaves the polynomial at the front of the answer; accepted or refused by 17, zeros
-// in the first 8,192 work bytes. Every other lent byte stays as it was.
+// degree of the upper powers, the degree of that polynomial, and the repeat length: the least period of that
+// continuation, or 0 where there is none or it exceeds 65,536; or the refusal by 6 to 17. Each factor stands
+// for its monic multiple. Accepted, it leaves the polynomial at the front of the answer; accepted or refused
+// by 17, zeros in the first 8,192 work bytes. Every other lent byte stays as it was.
 pub fn rate_set(
     p: u64,
     factors: &[&[u8]],

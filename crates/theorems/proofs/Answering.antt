@@ -32,8 +32,7 @@ use Rattle.meaning.specs.Conditions.{notPrime, coefficientOutOfRange, isReducib
 use Rattle.meaning.specs.Conditions.{placeOutOfRange, countOutOfRange}
 use Rattle.meaning.specs.Power.{PowerFigures, powerRating}
 use Rattle.meaning.specs.Period.{periodPower, periodTable, periodAnswer, ratePeriod}
-use Rattle.meaning.specs.Portion.{SetFigures}
-use Rattle.meaning.specs.Portion.{setTable, setAnswer, rateSet, factorsOf}
+use Rattle.meaning.specs.Portion.{SetFigures, setRating, setTable, setAnswer, rateSet}
 use Rattle.meaning.specs.Free.{FreeFigures, freeRating, freeTable, rateFree}
 use Rattle.meaning.specs.Continuation.{continueSequence, continueTable, filled}
 use Rattle.meaning.specs.Irreducibility.{askIrreducible, irreducibleTable}
@@ -49,7 +48,7 @@ use Rattle.meaning.specs.Route.{lookUp}
 use Rattle.bridge.proofs.Searches.{settle-refused, settle-answered, bind-some, mapOption-some}
 use Rattle.bridge.proofs.Searches.{map-refused, or-false}
 use Rattle.bridge.proofs.Accepted.{lent-enough}
-use Rattle.bridge.proofs.Interpretation.{IsField, inRange-isField, characteristic-two}
+use Rattle.bridge.proofs.Interpretation.{inRange-isField}
 use Rattle.bridge.proofs.Polynomials.{monic-nonempty}
 use Rattle.bridge.proofs.Products.{Nonempties, monics-nonempty, factorsOf-named}
 use Rattle.bridge.proofs.Actions.{length-cut}
@@ -57,9 +56,8 @@ use Rattle.bridge.proofs.Multiples.{coefficients-lead, multiple-monic}
 use Rattle.bridge.proofs.Irreducibles.{Factors, multiples-factors, factors-monics}
 use Rattle.bridge.proofs.Portions.{setPowers-exists}
 use Rattle.bridge.proofs.Fitting.{leastDegree-some, leastDegree-least, polynomial-some}
-use Rattle.bridge.proofs.RepeatBounds.{repeatBound-exists, setBound-exists}
-use Rattle.bridge.proofs.Accepted.{prime-accepted, rating-of, power-rated, set-rating-of}
-use Rattle.bridge.proofs.Accepted.{set-rated}
+use Rattle.bridge.proofs.Repeats.{shortest-exists}
+use Rattle.bridge.proofs.Accepted.{prime-accepted, count-accepted, rating-of, power-rated}
 use Rattle.bridge.proofs.FileRatings.{period-size, set-size, free-size}
 use Rattle.theorems.specs.Ratings.{GF}
 use Rattle.theorems.specs.Answering.{periodNumbers, setNumbers, freeNumbers}
@@ -81,15 +79,15 @@ unfolding isNone
 present none e = absurd (true≢false e)
 present (some a) e = (a, refl)
 
--- there is a bound for every power
+-- there is a repeat length wherever there are terms
 power-value :
-    (p : ℕ) (f : Polynomial) (o : Option ℕ)
-    → IsField (GF p)
+    (p : ℕ) (f : Polynomial) (ts : List ℕ) (o : Option ℕ)
+    → 0 < length ts
     → (r : ℕ) × (o ≡ some r)
-    → (a : Rated PowerFigures) × (bind o (powerRating (GF p) f) ≡ some a)
-power-value p f o I (r, e) =
-    let (b, q) = repeatBound-exists (GF p) f r (characteristic-two I) in
-    (rating-of p f r b, bind-some (powerRating (GF p) f) e ∙ power-rated p f r b q)
+    → (a : Rated PowerFigures) × (bind o (powerRating (GF p) f ts) ≡ some a)
+power-value p f ts o l (r, e) =
+    let (n, q, _) = shortest-exists ts l in
+    (rating-of p f r n, bind-some (powerRating (GF p) f ts) e ∙ power-rated p f ts r n q)
 
 power-meets :
     (numbers : List ℕ)
@@ -99,8 +97,8 @@ power-meets :
     → (r : PowerRating) × (toldPower r ≡ figuresOf x)
 unfolding toldPower figuresOf
 power-meets numbers listed x t =
-    meets toldPower (λ a. PowerRating.Rated (a .power) (a .degree) (a .bound)) PowerRating.Refused (λ a. refl)
-    (λ z. refl) numbers listed (figuresOf x) (map-tells numbers (λ a. a .figures) x refl t)
+    meets toldPower (λ a. PowerRating.Rated (a .power) (a .degree) (a .repeat)) PowerRating.Refused
+    (λ a. refl) (λ z. refl) numbers listed (figuresOf x) (map-tells numbers (λ a. a .figures) x refl t)
 
 -- THE PERIOD WAY
 period-listed : Listed periodNumbers
@@ -114,7 +112,7 @@ unfolding periodAnswer periodTable
 period-tells p ten eleven f ts answer work =
     settle-tells _ (periodTable p ten eleven f ts answer work)
     (λ h.
-    power-value p f (periodPower (GF p) f ts) (inRange-isField p (prime-accepted p (h .fieldExists)))
+    power-value p f ts (periodPower (GF p) f ts) (count-accepted (length ts) (h .countInRange) .0)
     (present (periodPower (GF p) f ts) (h .annihilated)))
 
 pub period-lent :
@@ -218,8 +216,7 @@ set-tells p ten eleven l ts answer work nonempties =
     (λ h.
     let I = inRange-isField p (prime-accepted p (h .fieldExists)) in
     let (rs, e) = setPowers-exists I l (nonempties h) ts in
-    let (b, k) = setBound-exists (GF p) (named (factorsOf l) rs) (characteristic-two I) in
-    (set-rating-of (GF p) l rs b, set-rated (GF p) l rs e k))
+    (setRating (GF p) l ts rs, mapOption-some (setRating (GF p) l ts) e))
 
 pub set-lent :
     (p : ℕ) (ten eleven : Bool) (l : List (Polynomial × ℕ)) (ts : List ℕ) (answer work : ℕ)
@@ -286,7 +283,7 @@ module _ (p : ℕ) (fs : List Polynomial) (vs ts answer work : List ℕ) where
   unfolding toldSet figuresOf setFiguresTold
   set-some =
       let (o, e) =
-      meets toldSet (λ a. SetOutcome.Rated (a .degree) (a .bound) (a .count)) SetOutcome.Refused (λ a. refl)
+      meets toldSet (λ a. SetOutcome.Rated (a .degree) (a .repeat) (a .count)) SetOutcome.Refused (λ a. refl)
       (λ z. refl) setNumbers set-listed (mapResult setFiguresTold (figuresOf setResult))
       (map-tells setNumbers setFiguresTold (figuresOf setResult) refl
       (map-tells setNumbers (λ a. a .figures) setResult refl

@@ -20,13 +20,13 @@ use Rattle.meaning.specs.Conditions.{named, totalDegree, upperPowersOutOfRange,
 use Rattle.meaning.specs.Conditions.{coefficientOutOfRange}
 use Rattle.meaning.specs.Power.{PowerFigures, isX}
 use Rattle.meaning.specs.Period.{ratePeriod}
-use Rattle.meaning.specs.Portion.{acceptedFactors, factorTable, factorsOf, setPowers, onward}
+use Rattle.meaning.specs.Portion.{acceptedFactors, factorTable, factorsOf, setPowers, setRating, onward}
 use Rattle.meaning.specs.Answers.{toldPower, setFiguresTold}
 use Rattle.meaning.specs.Calls.{LentAfter}
 use Rattle.meaning.proofs.Passes.{accepted-passes}
 use Rattle.theorems.specs.Ratings.{GF, Returns}
 use Rattle.theorems.specs.CutAnywhere.{SetReturns, PeriodReturns, FreeReturns, CutAnywherePromise}
-use Rattle.bridge.proofs.Interpretation.{IsField, inRange-isField, characteristic-two}
+use Rattle.bridge.proofs.Interpretation.{IsField, inRange-isField}
 use Rattle.bridge.proofs.Polynomials.{monic-nonempty}
 use Rattle.bridge.proofs.Products.{MonicFactors, monics-nonempty, factorsOf-named, length-factorsOf}
 use Rattle.bridge.proofs.Products.{product-elements, product-single, named-one}
@@ -38,10 +38,10 @@ use Rattle.bridge.proofs.Minimal.{minimal-unique, leastPower-exists}
 use Rattle.bridge.proofs.Periods.{least-periodPower, periodPower-minimal}
 use Rattle.bridge.proofs.Fitting.{stretch-answer}
 use Rattle.bridge.proofs.Portions.{setPowers-exists, setPowers-minimal, onward-cut}
-use Rattle.bridge.proofs.RepeatBounds.{repeatBound-exists, setBound-exists}
+use Rattle.bridge.proofs.Repeats.{shortest-exists}
 use Rattle.theorems.proofs.Ways.{written-returns, one-factor}
 use Rattle.bridge.proofs.Accepted.{AcceptedTerms, accepts-free, set-answer, period-answer}
-use Rattle.bridge.proofs.Accepted.{set-rating-of, rating-of, rating-degree, rating-polynomial}
+use Rattle.bridge.proofs.Accepted.{rating-of, rating-degree, rating-polynomial}
 use Rattle.bridge.proofs.Cutting.{shifted, shifted-minimal, product-constant}
 
 -- The total degree of accepted factors is positive: there is one, with an upper power and a degree above 0.
@@ -164,13 +164,12 @@ module _
     known-annihilated k m = endless-known (GF p) (product (GF p) l) s k m annihilated
 
     set-way : (k m : ℕ) → totalDegree l ≤ m → m ≤ 4096 → SetReturns p fs vs (cut s k m) g
-    unfolding figuresOf mapResult answerAfter set-rating-of setFiguresTold rated
+    unfolding figuresOf mapResult answerAfter setRating setFiguresTold rated
     set-way k m e few answer work lent r answer′ work′ c =
-        let bound = setBound-exists (GF p) (named (factorsOf l) (powers k m .0)) (characteristic-two I) in
         let result =
         set-answer p fs vs (cut s k m) (length answer) (length work) accepted
         (terms k m (le-trans total-positive e) few)
-        lent (enough k m e) (known-annihilated k m) (powers k m .0) (bound .0) (powers k m .1) (bound .1) in (
+        lent (enough k m e) (known-annihilated k m) (powers k m .1) in (
           _,
           c .rating ∙ ap (λ x. mapResult setFiguresTold (figuresOf x)) result,
           written-returns g (rated k m) answer answer′
@@ -181,25 +180,25 @@ module _
 
     -- what an answer with a power of f returns, where that power is minimal from some place on
     power-returns :
-        (f : Polynomial) (r b k : ℕ)
+        (f : Polynomial) (r n k : ℕ)
         → MinimalPolynomial (GF p) (power (GF p) f r) (shifted s k)
         → (result : Result (Rated PowerFigures))
-        → result ≡ answered (rating-of p f r b)
+        → result ≡ answered (rating-of p f r n)
         → (told : PowerRating) (answer work answer′ work′ : List ℕ)
         → toldPower told ≡ figuresOf result
         → LentAfter result answer work answer′ work′
         → (a : PowerFigures) × (toldPower told ≡ answered a) × Returns g (a .degree) answer′
     unfolding figuresOf mapResult answerAfter
-    power-returns f r b k x result e told answer work answer′ work′ c lent = (
-      rating-of p f r b .figures,
+    power-returns f r n k x result e told answer work answer′ work′ c lent = (
+      rating-of p f r n .figures,
       c ∙ ap figuresOf e,
-      subst (λ d. Returns g d answer′) (rating-degree p f r b)
+      subst (λ d. Returns g d answer′) (rating-degree p f r n)
           (written-returns g (power (GF p) f r) answer answer′
           (monic-nonempty (GF p) (power (GF p) f r) (x .monic))
           (same-as-g (power (GF p) f r) k x)
           (lent .answerBytes
           ∙ ap (λ y. answerAfter y answer) e
-          ∙ ap (λ h. written h answer) (rating-polynomial p f r b))),
+          ∙ ap (λ h. written h answer) (rating-polynomial p f r n))),
     )
 
     -- THE PERIOD WAY
@@ -232,14 +231,14 @@ module _
         let found =
         least-periodPower I q (x .monic) (x .positive) (x .irreducibility) (cut s k n) (t .atLeastOne)
         (least .2) in
-        let bound = repeatBound-exists (GF p) q (least .0) (characteristic-two I) in
-        power-returns q (least .0) (bound .0) k
+        let repeat = shortest-exists (cut s k n) (t .atLeastOne) in
+        power-returns q (least .0) (repeat .0) k
         (subst (MinimalPolynomial (GF p) (power (GF p) q (least .0))) same
         (periodPower-minimal I q (x .monic) (x .positive) (x .irreducibility) (cut s k n) (t .atLeastOne)
         found))
         (ratePeriod p f (cut s k n) (length answer) (length work))
-        (period-answer p f (cut s k n) (length answer) (length work) (least .0) (bound .0) vs one t lent found
-        (bound .1))
+        (period-answer p f (cut s k n) (length answer) (length work) (least .0) (repeat .0) vs one t lent
+        found (repeat .1))
         told answer work answer′ work′ (c .rating) (c .lent)
 
     -- THE FREE WAY

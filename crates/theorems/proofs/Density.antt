@@ -43,7 +43,8 @@ density-told : DensityTold
 density-told file rs n x =
     let y = file-promise file (x .answer) (x .work) (x .rating) (x .answer′) (x .work′) (x .call) in
     let z = period-right (x .holds) y (withPowers (x .degree) n (x .count)) (x .told) in
-    subst (LeastPeriod (periodic (termsOf rs))) (sym (ap denominator-of (z .tells))) (z .shortest)
+    subst (LeastPeriod (periodic (termsOf rs))) (sym (ap denominator-of (z .tells)))
+    (z .rated .repeat)
   where
     denominator-of : FileTold → ℕ
     denominator-of (withPowers d m k) = m
@@ -78,11 +79,11 @@ module _ {input output : List ℕ} {rs : List RouteRecord} (h : Holds input rs p
       inr
       (record {
         degree = y .figures .degree;
-        denominator = y .denominator;
+        denominator = y .figures .repeat;
         word = joined (text ",") (map decimal (take 1 (x .eight)));
         polynomial = listIn (x .left) (y .figures .degree);
         lines = lines-of (e ∙ ap answered (y .tells));
-        shortest = y .shortest;
+        shortest = y .rated .repeat;
       })
 
 density-printed : DensityPrinted

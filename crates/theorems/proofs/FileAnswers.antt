@@ -30,7 +30,7 @@ use Rattle.meaning.specs.Print.{printed}
 use Rattle.meaning.proofs.Determined.{refusals, refusalOf, file-call-determined, record-call-determined}
 use Rattle.bridge.proofs.Searches.{map-answered, map-refused, never-answered, refused-same}
 use Rattle.bridge.proofs.Records.{records-suited, records-number}
-use Rattle.bridge.proofs.FileRatings.{known-mode, accepted-file, refused-file, file-size, period-mapped}
+use Rattle.bridge.proofs.FileRatings.{known-mode, accepted-file, refused-file, file-size, period-map}
 use Rattle.bridge.proofs.FileRatings.{set-map}
 use Rattle.bridge.proofs.FileRatings.{free-map, pairs-nonempty}
 use Rattle.theorems.specs.Answering.{Answered, OneOf, Tells, modeNumbers, readerNumbers, fileNumbers}
@@ -105,7 +105,7 @@ mode-tells :
     (rateMode m (byteOf 2 rs) (map fileFactor (bodies 4 rs)) (termsOf rs) answer work)
 unfolding rateMode
 mode-tells rs answer work periodMode =
-    map-tells _ _ _ (period-mapped (byteOf 2 rs) _ _ _ (termsOf rs) answer work .2)
+    map-tells _ _ _ (period-map _)
     (period-tells (byteOf 2 rs) _ _ _ (termsOf rs) answer work)
 mode-tells rs answer work setMode =
     map-tells _ _ _ (set-map (length (termsOf rs)) _)
@@ -173,7 +173,7 @@ mode-lent :
 unfolding rateMode
 mode-lent rs answer work periodMode h =
     period-lent (byteOf 2 rs) _ _ _ (termsOf rs) answer work
-    (moved _ _ _ (period-mapped (byteOf 2 rs) _ _ _ (termsOf rs) answer work .2) h)
+    (moved _ _ _ (period-map _) h)
 mode-lent rs answer work setMode h =
     set-lent (byteOf 2 rs) _ _ _ (termsOf rs) answer work (moved _ _ _ (set-map (length (termsOf rs)) _) h)
 mode-lent rs answer work freeMode h =

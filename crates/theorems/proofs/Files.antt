@@ -17,7 +17,6 @@ use Rattle.meaning.specs.Polynomial.{Polynomial, product}
 use Rattle.meaning.specs.Result.{Result, Rated, refused, answered, mapResult, figuresOf, answerAfter}
 use Rattle.meaning.specs.Result.{workAfter, written}
 use Rattle.meaning.specs.Power.{PowerFigures}
-use Rattle.meaning.specs.Repeat.{shortestPeriod}
 use Rattle.meaning.specs.Period.{periodTable, periodAnswer, ratePeriod, NoPower}
 use Rattle.meaning.specs.Portion.{SetFigures, setTable, setAnswer, rateSet}
 use Rattle.meaning.specs.Free.{FreeFigures, freeTable, rateFree}
@@ -38,8 +37,7 @@ use Rattle.bridge.proofs.Records.{records-suited, records-whole, records-number
 use Rattle.bridge.proofs.WrittenFactors.{AllFull, all-full, period-lists, set-lists, first-itself}
 use Rattle.bridge.proofs.WrittenFactors.{lists-themselves}
 use Rattle.bridge.proofs.FileRatings.{known-mode, unknown-mode, accepted-file, refused-file, exactly-one}
-use Rattle.bridge.proofs.FileRatings.{period-terms, period-mapped, set-map, free-map}
-use Rattle.bridge.proofs.Repeats.{shortest-least}
+use Rattle.bridge.proofs.FileRatings.{period-map, set-map, free-map}
 use Rattle.meaning.specs.Conditions.{named}
 use Rattle.theorems.specs.Ratings.{GF, PeriodAnswered, SetAnswered, NoneBegins}
 use Rattle.theorems.specs.Files.{factorsIn, polynomialsIn, uppersIn, PeriodFile, SetFile, FreeFile}
@@ -155,21 +153,22 @@ module _ (file answer work : List ℕ) (r : FileRating) (answer′ work′ : Lis
       one-factor : length fs ≡ 1
       one-factor = length-map (bodies 4 rs) fileFactor ∙ exactly-one rs mode (records-suited file its)
 
-      period-is : result ≡ ofPeriod ts periodResult
+      period-is : result ≡ ofPeriod periodResult
       unfolding rateMode
       period-is = by-mode periodMode mode
 
       period-rated :
-          (a : FileTold) (b : Rated FileFigures) (d : Rated PowerFigures) (n : ℕ)
-          → (0 < length ts → shortestPeriod ts ≡ some n)
+          (a : FileTold) (b : Rated FileFigures) (d : Rated PowerFigures)
           → result ≡ answered b
           → fileFiguresTold (b .figures) ≡ a
           → periodResult ≡ answered d
-          → fileAnswer (d .figures .degree) n (powers (d .figures .power ∷ [])) (d .polynomial) ≡ b
+          → fileAnswer (d .figures .degree) (d .figures .repeat) (powers (d .figures .power ∷ []))
+          (d .polynomial)
+          ≡ b
           → PeriodFile rs a (r .powers) answer′
       unfolding periodAnswer periodTable fileAnswer fileFiguresTold labelTold labelPowers toldPower figuresOf
           mapResult
-      period-rated a b d n s q u w v =
+      period-rated a b d q u w v =
           let (h, _) =
           settle-answered _ (periodTable p ten eleven first ts (length answer) (length work)) w in
           let I = inRange-isField p (prime-accepted p (h .fieldExists)) in
@@ -182,10 +181,6 @@ module _ (file answer work : List ℕ) (r : FileRating) (answer′ work′ : Lis
             factor = first;
             its-factor = single (polynomialsIn rs) (length-map fs polynomialOf ∙ one-factor);
             figures = d .figures;
-            denominator = n;
-            shortest =
-                let l = period-terms p ten eleven first ts (length answer) (length work) w in
-                shortest-least ts l (s l);
             tells = sym u ∙ sym (ap (λ b. fileFiguresTold (b .figures)) v);
             places = eight-of q ∙ sym (ap placesIn v);
             rated =
@@ -193,7 +188,8 @@ module _ (file answer work : List ℕ) (r : FileRating) (answer′ work′ : Lis
                 (first-itself p fs full I (h .degreesInRange) (h .coefficientsInRange) ts (length answer)
                 (length work) (omega (arith, one-factor)))
                 (period-promise p first ts answer work
-                (PowerRating.Rated (d .figures .power) (d .figures .degree) (d .figures .bound)) answer′ work′
+                (PowerRating.Rated (d .figures .power) (d .figures .degree) (d .figures .repeat))
+                answer′ work′
                 (record {
                   rating = sym (ap figuresOf same);
                   lent = lent-moved q same (sym (ap (λ b. b .polynomial) v)) (c .lent);
@@ -205,16 +201,15 @@ module _ (file answer work : List ℕ) (r : FileRating) (answer′ work′ : Lis
           (a : FileTold) → toldFile (r .outcome) ≡ answered a → PeriodFile rs a (r .powers) answer′
       period-file a e =
           let (b, q, u) = told-answered a e in
-          let (n, s, m) = period-mapped p ten eleven first ts (length answer) (length work) in
-          let (d, w, v) = map-answered _ periodResult (sym m ∙ sym period-is ∙ q) in
-          period-rated a b d n s q u w v
+          let (d, w, v) = map-answered _ periodResult (sym (period-map periodResult) ∙ sym period-is ∙ q) in
+          period-rated a b d q u w v
 
       period-seventeen : toldFile (r .outcome) ≡ refused 17 → SeventeenBy periodMode rs
       unfolding periodAnswer periodTable
       period-seventeen e =
           let w : periodResult ≡ refused 17 =
           map-refused _ periodResult
-          (sym (period-mapped p ten eleven first ts (length answer) (length work) .2)
+          (sym (period-map periodResult)
           ∙ sym period-is
           ∙ told-refused 17 e) in
           let (h, _) =
@@ -275,7 +270,8 @@ module _ (file answer work : List ℕ) (r : FileRating) (answer′ work′ : Lis
                 (set-promise p (polynomialsIn rs) (uppersIn rs) ts answer work
                 (record {
                   outcome =
-                      SetOutcome.Rated (d .figures .degree) (d .figures .bound) (length (d .figures .powers));
+                      SetOutcome.Rated (d .figures .degree) (d .figures .repeat)
+                      (length (d .figures .powers));
                   powers = r .powers;
                 })
                 answer′ work′

@@ -55,13 +55,14 @@ number-map g f (answered a) n = refl
 -- THE PERIOD WAY
 pub period-export : PeriodExport
 unfolding holdsForSome
-period-export p f ts answer work power degree bound status answer′ work′ power′ degree′ bound′ x =
+period-export p f ts answer work power degree repeat status answer′ work′ power′ degree′ repeat′ x =
     let answers = period-answers p f ts answer work in
     let (r, _, _, c₀) = answers .some in
     let c : PeriodCall p f ts answer work r answer′ work′ =
     record { rating = c₀ .rating; lent = x .lent } in
     let each = answers .each r answer′ work′ c in
-    let figures = subst (λ y. PowerTold y power degree bound status power′ degree′ bound′) (sym (c₀ .rating))
+    let figures =
+    subst (λ y. PowerTold y power degree repeat status power′ degree′ repeat′) (sym (c₀ .rating))
     (x .figures) in
     record {
       told = toldPower r;
@@ -86,7 +87,7 @@ powers-left x powers powers′ h (a, e) =
 
 pub set-export : SetExport
 unfolding PowersAfter holdsForSome figuresOf setFiguresTold
-set-export p fs vs ts answer work powers degree bound status answer′ work′ powers′ degree′ bound′ x =
+set-export p fs vs ts answer work powers degree repeat status answer′ work′ powers′ degree′ repeat′ x =
     let result = figuresOf (rateSet p fs vs ts (length answer) (length work)) in
     let answers = set-answers p fs vs ts answer work in
     let (r, _, _, c₀) = answers .some in
@@ -106,10 +107,10 @@ set-export p fs vs ts answer work powers degree bound status answer′ work′ p
           x .degreeAfter
           ∙ number-map setFiguresTold (λ a. a .degree) result degree
           ∙ ap (λ y. numberAfter (λ a. a .degree) y degree) (sym (c₀ .rating));
-      bound-told =
-          x .boundAfter
-          ∙ number-map setFiguresTold (λ a. a .bound) result bound
-          ∙ ap (λ y. numberAfter (λ a. a .bound) y bound) (sym (c₀ .rating));
+      repeat-told =
+          x .repeatAfter
+          ∙ number-map setFiguresTold (λ a. a .repeat) result repeat
+          ∙ ap (λ y. numberAfter (λ a. a .repeat) y repeat) (sym (c₀ .rating));
       powers-told =
           λ a.
           let (b, e) = a in

@@ -3,14 +3,11 @@
 use native.Mathlib.Omega.{arith}
 use Rattle.meaning.specs.Search.{holdsForSome}
 use Rattle.meaning.specs.Route.{records}
-use Rattle.theorems.specs.Ratings.{GF, RepeatPromise}
 use Rattle.theorems.specs.Answering.{periodNumbers, setNumbers, freeNumbers}
 use Rattle.theorems.specs.Answering.{continueNumbers, irreducibleNumbers, readerNumbers, fileNumbers}
 use Rattle.theorems.specs.Answering.{NeverZero}
 use Rattle.theorems.specs.Catalogue.{searchNumbers}
 use Rattle.theorems.specs.Promises.{Promises}
-use Rattle.bridge.proofs.Interpretation.{characteristic-two}
-use Rattle.bridge.proofs.RepeatBounds.{repeatBound-exists, repeatBound-bounds}
 use Rattle.theorems.proofs.Telling.{tells-zero, no-zero}
 use Rattle.theorems.proofs.Answering.{period-answers, set-answers, free-answers}
 use Rattle.theorems.proofs.Answering.{continue-answers, irreducible-answers, prime-answers}
@@ -18,7 +15,7 @@ use Rattle.theorems.proofs.Answering.{period-told, set-told, free-tells
 use Rattle.theorems.proofs.Answering.{irreducible-tells}
 use Rattle.theorems.proofs.FileAnswers.{file-answers, record-answers, program-answers, file-tells}
 use Rattle.theorems.proofs.FileAnswers.{read-tells, file-within}
-use Rattle.theorems.proofs.Words.{field-of, prime-words, irreducible-words, prime-promise}
+use Rattle.theorems.proofs.Words.{prime-words, irreducible-words, prime-promise}
 use Rattle.theorems.proofs.Words.{irreducible-promise, continue-promise, multiple-promise}
 use Rattle.theorems.proofs.Words.{multiples-promise}
 use Rattle.theorems.proofs.Ways.{period-promise, set-promise, free-promise}
@@ -31,16 +28,6 @@ use Rattle.theorems.proofs.OtherLanguages.{continue-export, irreducible
 use Rattle.theorems.proofs.Meters.{start-answers, meter-promise, profile-export}
 use Rattle.theorems.proofs.Catalogue.{search-answers, search-tells, entry-answers, catalogue-promise}
 use Rattle.theorems.proofs.Catalogue.{entry-promise, search-export}
-
-repeat-bounded : RepeatPromise
-repeat-bounded p f r h m l i =
-    let I = field-of p h in
-    let bound = repeatBound-exists (GF p) f r (characteristic-two I) in
-    record {
-      bound = bound .0;
-      found = bound .1;
-      bounds = λ c. repeatBound-bounds I f m l i r (bound .0) c (bound .1);
-    }
 
 never-zero : NeverZero
 unfolding holdsForSome
@@ -90,7 +77,6 @@ promises =
       continuation = continue-promise;
       irreducibility = irreducible-promise;
       primes = prime-promise;
-      repeat-bound = repeat-bounded;
       multiple = multiple-promise;
       multiples = multiples-promise;
       prime-words = prime-words;

@@ -1,44 +1,45 @@
 -- Demand 2: what the calls of the three ways return is right, from their contracts alone.
 -- Assumes nothing.
-use Prim.Native.Nat.{ℕ, suc, _*_, _^_, _≤_, _<_}
-use native.Mathlib.Nat.{mul-le-mul-right, le-trans}
+use Prim.Native.Nat.{ℕ, suc, _*_, _≤_, _<_}
+use native.Mathlib.Nat.{le-trans}
 use native.Mathlib.Omega.{arith}
 use mathlib.Core.Path.{_≡_, refl, sym, ap, subst, _∙_}
 use mathlib.Core.Bool.{true, false, not}
 use mathlib.Core.List.{List, [], _∷_, map}
-use mathlib.Core.Option.{some, Option·some-injective}
+use mathlib.Core.Option.{some}
 use lib.ListN.{length, getD, take}
 use lib.Seq.{take-at}
 use lib.Dec.{T, T-not}
 use Rattle.meaning.specs.declared.PowerRating.{PowerRating}
 use Rattle.meaning.specs.declared.SetRating.{SetRating}
 use Rattle.meaning.specs.Search.{holdsForSome}
-use Rattle.meaning.specs.Field.{primeInRange, areElements}
+use Rattle.meaning.specs.Field.{areElements}
 use Rattle.meaning.specs.Polynomial.{Polynomial, degree, isMonicOver, power, product, irreducible}
 use Rattle.meaning.specs.Polynomial.{monicMultiple}
-use Rattle.meaning.specs.Sequence.{Sequence, InField, periodic, annihilatesKnown, MinimalPolynomial}
+use Rattle.meaning.specs.Sequence.{Sequence, periodic, annihilatesKnown, MinimalPolynomial}
 use Rattle.meaning.specs.Result.{Check, Result, Rated, answered, refused, figuresOf, mapResult, answerAfter}
 use Rattle.meaning.specs.Result.{written}
 use Rattle.meaning.specs.Conditions.{named, totalDegree, notPrime, factorDegreeOutOfRange, notMonic}
 use Rattle.meaning.specs.Conditions.{coefficientOutOfRange, isReducible, twoEqual}
-use Rattle.meaning.specs.Power.{PowerFigures, repeatBound}
+use Rattle.meaning.specs.RepeatLength.{RepeatMeaning, repeatLength}
+use Rattle.meaning.specs.Power.{PowerFigures}
 use Rattle.meaning.specs.Period.{NoPower, periodPower, ratePeriod, periodAnswer, periodTable}
 use Rattle.meaning.specs.Portion.{acceptedFactors, factorTable, factorsOf, leastAt, onward, SetFigures}
-use Rattle.meaning.specs.Portion.{setPowers, setBound, setTable, setAnswer, rateSet}
+use Rattle.meaning.specs.Portion.{setPowers, setRating, setTable, setAnswer, rateSet}
 use Rattle.meaning.specs.Free.{freeTable, rateFree}
 use Rattle.meaning.specs.Answers.{SetTold, toldPower, toldSet, setFiguresTold, setPadded}
 use Rattle.meaning.specs.Calls.{PeriodCall, SetCall}
 use Rattle.meaning.proofs.Tables.{of-one, isNone-none}
 use Rattle.meaning.proofs.Passes.{Passes, accepted-passes}
-use Rattle.theorems.specs.Ratings.{GF, listIn, Returns, BoundTold, PeriodPromise, PeriodAnswered}
+use Rattle.theorems.specs.Ratings.{GF, listIn, Returns, PeriodPromise, PeriodAnswered}
 use Rattle.theorems.specs.Ratings.{SetPromise, SetAnswered, SingleAnswered}
 use Rattle.theorems.specs.Ratings.{FreePromise, FreeAnswered, NoneBegins}
 use Rattle.bridge.proofs.Searches.{settle-answered, settle-refused, map-answered, map-refused}
-use Rattle.bridge.proofs.Searches.{true-T, not-false}
-use Rattle.bridge.proofs.Interpretation.{IsField, prime-pos, inRange-isField, inRange-prime}
-use Rattle.bridge.proofs.Polynomials.{monic-nonempty, getD-below}
+use Rattle.bridge.proofs.Searches.{true-T, not-false, some-mapOption}
+use Rattle.bridge.proofs.Interpretation.{IsField, inRange-isField}
+use Rattle.bridge.proofs.Polynomials.{monic-nonempty}
 use Rattle.bridge.proofs.Minimal.{minimal-degree}
-use Rattle.bridge.proofs.Products.{Nonempties, MonicFactors, length-named, length-factorsOf, powerAt-named}
+use Rattle.bridge.proofs.Products.{Nonempties, MonicFactors, length-named, powerAt-named}
 use Rattle.bridge.proofs.Products.{degree-power, degree-product, product-monic}
 use Rattle.bridge.proofs.Products.{accepted-monic, factorsOf-named, monics-nonempty, product-single}
 use Rattle.bridge.proofs.Products.{total-one}
@@ -47,16 +48,15 @@ use Rattle.bridge.proofs.Irreducibles.{multiples-factors, single-factor}
 use Rattle.bridge.proofs.Multiples.{coefficients-lead, multiple-ten, multiple-eleven, multiples-ten}
 use Rattle.bridge.proofs.Multiples.{multiples-eleven}
 use Rattle.bridge.proofs.Portions.{setPowers-minimal, annihilated-agrees, nothing-continues, portion-least}
-use Rattle.bridge.proofs.Portions.{portion-minimal, onward-continues, onward-unique, leastAt-upper}
+use Rattle.bridge.proofs.Portions.{onward-continues, onward-unique, leastAt-upper}
 use Rattle.bridge.proofs.Portions.{setPowers-places}
 use Rattle.bridge.proofs.Periods.{periodPower-least, periodPower-minimal, periodPower-none, periodPower-size}
 use Rattle.bridge.proofs.Fitting.{leastDegree-least, least-bound, fits-only, isUnique-le, le-isUnique}
 use Rattle.bridge.proofs.Fitting.{FirstFit, free-rated}
-use Rattle.bridge.proofs.RepeatBounds.{prime-repeatBound-bits, repeatBound-meaning, setBound-one}
-use Rattle.bridge.proofs.RepeatBounds.{setBound-several}
+use Rattle.bridge.proofs.Repeats.{shortest-least}
+use Rattle.bridge.proofs.RepeatLengths.{set-repeatMeaning}
 use Rattle.bridge.proofs.Accepted.{count-accepted, terms-accepted, prime-accepted, enough-accepted}
-use Rattle.bridge.proofs.Accepted.{total-accepted, rating-of, rating-polynomial, rated-power, set-rating-of}
-use Rattle.bridge.proofs.Accepted.{rated-set}
+use Rattle.bridge.proofs.Accepted.{total-accepted, rating-of, rating-polynomial, rated-power}
 
 -- What a call returns, from the bytes that it leaves.
 whole : (h : Polynomial) → 0 < length h → length h ≡ suc (degree h)
@@ -79,8 +79,6 @@ written-returns g h answer answer′ l e b =
 -- ONE FACTOR that 6, 10, 11 and 12 let pass
 pub record OneFactor (p : ℕ) (f : Polynomial) : Type 1 where
   pub isField : IsField (GF p)
-  pub inRange : T (primeInRange p)
-  pub degreeInRange : factorDegreeOutOfRange (GF p) f ≡ false
   pub monic : T (isMonicOver (GF p) f)
   pub positive : 1 ≤ degree f
   pub irreducibility : T (irreducible (GF p) f)
@@ -96,8 +94,6 @@ one-factor-of p f six ten eleven twelve =
     let m = accepted-monic (GF p) f eleven in
     record {
       isField = inRange-isField p (prime-accepted p six);
-      inRange = prime-accepted p six;
-      degreeInRange = ten;
       monic = m;
       positive = accepted-degree (GF p) f (monic-nonempty (GF p) f m) ten;
       irreducibility = accepted-irreducible p f six ten eleven twelve;
@@ -126,30 +122,6 @@ one-factor p f vs h =
     multiple-of p f (x .fieldExists) (of-one _ f (x .degreesInRange)) (of-one _ f (x .coefficientsInRange))
     (of-one _ (monicMultiple (GF p) f) (x .irreducible))
 
--- the bound that is told
-bound-told :
-    (p : ℕ) (f : Polynomial)
-    → OneFactor p f
-    → (r b : ℕ) (s : Sequence)
-    → InField (GF p) s
-    → MinimalPolynomial (GF p) (power (GF p) f r) s
-    → r * degree f ≤ 4096
-    → repeatBound (GF p) f r ≡ some b
-    → BoundTold p f r b s
-bound-told p f x r b s inField min few e =
-    let (small, P) = inRange-prime p (x .inRange) in
-    let bits : b < 2 ^ 64 =
-    prime-repeatBound-bits p f r b (monic-nonempty (GF p) f (x .monic)) (prime-pos P) small
-    (x .degreeInRange) few e in
-    record {
-      value = e;
-      bits64 = bits;
-      meaning =
-          λ c.
-          repeatBound-meaning (x .isField) f (x .monic) (x .positive) (x .irreducibility) r b c e bits s
-          inField (min .annihilates);
-    }
-
 -- the degree of a power
 power-small :
     (p : ℕ) (f : Polynomial)
@@ -162,17 +134,17 @@ power-small p f x r few =
 
 -- what an answer with a power returns
 power-returns :
-    (p : ℕ) (f : Polynomial) (r b : ℕ) (s : Sequence) (result : Result (Rated PowerFigures))
+    (p : ℕ) (f : Polynomial) (r n : ℕ) (s : Sequence) (result : Result (Rated PowerFigures))
     (answer answer′ : List ℕ)
     → MinimalPolynomial (GF p) (power (GF p) f r) s
-    → result ≡ answered (rating-of p f r b)
+    → result ≡ answered (rating-of p f r n)
     → answer′ ≡ answerAfter result answer
     → Returns (power (GF p) f r) (degree (power (GF p) f r)) answer′
 unfolding answerAfter
-power-returns p f r b s result answer answer′ min e lent =
+power-returns p f r n s result answer answer′ min e lent =
     let g = power (GF p) f r in
     written-returns g g answer answer′ (monic-nonempty (GF p) g (min .monic)) refl
-    (lent ∙ ap (λ y. answerAfter y answer) e ∙ ap (λ h. written h answer) (rating-polynomial p f r b))
+    (lent ∙ ap (λ y. answerAfter y answer) e ∙ ap (λ h. written h answer) (rating-polynomial p f r n))
 
 not-continued :
     (p : ℕ) (g : Polynomial) (ts : List ℕ) → not (annihilatesKnown (GF p) g ts) ≡ true → NoneBegins p g ts
@@ -180,11 +152,6 @@ not-continued p g ts h =
     nothing-continues (GF p) g ts (T-not (annihilatesKnown (GF p) g ts) (true-T h))
 
 -- THE PERIOD WAY
-periodic-inField :
-    (p : ℕ) → IsField (GF p) → (ts : List ℕ) → T (areElements (GF p) ts) → InField (GF p) (periodic ts)
-unfolding periodic
-periodic-inField p I ts h k = getD-below I ts h _
-
 period-rated :
     (p : ℕ) (f : Polynomial) (ts answer work : List ℕ) (r : PowerRating) (answer′ work′ : List ℕ)
     → PeriodCall p f ts answer work r answer′ work′
@@ -202,7 +169,7 @@ period-rated p f ts answer work r answer′ work′ c a e =
     (length work))
     q in
     let x = multiple-of p f (h .fieldExists) (h .degreesInRange) (h .coefficientsInRange) (h .irreducible) in
-    let (n, bound, y, z, t) = rated-power p g (periodPower (GF p) g ts) w in
+    let (n, repeat, y, z, t) = rated-power p g ts (periodPower (GF p) g ts) w in
     let count = count-accepted (length ts) (h .countInRange) in
     let els = terms-accepted p ts (h .termsInField) in
     let min =
@@ -210,7 +177,7 @@ period-rated p f ts answer work r answer′ work′ c a e =
     let few =
     periodPower-size (x .isField) g (x .monic) (x .positive) (x .irreducibility) ts (count .0) els y in
     let returns =
-    power-returns p g n bound (periodic ts) result answer answer′ min (q ∙ ap answered (sym t))
+    power-returns p g n repeat (periodic ts) result answer answer′ min (q ∙ ap answered (sym t))
     (c .lent .answerBytes) in
     subst (λ a. PeriodAnswered p g ts a answer′) (ap (λ b. b .figures) t ∙ v)
     (record {
@@ -218,9 +185,7 @@ period-rated p f ts answer work r answer′ work′ c a e =
       least = periodPower-least (GF p) g ts (count .0) y;
       minimal = subst (λ h. MinimalPolynomial (GF p) h (periodic ts)) (sym (returns .coefficients)) min;
       returns = returns;
-      bound =
-          bound-told p g x n bound (periodic ts) (periodic-inField p (x .isField) ts els) min
-          (le-trans few (count .1)) z;
+      repeat = shortest-least ts (count .0) z;
     })
 
 pub period-none :
@@ -276,7 +241,7 @@ single-of p fs vs {f} e six ten eleven twelve =
     (of-one _ f (ap (holdsForSome (notMonic (GF p))) (sym same) ∙ multiples-eleven I fs eleven))
     (of-one _ f (ap (λ l. holdsForSome (isReducible p) (factorsOf l)) (sym e) ∙ twelve))
 
--- one power is found for it, and the bound is that of this power
+-- one power is found for it
 module _ (p : ℕ) (f : Polynomial) (v : ℕ) (ts : List ℕ) (x : OneFactor p f) where
   abbrev one : List (Polynomial × ℕ)
   one = (f, v) ∷ []
@@ -293,23 +258,19 @@ module _ (p : ℕ) (f : Polynomial) (v : ℕ) (ts : List ℕ) (x : OneFactor p f
       (rs : List ℕ) (a : SetTold) (answer′ : List ℕ)
       → T (areElements (GF p) ts)
       → totalDegree ((f, v) ∷ []) ≤ length ts
-      → totalDegree ((f, v) ∷ []) ≤ 4096
       → setPowers (GF p) ((f, v) ∷ []) ts ≡ some rs
-      → setBound (GF p) (named (f ∷ []) rs) ≡ some (a .bound)
       → Returns (product (GF p) (named (f ∷ []) rs)) (a .degree) answer′
       → (r : ℕ) × (rs ≡ r ∷ []) × SingleAnswered p f v ts r a answer′
   unfolding named
-  single-answered [] a answer′ els enough few e k back =
+  single-answered [] a answer′ els enough e back =
       absurd (omega (arith, setPowers-places (x .isField) one one-nonempties ts e .0))
-  single-answered (r ∷ q ∷ rs) a answer′ els enough few e k back =
+  single-answered (r ∷ q ∷ rs) a answer′ els enough e back =
       absurd (omega (arith, setPowers-places (x .isField) one one-nonempties ts e .0))
-  single-answered (r ∷ []) a answer′ els enough few e k back =
+  single-answered (r ∷ []) a answer′ els enough e back =
       let y : leastAt (GF p) one ts 0 ≡ some r =
       setPowers-places (x .isField) one one-nonempties ts e .1 0 (omega arith) in
       let size : v * degree f ≤ length ts = subst (λ d. d ≤ length ts) (total-one f v) enough in
-      let upper : r ≤ v = leastAt-upper (x .isField) one one-nonempties ts 0 y in
-      let min =
-      portion-minimal (x .isField) f (x .monic) v ts els size (x .positive) (x .irreducibility) y in (
+      let upper : r ≤ v = leastAt-upper (x .isField) one one-nonempties ts 0 y in (
         r,
         refl,
         record {
@@ -318,11 +279,6 @@ module _ (p : ℕ) (f : Polynomial) (v : ℕ) (ts : List ℕ) (x : OneFactor p f
           returns =
               subst (λ g. Returns g (a .degree) answer′)
               (product-single (x .isField) f r (monic-nonempty (GF p) f (x .monic))) back;
-          bound =
-              bound-told p f x r (a .bound) (onward (GF p) one ts)
-              (onward-continues (x .isField) one one-monics ts els enough .inField) min
-              (le-trans (mul-le-mul-right (degree f) upper) (subst (λ d. d ≤ 4096) (total-one f v) few))
-              (sym (setBound-one (GF p) f r) ∙ k);
         },
       )
 
@@ -354,15 +310,13 @@ module _ (p : ℕ) (fs : List Polynomial) (vs ts answer work : List ℕ) (r : Se
         (ap twoEqual (sym same) ∙ h .different))
 
     set-answered :
-        (rs : List ℕ) (bound : ℕ)
+        (rs : List ℕ)
         → Passes table
         → setPowers (GF p) l ts ≡ some rs
-        → setBound (GF p) (named (factorsOf l) rs) ≡ some bound
-        → result ≡ answered (set-rating-of (GF p) l rs bound)
-        → SetAnswered p gs vs ts (setFiguresTold (set-rating-of (GF p) l rs bound .figures)) (r .powers)
-        answer′
-    unfolding setTable figuresOf mapResult set-rating-of setFiguresTold setPadded answerAfter
-    set-answered rs bound h y z rated =
+        → result ≡ answered (setRating (GF p) l ts rs)
+        → SetAnswered p gs vs ts (setFiguresTold (setRating (GF p) l ts rs .figures)) (r .powers) answer′
+    unfolding setTable figuresOf mapResult setRating setFiguresTold setPadded answerAfter
+    set-answered rs h y rated =
         let I = inRange-isField p (prime-accepted p (h .fieldExists)) in
         let factors = set-factors h in
         let els = terms-accepted p ts (h .termsInField) in
@@ -377,6 +331,9 @@ module _ (p : ℕ) (fs : List Polynomial) (vs ts answer work : List ℕ) (r : Se
         (monic-nonempty (GF p) g (meaning .minimal .monic))
         (ap (λ (hs : List Polynomial). product (GF p) (named hs rs)) (factorsOf-named gs vs))
         (c .lent .answerBytes ∙ ap (λ x. answerAfter x answer) rated) in
+        let list : g ≡ listIn answer′ (degree g) =
+        ap (λ (hs : List Polynomial). product (GF p) (named hs rs)) (factorsOf-named gs vs)
+        ∙ sym (returns .coefficients) in
         record {
           powers = rs;
           count-told = refl;
@@ -397,33 +354,21 @@ module _ (p : ℕ) (fs : List Polynomial) (vs ts answer work : List ℕ) (r : Se
               annihilated-agrees I l monics ts els enough
               (not-false (annihilatesKnown (GF p) (product (GF p) l) ts) (h .annihilated));
           meaning = meaning;
-          minimal =
-              subst (λ h. MinimalPolynomial (GF p) h (onward (GF p) l ts))
-              (ap (λ (hs : List Polynomial). product (GF p) (named hs rs)) (factorsOf-named gs vs)
-              ∙ sym (returns .coefficients))
-              (meaning .minimal);
+          minimal = subst (λ h. MinimalPolynomial (GF p) h (onward (GF p) l ts)) list (meaning .minimal);
           returns = returns;
+          repeat =
+              subst (λ h. RepeatMeaning h (onward (GF p) l ts) (repeatLength g (onward (GF p) l ts))) list
+              (set-repeatMeaning I l factors ts els enough y);
           single =
               λ f v one.
               single-answered p f v ts
               (single-of p fs vs one (h .fieldExists) (h .degreesInRange) (h .coefficientsInRange)
               (h .irreducible))
-              rs (setFiguresTold (set-rating-of (GF p) l rs bound .figures)) answer′ els
+              rs (setFiguresTold (setRating (GF p) l ts rs .figures)) answer′ els
               (subst (λ (m : List (Polynomial × ℕ)). totalDegree m ≤ length ts) one enough)
-              (subst (λ (m : List (Polynomial × ℕ)). totalDegree m ≤ 4096) one
-              (total-accepted l (h .uppersInRange)))
               (ap (λ (m : List (Polynomial × ℕ)). setPowers (GF p) m ts) (sym one) ∙ y)
-              (ap (λ (hs : List Polynomial). setBound (GF p) (named hs rs))
-              (sym (factorsOf-named gs vs ∙ only gs vs one))
-              ∙ z)
               (subst (λ (hs : List Polynomial). Returns (product (GF p) (named hs rs)) (degree g) answer′)
               (only gs vs one) returns);
-          several =
-              λ n.
-              Option·some-injective bound 0
-              (sym z
-              ∙ setBound-several (GF p) (named (factorsOf l) rs)
-              (λ k. omega (arith, k, length-named (factorsOf l) rs, length-factorsOf l, length-named gs vs)));
         }
 
     set-figures :
@@ -433,9 +378,9 @@ module _ (p : ℕ) (fs : List Polynomial) (vs ts answer work : List ℕ) (r : Se
     unfolding rateSet setAnswer
     set-figures b q =
         let (h, w) = settle-answered _ table q in
-        let (rs, bound, y, z, t) = rated-set (GF p) l (setPowers (GF p) l ts) w in
+        let (rs, y, t) = some-mapOption (setRating (GF p) l ts) (setPowers (GF p) l ts) w in
         subst (λ b. SetAnswered p gs vs ts (setFiguresTold (b .figures)) (r .powers) answer′) t
-        (set-answered rs bound h y z (q ∙ ap answered (sym t)))
+        (set-answered rs h y (q ∙ ap answered (sym t)))
 
     set-rated :
         (a : SetTold) → toldSet (r .outcome) ≡ answered a → SetAnswered p gs vs ts a (r .powers) answer′

@@ -20,7 +20,6 @@ use lib.ListN.{length, take}
 use Rattle.meaning.specs.declared.FileRating.{FileRating}
 use Rattle.meaning.specs.declared.RecordOutcome.{RecordOutcome}
 use Rattle.meaning.specs.Polynomial.{Polynomial, product}
-use Rattle.meaning.specs.Sequence.{periodic, LeastPeriod}
 use Rattle.meaning.specs.Result.{Result, refused, answered}
 use Rattle.meaning.specs.Conditions.{named}
 use Rattle.meaning.specs.Power.{PowerFigures}
@@ -54,19 +53,17 @@ pub record Holds (file : List ℕ) (rs : List RouteRecord) (m : Mode) : Type 0 w
 -- THE RATING OF A FILE: a is what it tells, and `eight` the eight places of powers
 
 -- Mode 1: the promise of the period way, with the one factor of the file. The denominator of the density is
--- the least number of terms after which the endless sequence repeats. The bound is not told.
+-- the repeat length, and so the least number of terms after which the endless sequence repeats.
 pub record PeriodFile (rs : List RouteRecord) (a : FileTold) (eight answer′ : List ℕ) : Type 0 where
   pub factor : Polynomial
   pub its-factor : polynomialsIn rs ≡ factor ∷ []
   pub figures : PowerFigures
-  pub denominator : ℕ
-  pub shortest : LeastPeriod (periodic (termsOf rs)) denominator
-  pub tells : a ≡ withPowers (figures .degree) denominator 1
+  pub tells : a ≡ withPowers (figures .degree) (figures .repeat) 1
   pub places : eight ≡ padded (figures .power ∷ [])
   pub rated : PeriodAnswered (byteOf 2 rs) factor (termsOf rs) figures answer′
 
 -- Mode 2: the promise of the set way, with the factors and upper powers of the file in its order. The
--- denominator is the number of terms, and so it is in mode 3. The bound is not told.
+-- denominator is the number of terms, and so it is in mode 3. The repeat length is not told.
 pub record SetFile (rs : List RouteRecord) (a : FileTold) (eight answer′ : List ℕ) : Type 0 where
   pub figures : SetTold
   pub tells : a ≡ withPowers (figures .degree) (length (termsOf rs)) (figures .count)

@@ -34,34 +34,34 @@ pub record StatusTold {A : Type 0} (told : Result A) (status : ℕ) : Type 0 whe
   pub is : status ≡ statusOf told
   pub zero : status ≡ 0 → Answered told
 
--- THE PERIOD WAY: power, degree and bound are lent numbers
+-- THE PERIOD WAY: power, degree and repeat length are lent numbers
 
 pub record PeriodExportRight (p : ℕ) (f : Polynomial) (ts answer work : List ℕ)
-    (power degree bound status : ℕ) (answer′ work′ : List ℕ) (power′ degree′ bound′ : ℕ) : Type 0 where
+    (power degree repeat status : ℕ) (answer′ work′ : List ℕ) (power′ degree′ repeat′ : ℕ) : Type 0 where
   pub told : Result PowerFigures
   pub status-told : StatusTold told status
-  pub figures-told : PowerTold told power degree bound status power′ degree′ bound′
+  pub figures-told : PowerTold told power degree repeat status power′ degree′ repeat′
   pub answers : RatingAnswers periodNumbers (λ a. a .degree) told answer work answer′ work′
   pub right : PeriodRight p (monicMultiple (GF p) f) ts told answer′
 
 abbrev pub PeriodExport : Type 0
 PeriodExport =
-    (p : ℕ) (f : Polynomial) (ts answer work : List ℕ) (power degree bound status : ℕ)
-    (answer′ work′ : List ℕ) (power′ degree′ bound′ : ℕ)
-    → PowerExported (ratePeriod p f ts (length answer) (length work)) answer work power degree bound status
-    answer′ work′ power′ degree′ bound′
-    → PeriodExportRight p f ts answer work power degree bound status answer′ work′ power′ degree′ bound′
+    (p : ℕ) (f : Polynomial) (ts answer work : List ℕ) (power degree repeat status : ℕ)
+    (answer′ work′ : List ℕ) (power′ degree′ repeat′ : ℕ)
+    → PowerExported (ratePeriod p f ts (length answer) (length work)) answer work power degree repeat status
+    answer′ work′ power′ degree′ repeat′
+    → PeriodExportRight p f ts answer work power degree repeat status answer′ work′ power′ degree′ repeat′
 
--- THE SET WAY: degree and bound are lent numbers, and the powers lent bytes. Eight numbers of eight bytes
--- each, as many bytes as were lent.
+-- THE SET WAY: degree and repeat length are lent numbers, and the powers lent bytes. Eight numbers of eight
+-- bytes each, as many bytes as were lent.
 
 pub record SetExportRight (p : ℕ) (fs : List Polynomial) (vs ts answer work powers : List ℕ)
-    (degree bound status : ℕ) (answer′ work′ powers′ : List ℕ) (degree′ bound′ : ℕ) : Type 0 where
+    (degree repeat status : ℕ) (answer′ work′ powers′ : List ℕ) (degree′ repeat′ : ℕ) : Type 0 where
   pub told : Result SetTold
   pub eight : List ℕ
   pub status-told : StatusTold told status
   pub degree-told : degree′ ≡ numberAfter (λ a. a .degree) told degree
-  pub bound-told : bound′ ≡ numberAfter (λ a. a .bound) told bound
+  pub repeat-told : repeat′ ≡ numberAfter (λ a. a .repeat) told repeat
   pub powers-told : Answered told → powers′ ≡ take (length powers) (bytesOfAll eight) ++ drop 64 powers
   pub powers-kept : (n : ℕ) → told ≡ refused n → powers′ ≡ powers
   pub answers : RatingAnswers setNumbers (λ a. a .degree) told answer work answer′ work′
@@ -69,11 +69,11 @@ pub record SetExportRight (p : ℕ) (fs : List Polynomial) (vs ts answer work po
 
 abbrev pub SetExport : Type 0
 SetExport =
-    (p : ℕ) (fs : List Polynomial) (vs ts answer work powers : List ℕ) (degree bound status : ℕ)
-    (answer′ work′ powers′ : List ℕ) (degree′ bound′ : ℕ)
-    → SetExported (rateSet p fs vs ts (length answer) (length work)) answer work powers degree bound status
-    answer′ work′ powers′ degree′ bound′
-    → SetExportRight p fs vs ts answer work powers degree bound status answer′ work′ powers′ degree′ bound′
+    (p : ℕ) (fs : List Polynomial) (vs ts answer work powers : List ℕ) (degree repeat status : ℕ)
+    (answer′ work′ powers′ : List ℕ) (degree′ repeat′ : ℕ)
+    → SetExported (rateSet p fs vs ts (length answer) (length work)) answer work powers degree repeat status
+    answer′ work′ powers′ degree′ repeat′
+    → SetExportRight p fs vs ts answer work powers degree repeat status answer′ work′ powers′ degree′ repeat′
 
 -- THE FREE WAY: the word is a lent number, 1 for `one` and 0 for `some`
 

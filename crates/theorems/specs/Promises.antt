@@ -2,8 +2,8 @@
 -- with all of its hypotheses, and `promises` of proofs/Promises.antt proves the record of them all.
 --
 --   Answering        == demand 1: every call gives an answer or one of its numbered refusals, on every input
---   Ratings          == demand 2: the polynomial is the minimal polynomial; the repeat bound; the two
---                       questions
+--   Ratings          == demand 2: the polynomial is the minimal polynomial, the repeat length the least
+--                       period; the two questions
 --   CutAnywhere      == demand 3: the same polynomial wherever the stretch is cut
 --   Files            == route files, the reader, the program
 --   Density          == the density of a period
@@ -30,7 +30,7 @@ use Rattle.theorems.specs.Answering.{PeriodAnswers, SetAnswers, FreeAnsw
 use Rattle.theorems.specs.Answering.{ContinueAnswers, IrreducibleAnswers, PrimeAnswers, FileAnswers}
 use Rattle.theorems.specs.Answering.{RecordAnswers, ProgramAnswers, NeverZero}
 use Rattle.theorems.specs.Ratings.{PeriodPromise, SetPromise, FreePromise}
-use Rattle.theorems.specs.Ratings.{ContinuePromise, IrreduciblePromise, PrimePromise, RepeatPromise}
+use Rattle.theorems.specs.Ratings.{ContinuePromise, IrreduciblePromise, PrimePromise}
 use Rattle.theorems.specs.Ratings.{MultiplePromise, MultiplesPromise, PrimeWords, IrreducibleWords}
 use Rattle.theorems.specs.CutAnywhere.{CutAnywherePromise}
 use Rattle.theorems.specs.Files.{FilePromise, RecordPromise, ProgramAsCall, ProgramPromise}
@@ -63,7 +63,6 @@ pub record Promises : Type 0 where
   pub continuation : ContinuePromise
   pub irreducibility : IrreduciblePromise
   pub primes : PrimePromise
-  pub repeat-bound : RepeatPromise
   pub multiple : MultiplePromise
   pub multiples : MultiplesPromise
   pub prime-words : PrimeWords

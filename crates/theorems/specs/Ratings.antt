@@ -10,17 +10,15 @@
 --   …Promise         == so it is of whatever meets the contract of the call, on every input
 --   OneContinuation  == the first terms have exactly one continuation that the product annihilates
 --   NoneBegins       == no sequence that a polynomial annihilates begins with the terms
---   BoundTold        == what the repeat bound that is told means; RepeatPromise: for any sequence
 --   MultiplePromise  == a factor and its monic multiple annihilate the same sequences; so do the products of
 --                       their powers (MultiplesPromise)
 --   PrimeWords, IrreducibleWords == the tests for primes and irreducible polynomials are the words of the
 --                                   request
-use Prim.Native.Nat.{ℕ, suc, _*_, _-_, _^_, _≤_, _<_}
+use Prim.Native.Nat.{ℕ, suc, _*_, _-_, _≤_, _<_}
 use mathlib.Core.Path.{_≡_}
-use mathlib.Core.Logic.{_⊎_, _↔_, _≢_}
+use mathlib.Core.Logic.{_↔_, _≢_}
 use mathlib.Core.Bool.{Bool, true, false}
 use mathlib.Core.List.{List, [], _∷_, _++_, map}
-use mathlib.Core.Option.{some}
 use lib.ListN.{length, getD, take}
 use lib.Dec.{T}
 use Rattle.meaning.specs.declared.PowerRating.{PowerRating}
@@ -31,12 +29,13 @@ use Rattle.meaning.specs.declared.Irreducibility.{Irreducibility}
 use Rattle.meaning.specs.Field.{Field, prime, PrimeNumber, isPrime, areElements}
 use Rattle.meaning.specs.Polynomial.{Polynomial, degree, leading, isMonicOver, scale, power, product}
 use Rattle.meaning.specs.Polynomial.{irreducible, monicMultiple, NotAProduct}
-use Rattle.meaning.specs.Sequence.{Sequence, InField, periodic, cut, LeastPeriod, Continues}
+use Rattle.meaning.specs.Sequence.{Sequence, periodic, cut, LeastPeriod, Continues}
 use Rattle.meaning.specs.Sequence.{AnnihilatesEndless, MinimalPolynomial, LeastPower}
 use Rattle.meaning.specs.Result.{Result, refused, answered}
 use Rattle.meaning.specs.Search.{holdsForSome}
 use Rattle.meaning.specs.Conditions.{named, totalDegree, coefficientOutOfRange}
-use Rattle.meaning.specs.Power.{PowerFigures, isX, repeatBound, BoundMeaning}
+use Rattle.meaning.specs.RepeatLength.{RepeatMeaning}
+use Rattle.meaning.specs.Power.{PowerFigures}
 use Rattle.meaning.specs.Period.{NoPower}
 use Rattle.meaning.specs.Portion.{onward, SetMeaning, PortionMeaning, Agrees}
 use Rattle.meaning.specs.Free.{FreeFigures, IsLeastDegree, Fits, Precedes}
@@ -59,24 +58,16 @@ pub record Returns (g : Polynomial) (told : ℕ) (answer′ : List ℕ) : Type 0
 
 -- THE WAYS
 
--- The bound b that is told with the power r of f, for the sequence s that f^r annihilates: it is that of the
--- request, and has 64 bits; where f is not x, or the power is 0, s has a least period, which does not exceed
--- b.
-pub record BoundTold (p : ℕ) (f : Polynomial) (r b : ℕ) (s : Sequence) : Type 0 where
-  pub value : repeatBound (GF p) f r ≡ some b
-  pub bits64 : b < 2 ^ 64
-  pub meaning : (isX f ≡ false) ⊎ (r ≡ 0) → BoundMeaning s b
-
--- The period way: the power is the least that annihilates the endless repetition, and the polynomial returned
--- is the minimal polynomial of it. (In every way the degree is at most 4,096, so that the list has its place
--- in the 4,097 answer bytes: `small`.)
+-- The period way: the power is the least that annihilates the endless repetition, the polynomial returned is
+-- the minimal polynomial of it, and the repeat length is its least period. (In every way the degree is at
+-- most 4,096, so that the list has its place in the 4,097 answer bytes: `small`.)
 pub record PeriodAnswered (p : ℕ) (f : Polynomial) (ts : List ℕ) (a : PowerFigures) (answer′ : List ℕ)
     : Type 0 where
   pub small : a .degree ≤ 4096
   pub least : LeastPower (GF p) f (periodic ts) (a .power)
   pub minimal : MinimalPolynomial (GF p) (listIn answer′ (a .degree)) (periodic ts)
   pub returns : Returns (power (GF p) f (a .power)) (a .degree) answer′
-  pub bound : BoundTold p f (a .power) (a .bound) (periodic ts)
+  pub repeat : LeastPeriod (periodic ts) (a .repeat)
 
 -- 17 means that no power of f, however large, annihilates it.
 pub record PeriodRight (p : ℕ) (f : Polynomial) (ts : List ℕ) (told : Result PowerFigures) (answer′ : List ℕ)
@@ -105,19 +96,20 @@ pub record OneContinuation (p : ℕ) (l : List (Polynomial × ℕ)) (ts : List �
       → s k ≡ onward (GF p) l ts k
 
 -- A single factor f with the upper power v: its power r is the least that annihilates the continuation by
--- f^v, and at most v, the polynomial returned is f^r, and the bound is the repeat bound.
+-- f^v, and at most v, and the polynomial returned is f^r.
 pub record SingleAnswered (p : ℕ) (f : Polynomial) (v : ℕ) (ts : List ℕ) (r : ℕ) (a : SetTold)
     (answer′ : List ℕ) : Type 0 where
   pub atMost : r ≤ v
   pub least : PortionMeaning (GF p) f v ts r
   pub returns : Returns (power (GF p) f r) (a .degree) answer′
-  pub bound : BoundTold p f r (a .bound) (onward (GF p) ((f, v) ∷ []) ts)
 
 -- The set way, for portions with one to eight factors, x among them or not: the first terms have exactly one
 -- continuation that the product of the factors to their upper powers annihilates, and all the terms agree
 -- with it. The powers stand in the eight places, each is at most its upper power, and the polynomial returned
--- is the product of the factors to these powers and the minimal polynomial of that continuation. With a
--- single factor SingleAnswered holds too; with several the bound is 0.
+-- is the product of the factors to these powers and the minimal polynomial of that continuation. The repeat
+-- length is the least period of the continuation, at most 65,536; it is 0 only where x divides the polynomial
+-- returned, and then there is no period, or where the least period is longer. With a single factor
+-- SingleAnswered holds too.
 pub record SetAnswered (p : ℕ) (fs : List Polynomial) (vs ts : List ℕ) (a : SetTold) (eight answer′ : List ℕ)
     : Type 0 where
   pub powers : List ℕ
@@ -130,10 +122,10 @@ pub record SetAnswered (p : ℕ) (fs : List Polynomial) (vs ts : List ℕ) (a : 
   pub meaning : SetMeaning (GF p) (named fs vs) ts powers
   pub minimal : MinimalPolynomial (GF p) (listIn answer′ (a .degree)) (onward (GF p) (named fs vs) ts)
   pub returns : Returns (product (GF p) (named fs powers)) (a .degree) answer′
+  pub repeat : RepeatMeaning (listIn answer′ (a .degree)) (onward (GF p) (named fs vs) ts) (a .repeat)
   pub single : (f : Polynomial) (v : ℕ)
       → named fs vs ≡ (f, v) ∷ []
       → (r : ℕ) × (powers ≡ r ∷ []) × SingleAnswered p f v ts r a answer′
-  pub several : 1 < length fs → a .bound ≡ 0
 
 -- 17 means that the terms have no continuation that the product annihilates, with a single factor f^v.
 pub record SetRight (p : ℕ) (fs : List Polynomial) (vs ts : List ℕ) (told : Result SetTold)
@@ -208,28 +200,6 @@ IrreduciblePromise =
 
 abbrev pub PrimePromise : Type 0
 PrimePromise = (n : ℕ) (r : Bool) → PrimeCall n r → T r ↔ (PrimeNumber n × (n ≤ 251))
-
--- THE REPEAT BOUND
-
--- There is always a bound; and where f is not x, or the power is 0, every sequence that f^r annihilates has a
--- least period, which does not exceed it.
-pub record RepeatBounded (p : ℕ) (f : Polynomial) (r : ℕ) : Type 0 where
-  pub bound : ℕ
-  pub found : repeatBound (GF p) f r ≡ some bound
-  pub bounds : (isX f ≡ false) ⊎ (r ≡ 0)
-      → (s : Sequence)
-      → InField (GF p) s
-      → AnnihilatesEndless (GF p) (power (GF p) f r) s
-      → (n : ℕ) × LeastPeriod s n × (n ≤ bound)
-
-abbrev pub RepeatPromise : Type 0
-RepeatPromise =
-    (p : ℕ) (f : Polynomial) (r : ℕ)
-    → T (isPrime p)
-    → T (isMonicOver (GF p) f)
-    → 1 ≤ degree f
-    → T (irreducible (GF p) f)
-    → RepeatBounded p f r
 
 -- THE MONIC MULTIPLE
 

@@ -7,7 +7,7 @@ use mathlib.Core.Path.{_≡_, sym, _∙_}
 use mathlib.Core.Bool.{true, false}
 use lib.Dec.{ltb}
 use borrow.Author.Tests.{lt-ltb, le-ltb}
-use Rattle.bridge.proofs.RepeatBounds.{power-next}
+use Rattle.bridge.proofs.Levels.{power-next}
 
 factor-positive : (b a p : ℕ) → b < a * p → 0 < p
 factor-positive b a zero h = omega (arith, mul-zero a)

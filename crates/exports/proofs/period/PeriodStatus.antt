@@ -14,33 +14,33 @@ use Rattle.meaning.specs.Calls.{PeriodCall}
 use Rattle.meaning.specs.Exports.{statusOf, numberAfter, PowerTold, PowerExported}
 
 module _ {p : ℕ} {f ts answer work : List ℕ} {a : PowerRating} {answer′ work′ : List ℕ}
-    (call : PeriodCall p f ts answer work a answer′ work′) {power degree bound : ℕ} where
-  exported : {b : PowerRating} {k power′ degree′ bound′ : ℕ}
+    (call : PeriodCall p f ts answer work a answer′ work′) {power degree repeat : ℕ} where
+  exported : {b : PowerRating} {k power′ degree′ repeat′ : ℕ}
       → a ≡ b
-      → PowerTold (toldPower b) power degree bound k power′ degree′ bound′
-      → PowerExported (ratePeriod p f ts (length answer) (length work)) answer work power degree bound k
-      answer′ work′ power′ degree′ bound′
-  exported {k = k} {power′} {degree′} {bound′} q t =
+      → PowerTold (toldPower b) power degree repeat k power′ degree′ repeat′
+      → PowerExported (ratePeriod p f ts (length answer) (length work)) answer work power degree repeat k
+      answer′ work′ power′ degree′ repeat′
+  exported {k = k} {power′} {degree′} {repeat′} q t =
       record {
         figures =
-            subst (λ (r : Result PowerFigures). PowerTold r power degree bound k power′ degree′ bound′)
+            subst (λ (r : Result PowerFigures). PowerTold r power degree repeat k power′ degree′ repeat′)
             (ap toldPower (sym q) ∙ call .rating) t;
         lent = call .lent;
       }
 
   pub period-told : {r d b : ℕ}
       → a ≡ PowerRating.Rated r d b
-      → PowerExported (ratePeriod p f ts (length answer) (length work)) answer work power degree bound 0
+      → PowerExported (ratePeriod p f ts (length answer) (length work)) answer work power degree repeat 0
       answer′ work′ r d b
   unfolding toldPower statusOf numberAfter
   period-told q =
-      exported q (record { told = refl; powerAfter = refl; degreeAfter = refl; boundAfter = refl })
+      exported q (record { told = refl; powerAfter = refl; degreeAfter = refl; repeatAfter = refl })
 
   pub period-untold : {x : Refusal} {k : ℕ}
       → a ≡ PowerRating.Refused x
       → k ≡ numberOf x
-      → PowerExported (ratePeriod p f ts (length answer) (length work)) answer work power degree bound k
-      answer′ work′ power degree bound
+      → PowerExported (ratePeriod p f ts (length answer) (length work)) answer work power degree repeat k
+      answer′ work′ power degree repeat
   unfolding toldPower statusOf numberAfter
   period-untold q i =
-      exported q (record { told = i; powerAfter = refl; degreeAfter = refl; boundAfter = refl })
+      exported q (record { told = i; powerAfter = refl; degreeAfter = refl; repeatAfter = refl })

@@ -50,32 +50,32 @@ module _ {p : ℕ} {fs : List Polynomial} {us ts answer work : List ℕ} {a : Se
   told : {b : SetOutcome} → a .outcome ≡ b → toldSet b ≡ mapResult setFiguresTold result
   told q = ap toldSet (sym q) ∙ call .rating
 
-  exported : {b : SetOutcome} {k degree bound degree′ bound′ : ℕ} {powers powers′ : List ℕ}
+  exported : {b : SetOutcome} {k degree repeat degree′ repeat′ : ℕ} {powers powers′ : List ℕ}
       → a .outcome ≡ b
       → k ≡ statusOf (toldSet b)
       → degree′ ≡ numberAfter (λ t. t .degree) (toldSet b) degree
-      → bound′ ≡ numberAfter (λ t. t .bound) (toldSet b) bound
+      → repeat′ ≡ numberAfter (λ t. t .repeat) (toldSet b) repeat
       → PowersAfter result powers powers′
-      → SetExported (rateSet p fs us ts (length answer) (length work)) answer work powers degree bound k
-      answer′ work′ powers′ degree′ bound′
+      → SetExported (rateSet p fs us ts (length answer) (length work)) answer work powers degree repeat k
+      answer′ work′ powers′ degree′ repeat′
   unfolding figuresOf setFiguresTold
-  exported {degree = degree} {bound} q i j l s =
+  exported {degree = degree} {repeat} q i j l s =
       record {
         told = i ∙ ap statusOf (told q) ∙ status-map setFiguresTold result ∙ status-map _ _;
         powersLeft = s;
         degreeAfter =
             j ∙ ap (λ (r : Result SetTold). numberAfter (λ t. t .degree) r degree) (told q)
             ∙ number-map (λ t. t .degree) result degree;
-        boundAfter =
-            l ∙ ap (λ (r : Result SetTold). numberAfter (λ t. t .bound) r bound) (told q)
-            ∙ number-map (λ t. t .bound) result bound;
+        repeatAfter =
+            l ∙ ap (λ (r : Result SetTold). numberAfter (λ t. t .repeat) r repeat) (told q)
+            ∙ number-map (λ t. t .repeat) result repeat;
         lent = call .lent;
       }
 
-  pub set-told : (powers powers′ : List ℕ) {degree bound d b n : ℕ}
+  pub set-told : (powers powers′ : List ℕ) {degree repeat d b n : ℕ}
       → a .outcome ≡ SetOutcome.Rated d b n
       → powers′ ≡ take (length powers) (bytesOfAll (a .powers)) ++ drop 64 powers
-      → SetExported (rateSet p fs us ts (length answer) (length work)) answer work powers degree bound 0
+      → SetExported (rateSet p fs us ts (length answer) (length work)) answer work powers degree repeat 0
       answer′ work′ powers′ d b
   unfolding toldSet statusOf numberAfter
   set-told powers powers′ q e =
@@ -83,10 +83,10 @@ module _ {p : ℕ} {fs : List Polynomial} {us ts answer work : List ℕ} {a : Se
       (powers-told result powers powers′ (told q)
       (e ∙ ap (λ ns. take (length powers) (bytesOfAll ns) ++ drop 64 powers) (call .powers)))
 
-  pub set-untold : {powers : List ℕ} {degree bound : ℕ} {x : Refusal} {k : ℕ}
+  pub set-untold : {powers : List ℕ} {degree repeat : ℕ} {x : Refusal} {k : ℕ}
       → a .outcome ≡ SetOutcome.Refused x
       → k ≡ numberOf x
-      → SetExported (rateSet p fs us ts (length answer) (length work)) answer work powers degree bound k
-      answer′ work′ powers degree bound
+      → SetExported (rateSet p fs us ts (length answer) (length work)) answer work powers degree repeat k
+      answer′ work′ powers degree repeat
   unfolding toldSet statusOf numberAfter
   set-untold {powers} q i = exported q i refl refl (powers-untold result powers (told q))

@@ -1,6 +1,6 @@
 -- The answer of a rating with one factor, from the power that a way has found.
 --
---   power-nonempty, power-small, power-input == what the writer of a power and the repeat bound ask
+--   power-input       == what the writer of a power asks
 --   nothing-rated, power-rated == the answer where nothing is found, and where a power is
 --   call-rating, call-lent == what a call answers and leaves, where its result is that of the power found
 --   settled-none, settled-some == the result where the verdict accepts: 17 is the last condition of the table
@@ -10,7 +10,7 @@
 --                        that 6, 7, 8 and 10 let pass
 --
 -- Assumes nothing.
-use Prim.Native.Nat.{ℕ, _*_, _-_, _≤_, _<_}
+use Prim.Native.Nat.{ℕ, _-_, _≤_, _<_}
 use mathlib.Core.Path.{_≡_, refl, sym, ap, subst, _∙_}
 use mathlib.Core.Bool.{Bool, true, false}
 use mathlib.Core.List.{List, [], _∷_, _++_}
@@ -28,15 +28,16 @@ use Rattle.meaning.specs.Polynomial.{Polynomial, degree, power, isMonicOver, mo
 use Rattle.meaning.specs.Result.{Result, refused, answered, mapResult, Check, firstOf, valueOf, settle, Rated}
 use Rattle.meaning.specs.Result.{figuresOf, cleared, answerAfter, clearing, clears, workAfter}
 use Rattle.meaning.specs.Conditions.{factorDegreeOutOfRange, coefficientOutOfRange}
-use Rattle.meaning.specs.Power.{PowerFigures, repeatBound, powerRating}
+use Rattle.meaning.specs.Power.{PowerFigures, powerRating}
+use Rattle.meaning.specs.Repeat.{shortestPeriod}
 use Rattle.meaning.specs.Answers.{numberOf, toldPower}
 use Rattle.meaning.specs.Calls.{LentAfter}
 use Rattle.bridge.proofs.Searches.{mapOption-some, bind-some}
-use Rattle.bridge.proofs.Interpretation.{IsField, inRange-isField}
+use Rattle.bridge.proofs.Interpretation.{inRange-isField}
 use Rattle.bridge.proofs.Polynomials.{monic-nonempty}
 use Rattle.bridge.proofs.Products.{accepted-monic}
 use Rattle.bridge.proofs.Irreducibles.{accepted-degree}
-use Rattle.bridge.proofs.RepeatBounds.{repeatBound-exists}
+use Rattle.bridge.proofs.Repeats.{shortest-exists}
 use Rattle.bridge.proofs.Accepted.{prime-accepted}
 use Rattle.bridge.proofs.Multiples.{Leads, coefficients-lead, multiple-ten, multiple-eleven, multiple-length}
 use Rattle.meaning.proofs.Passes.{Passes}
@@ -55,101 +56,97 @@ use Rattle.period_way.specs.one_factor.OneFactor.{RatedAs}
 
 -- The answer
 abbrev rating : Field → Polynomial → ℕ → ℕ → Rated PowerFigures
-rating F f r b =
+rating F f r n =
     record {
-      figures = record { power = r; degree = degree (power F f r); bound = b };
+      figures = record { power = r; degree = degree (power F f r); repeat = n };
       polynomial = power F f r;
     }
 
 rating-found :
-    (F : Field) (f : Polynomial) {r b : ℕ}
-    → repeatBound F f r ≡ some b
-    → ratingFound F f (some r) ≡ answered (rating F f r b)
+    (F : Field) (f : Polynomial) (ts : List ℕ) {r n : ℕ}
+    → shortestPeriod ts ≡ some n
+    → ratingFound F f ts (some r) ≡ answered (rating F f r n)
 unfolding ratingFound powerRating valueOf
-rating-found F f e = ap valueOf (mapOption-some _ e)
+rating-found F f ts e = ap valueOf (mapOption-some _ e)
 
-module _ {F : Field} {f : Polynomial} {found : Found} where
-  module _ (x : Answerable F f (told found)) {r : ℕ} (q : found ≡ Power r) where
-    pub power-nonempty : 0 < length f
-    power-nonempty = monic-nonempty F f (x .monic)
-
-    pub power-small : r * degree f ≤ 4096
-    unfolding told
-    power-small = x .small r (ap told q)
-
+module _ {F : Field} {f : Polynomial} {ts : List ℕ} {found : Found} where
+  module _ (x : Answerable F f ts (told found)) {r : ℕ} (q : found ≡ Power r) where
     pub power-input : PowerInput F f r
+    unfolding told
     power-input =
         record {
           monic = x .monic;
-          positive = accepted-degree F f power-nonempty (x .degreeInRange);
-          small = power-small;
+          positive = accepted-degree F f (monic-nonempty F f (x .monic)) (x .degreeInRange);
+          small = x .small r (ap told q);
         }
 
   module _ {answer : List ℕ} where
     pub nothing-rated :
         found ≡ Nothing
-        → FoundRated F f (told found) answer (PowerRating.Refused Refusal.NotAnnihilated) answer
+        → FoundRated F f ts (told found) answer (PowerRating.Refused Refusal.NotAnnihilated) answer
     unfolding told ratingFound toldPower numberOf figuresOf mapResult answerAfter
     nothing-rated q = rw q (record { rating = refl; answerBytes = refl })
 
     pub power-rated :
-        {r d b : ℕ} {answer′ : List ℕ}
+        {r d n : ℕ} {answer′ : List ℕ}
         → found ≡ Power r
         → PowerWritten F f r answer answer′ d
-        → repeatBound F f r ≡ some b
-        → FoundRated F f (told found) answer (PowerRating.Rated r d b) answer′
+        → shortestPeriod ts ≡ some n
+        → FoundRated F f ts (told found) answer (PowerRating.Rated r d n) answer′
     unfolding told toldPower figuresOf mapResult answerAfter
-    power-rated {r} {d} {b} q w e =
-        let z : ratingFound F f (told found) ≡ answered (rating F f r b)
-        = ap (λ g. ratingFound F f (told g)) q ∙ rating-found F f e in
+    power-rated {r} {d} {n} q w e =
+        let z : ratingFound F f ts (told found) ≡ answered (rating F f r n)
+        = ap (λ g. ratingFound F f ts (told g)) q ∙ rating-found F f ts e in
         record {
           rating =
-              ap (λ n. answered (record { power = r; degree = n; bound = b })) (w .newDegree)
+              ap (λ k. answered (record { power = r; degree = k; repeat = n })) (w .newDegree)
               ∙ sym (ap figuresOf z);
           answerBytes = w .answer ∙ sym (ap (λ (a : Result (Rated PowerFigures)). answerAfter a answer) z);
         }
 
 -- an answer and 17 leave the work bytes cleared
 work-found :
-    {F : Field} (I : IsField F) (f : Polynomial) (o : Option ℕ) (work : List ℕ)
-    → workAfter (ratingFound F f o) work ≡ cleared work
+    (F : Field) (f : Polynomial) (ts : List ℕ)
+    → 0 < length ts
+    → (o : Option ℕ) (work : List ℕ)
+    → workAfter (ratingFound F f ts o) work ≡ cleared work
 unfolding workAfter clears clearing holdsForSome ratingFound
-work-found {F} I f none work = refl
-work-found {F} I f (some r) work =
-    let (b, e) = repeatBound-exists F f r (I .characteristic .prime .large) in
-    ap (λ (a : Result (Rated PowerFigures)). workAfter a work) (rating-found F f e)
+work-found F f ts l none work = refl
+work-found F f ts l (some r) work =
+    let (n, e, _) = shortest-exists ts l in
+    ap (λ (a : Result (Rated PowerFigures)). workAfter a work) (rating-found F f ts e)
 
 -- A call whose verdict has passed
-module _ (p : ℕ) (f : Polynomial) {F : Field} (h : F ≡ prime p) {o o′ : Option ℕ} (k : o′ ≡ o)
-    {answer answer′ : List ℕ} {q : PowerRating} (x : FoundRated F f o′ answer q answer′)
-    {result : Result (Rated PowerFigures)} (e : result ≡ ratingFound (prime p) f o) where
-  same-result : ratingFound F f o′ ≡ result
-  same-result = ap (λ (G : Field). ratingFound G f o′) h ∙ ap (ratingFound (prime p) f) k ∙ sym e
+module _ (p : ℕ) (f : Polynomial) (ts : List ℕ) {F : Field} (h : F ≡ prime p) {o o′ : Option ℕ} (k : o′ ≡ o)
+    {answer answer′ : List ℕ} {q : PowerRating} (x : FoundRated F f ts o′ answer q answer′)
+    {result : Result (Rated PowerFigures)} (e : result ≡ ratingFound (prime p) f ts o) where
+  same-result : ratingFound F f ts o′ ≡ result
+  same-result = ap (λ (G : Field). ratingFound G f ts o′) h ∙ ap (ratingFound (prime p) f ts) k ∙ sym e
 
   pub call-rating : toldPower q ≡ figuresOf result
   call-rating = x .rating ∙ ap figuresOf same-result
 
   pub call-lent :
-      T (primeInRange p)
+      0 < length ts
       → {work work′ : List ℕ}
       → work′ ≡ cleared work
       → LentAfter result answer work answer′ work′
-  call-lent isPrime {work} w =
+  call-lent l {work} w =
       record {
         answerBytes =
             x .answerBytes ∙ ap (λ (a : Result (Rated PowerFigures)). answerAfter a answer) same-result;
         workBytes =
             w
-            ∙ sym (work-found (inRange-isField p isPrime) f o work)
+            ∙ sym (work-found (prime p) f ts l o work)
             ∙ ap (λ (a : Result (Rated PowerFigures)). workAfter a work) (sym e);
       }
 
 -- 17 is the last condition of a table whose others the verdict has tried
-module _ (F : Field) (f : Polynomial) (table : List Check) (test : Unit {0} → Bool) (o : Option ℕ)
-    {v : Verdict} (e : numberIn v ≡ firstOf table) (q : v ≡ Verdict.Accepted) where
+module _ (F : Field) (f : Polynomial) (ts : List ℕ) (table : List Check) (test : Unit {0} → Bool)
+    (o : Option ℕ) {v : Verdict} (e : numberIn v ≡ firstOf table) (q : v ≡ Verdict.Accepted) where
   pub settled-none :
       test tt ≡ true
-      → settle (table ++ ((17, test) ∷ [])) (λ _. bind o (powerRating F f)) ≡ ratingFound F f none
+      → settle (table ++ ((17, test) ∷ [])) (λ _. bind o (powerRating F f ts)) ≡ ratingFound F f ts none
   unfolding ratingFound
   settled-none h = settle-last table (17, test) _ e q h
 
@@ -157,9 +154,9 @@ module _ (F : Field) (f : Polynomial) (table : List Check) (test : Unit {0} → 
       {r : ℕ}
       → test tt ≡ false
       → o ≡ some r
-      → settle (table ++ ((17, test) ∷ [])) (λ _. bind o (powerRating F f)) ≡ ratingFound F f (some r)
+      → settle (table ++ ((17, test) ∷ [])) (λ _. bind o (powerRating F f ts)) ≡ ratingFound F f ts (some r)
   unfolding ratingFound
-  settled-some h k = settle-over table (17, test) _ e q h ∙ ap valueOf (bind-some (powerRating F f) k)
+  settled-some h k = settle-over table (17, test) _ e q h ∙ ap valueOf (bind-some (powerRating F f ts) k)
 
 -- a factor that 10, 11 and 12 do not turn down
 module _ {p : ℕ} {f : Polynomial} (a : Accepted p f) where

@@ -1,7 +1,7 @@
 -- `period_way::search_period` meets its contract. Assumes nothing.
 use native.Mathlib.Omega.{arith}
 use borrow.Author.Needs.{needs}
-use Rattle.powers.proofs.levels.Bounds.{size-base}
+use Rattle.powers.proofs.levels.Climbing.{size-base}
 use Rattle.lent.proofs.halves.Bytes.{half-length}
 use Rattle.period_way.proofs.search_period.Statement.{statement}
 use Rattle.period_way.proofs.search_period.Tie as tie

@@ -1,15 +1,15 @@
 -- What the contract of an answer with one factor cites, beside crate meaning.
--- o is the power that a way found.
+-- ts are the terms of the period, and o is the power that a way found.
 --
---   ratingFound F f o == the answer with f to the power found, or 17 where none was found
---   Answerable F f o  == f is monic over F, of a degree that 10 lets pass, and f to the power found has a
---                        degree of at most 4,096
---   FoundRated F f o answer r answer′ == r tells the answer, and the answer bytes have become answer′
+--   ratingFound F f ts o == the answer with f to the power found, or 17 where none was found
+--   Answerable F f ts o == there are terms, f is monic over F, of a degree that 10 lets pass, and f to the
+--                        power found has a degree of at most 4,096
+--   FoundRated F f ts o answer r answer′ == r tells the answer, and the answer bytes have become answer′
 --   Multiple p g ts   == 6, 7, 8 and 10 let p, the terms and the monic multiple g of a factor pass, and g is
 --                        monic
 --   RatedAs result answer work r answer′ work′ == r tells the result of a call, and the lent bytes are left
 --                        as it says
-use Prim.Native.Nat.{ℕ, _*_, _≤_}
+use Prim.Native.Nat.{ℕ, _*_, _≤_, _<_}
 use mathlib.Core.Path.{_≡_}
 use mathlib.Core.Bool.{false}
 use mathlib.Core.List.{List}
@@ -26,19 +26,20 @@ use Rattle.meaning.specs.Answers.{toldPower}
 use Rattle.meaning.specs.Calls.{LentAfter}
 use Rattle.irreducible.specs.Accepted.{Accepted}
 
-unfoldable pub ratingFound : Field → Polynomial → Option ℕ → Result (Rated PowerFigures)
-ratingFound F f none = refused 17
-ratingFound F f (some r) = valueOf (powerRating F f r)
+unfoldable pub ratingFound : Field → Polynomial → List ℕ → Option ℕ → Result (Rated PowerFigures)
+ratingFound F f ts none = refused 17
+ratingFound F f ts (some r) = valueOf (powerRating F f ts r)
 
-pub record Answerable (F : Field) (f : Polynomial) (o : Option ℕ) : Type 0 where
+pub record Answerable (F : Field) (f : Polynomial) (ts : List ℕ) (o : Option ℕ) : Type 0 where
+  pub atLeastOne : 0 < length ts
   pub monic : T (isMonicOver F f)
   pub degreeInRange : factorDegreeOutOfRange F f ≡ false
   pub small : (r : ℕ) → o ≡ some r → r * degree f ≤ 4096
 
-pub record FoundRated (F : Field) (f : Polynomial) (o : Option ℕ) (answer : List ℕ) (r : PowerRating)
-    (answer′ : List ℕ) : Type 0 where
-  pub rating : toldPower r ≡ figuresOf (ratingFound F f o)
-  pub answerBytes : answer′ ≡ answerAfter (ratingFound F f o) answer
+pub record FoundRated (F : Field) (f : Polynomial) (ts : List ℕ) (o : Option ℕ) (answer : List ℕ)
+    (r : PowerRating) (answer′ : List ℕ) : Type 0 where
+  pub rating : toldPower r ≡ figuresOf (ratingFound F f ts o)
+  pub answerBytes : answer′ ≡ answerAfter (ratingFound F f ts o) answer
 
 pub record Multiple (p : ℕ) (g : Polynomial) (ts : List ℕ) : Type 0 where
   pub accepted : Accepted p g

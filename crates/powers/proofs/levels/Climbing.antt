@@ -1,22 +1,22 @@
--- Powers of p one after the other, up to a number or out of a number; and the polynomial x.
+-- Powers of p one after the other, up to a number or out of a number.
 --
+--   size-base         == the size of a well-formed field is a base of levels
 --   Climbing p r e q  == q is p^e, and the power before it is less than r
 --   Splitting p n e q m == n is q·m, q is p^e, and m is not 0
 --
 -- Assumes nothing.
 use Prim.Native.Nat.{ℕ, suc, _+_, _*_, _^_, _/_, _%_, _≤_, _<_}
-use mathlib.Core.Path.{_≡_, refl, sym, ap, subst, _∙_}
-use mathlib.Core.Bool.{Bool, true, false}
-use mathlib.Core.List.{List, [], _∷_}
+use mathlib.Core.Path.{_≡_, sym, ap, subst, _∙_}
 use native.Mathlib.Nat as ℕ
 use native.Mathlib.Omega.{arith}
-use lib.Dec.{eqb}
-use lib.ListN.{length, getD}
-use borrow.Author.Tests.{ne-eqb, eq-eqb}
-use Rattle.meaning.specs.Polynomial.{same}
-use Rattle.meaning.specs.Power.{isX}
-use Rattle.bridge.proofs.RepeatBounds.{level-last, below-power, power-next}
+use Rattle.bridge.proofs.Levels.{level-last, below-power, power-next}
+use Rattle.arith.specs.declared.field.GaloisField.{GaloisField}
+use Rattle.arith.specs.Represented.{WellFormed}
+use Rattle.arith.proofs.Represented.{size-least, size-most}
 use Rattle.powers.specs.levels.Levels.{Base, Reaching, Dividing}
+
+pub size-base : {field : GaloisField} → WellFormed field → Base (field .size)
+size-base good = record { low = size-least good; high = size-most good }
 
 -- a product of two small numbers
 pub product-small : {p q : ℕ} → Base p → q ≤ 4096 → q * p ≤ 1028096
@@ -95,38 +95,3 @@ module _ {p n e q m : ℕ} (b : Base p) (x : Splitting p n e q m) where
         product = x .product ∙ ap (λ k. k * m) (x .power);
         undivided = h;
       }
-
--- The polynomial x
-abbrev picked : Bool → Bool → Bool
-picked s t = elim s [ true ↦ t | false ↦ false ]
-
-picked-false : (s : Bool) → false ≡ picked s false
-picked-false true = refl
-picked-false false = refl
-
-picked-true : (t : Bool) → picked t true ≡ t
-picked-true true = refl
-picked-true false = refl
-
-pub x-other : (f : List ℕ) → (length f ≡ 2 → ⊥) → false ≡ isX f
-unfolding isX same
-x-other [] h = refl
-x-other (a ∷ []) h = picked-false (eqb a 0)
-x-other (a ∷ b ∷ []) h = absurd (h refl)
-x-other (a ∷ b ∷ c ∷ f) h =
-    picked-false (eqb a 0) ∙ ap (picked (eqb a 0)) (picked-false (eqb b 1))
-
-pub x-constant : (f : List ℕ) → length f ≡ 2 → (getD f 0 0 ≡ 0 → ⊥) → false ≡ isX f
-unfolding isX same
-x-constant [] l h = absurd (omega arith)
-x-constant (a ∷ []) l h = absurd (omega arith)
-x-constant (a ∷ b ∷ []) l h = ap (λ t. picked t (picked (eqb b 1) true)) (sym (ne-eqb a 0 h))
-x-constant (a ∷ b ∷ c ∷ f) l h = absurd (omega arith)
-
-pub x-leading : (f : List ℕ) → length f ≡ 2 → getD f 0 0 ≡ 0 → eqb (getD f 1 0) 1 ≡ isX f
-unfolding isX same
-x-leading [] l h = absurd (omega arith)
-x-leading (a ∷ []) l h = absurd (omega arith)
-x-leading (a ∷ b ∷ []) l h =
-    sym (ap (λ t. picked t (picked (eqb b 1) true)) (eq-eqb a 0 h) ∙ picked-true (eqb b 1))
-x-leading (a ∷ b ∷ c ∷ f) l h = absurd (omega arith)

@@ -1,10 +1,9 @@
 -- The rating of a file from the contract of the call of its mode's way, or from a verdict that refuses it.
 -- Assumes nothing.
-use Prim.Native.Nat.{ℕ, _<_}
+use Prim.Native.Nat.{ℕ}
 use mathlib.Core.Path.{_≡_, refl, ap, _∙_}
 use mathlib.Core.Bool.{false}
 use mathlib.Core.List.{List}
-use mathlib.Core.Option.{some}
 use lib.ListN.{length}
 use Rattle.meaning.specs.declared.PowerRating.{PowerRating}
 use Rattle.meaning.specs.declared.FreeRating.{FreeRating}
@@ -15,29 +14,23 @@ use Rattle.meaning.specs.Result.{Result, refused, answered, mapResult, Rated, f
 use Rattle.meaning.specs.Result.{answerAfter, clears, workAfter}
 use Rattle.meaning.specs.Power.{PowerFigures}
 use Rattle.meaning.specs.Portion.{SetFigures, rateSet}
-use Rattle.meaning.specs.Repeat.{shortestPeriod}
 use Rattle.meaning.specs.Period.{ratePeriod}
 use Rattle.meaning.specs.Free.{FreeFigures, rateFree}
 use Rattle.meaning.specs.File.{FileFigures, powers, fileAnswer, ofPeriod, ofSet, ofFree}
 use Rattle.meaning.specs.Answers.{toldPower, toldFree, setFiguresTold, setPadded, withPowers}
 use Rattle.meaning.specs.Answers.{labelTold, fileFiguresTold, labelPowers, filePadded}
 use Rattle.meaning.specs.Calls.{LentAfter, PeriodCall, SetCall, FreeCall}
-use Rattle.bridge.proofs.Repeats.{shortest-exists}
-use Rattle.bridge.proofs.FileRatings.{period-map}
 use Rattle.refusals.proofs.Lent.{lent-refused}
-use Rattle.rate_file.specs.outcomes.Outcomes.{powerFigures, freeFigures, Tells, TellsPeriod, TellsSet}
+use Rattle.rate_file.specs.outcomes.Outcomes.{powerFigures, freeFigures, Tells, TellsSet}
 use Rattle.rate_file.specs.outcomes.Outcomes.{RatedFile}
 
 -- the lent bytes are left alike where refusals and polynomials are the same
 module _ {answer work answer′ work′ : List ℕ} where
-  lent-period : (ts : List ℕ) {m : ℕ} → shortestPeriod ts ≡ some m → (x : Result (Rated PowerFigures))
-      → LentAfter x answer work answer′ work′
-      → LentAfter (ofPeriod ts x) answer work answer′ work′
-  unfolding mapResult fileAnswer answerAfter workAfter
-  lent-period ts e (refused n) l =
-      rw (period-map ts e (refused n)) (record { answerBytes = l .answerBytes; workBytes = l .workBytes })
-  lent-period ts e (answered a) l =
-      rw (period-map ts e (answered a)) (record { answerBytes = l .answerBytes; workBytes = l .workBytes })
+  lent-period : (x : Result (Rated PowerFigures)) → LentAfter x answer work answer′ work′
+      → LentAfter (ofPeriod x) answer work answer′ work′
+  unfolding ofPeriod fileAnswer answerAfter workAfter
+  lent-period (refused n) l = record { answerBytes = l .answerBytes; workBytes = l .workBytes }
+  lent-period (answered a) l = record { answerBytes = l .answerBytes; workBytes = l .workBytes }
 
   lent-set : (m : ℕ) (x : Result (Rated SetFigures)) → LentAfter x answer work answer′ work′
       → LentAfter (ofSet m x) answer work answer′ work′
@@ -52,11 +45,11 @@ module _ {answer work answer′ work′ : List ℕ} where
   lent-free m (answered a) l = record { answerBytes = l .answerBytes; workBytes = l .workBytes }
 
 -- the figures of a file from those of its way
-figures-period : (ts : List ℕ) {m : ℕ} → shortestPeriod ts ≡ some m → (x : Result (Rated PowerFigures))
-    → figuresOf (ofPeriod ts x) ≡ mapResult (powerFigures m) (figuresOf x)
-unfolding fileAnswer figuresOf mapResult powerFigures
-figures-period ts e (refused n) = ap figuresOf (period-map ts e (refused n))
-figures-period ts e (answered a) = ap figuresOf (period-map ts e (answered a))
+figures-period : (x : Result (Rated PowerFigures))
+    → figuresOf (ofPeriod x) ≡ mapResult powerFigures (figuresOf x)
+unfolding ofPeriod fileAnswer figuresOf mapResult powerFigures
+figures-period (refused n) = refl
+figures-period (answered a) = refl
 
 figures-free : (m : ℕ) (x : Result (Rated FreeFigures))
     → figuresOf (ofFree m x) ≡ mapResult (freeFigures m) (figuresOf x)
@@ -80,17 +73,12 @@ padded-set m (answered a) = refl
 pub period-rated : {sender : ℕ} {answer work : List ℕ} {r : FileRating} {answer′ work′ : List ℕ} {p : ℕ}
     {f ts : List ℕ} {q : PowerRating}
     → PeriodCall p f ts answer work q answer′ work′
-    → 0 < length ts
-    → TellsPeriod sender ts q r
-    → RatedFile sender (ofPeriod ts (ratePeriod p f ts (length answer) (length work))) answer work r answer′
+    → Tells sender (mapResult powerFigures (toldPower q)) r
+    → RatedFile sender (ofPeriod (ratePeriod p f ts (length answer) (length work))) answer work r answer′
     work′
-period-rated {answer = answer} {work} {p = p} {f} {ts} h l t =
+period-rated {answer = answer} {work} {p = p} {f} {ts} h t =
     let x = ratePeriod p f ts (length answer) (length work) in
-    let (m, e, _) = shortest-exists ts l in
-    record {
-      tells = rw (figures-period ts e x, ← h .rating) (t .tells m e);
-      lent = lent-period ts e x (h .lent);
-    }
+    record { tells = rw (figures-period x, ← h .rating) t; lent = lent-period x (h .lent) }
 
 module _ (m : ℕ) {sender : ℕ} {answer work : List ℕ} {r : FileRating} {answer′ work′ : List ℕ} where
   pub free-rated : {p : ℕ} {ts : List ℕ} {q : FreeRating}

@@ -4,9 +4,8 @@
 --   power-…, free-…, set-… == from the rating of the way, by its cases
 -- Assumes nothing.
 use Prim.Native.Nat.{ℕ}
-use mathlib.Core.Path.{_≡_, refl, sym, subst, _∙_}
+use mathlib.Core.Path.{_≡_, refl}
 use mathlib.Core.List.{List, _∷_}
-use mathlib.Core.Option.{some, Option·some-injective}
 use lib.ListN.{replicate}
 use Rattle.meaning.specs.declared.Refusal.{Refusal}
 use Rattle.meaning.specs.declared.PowerRating.{PowerRating}
@@ -16,11 +15,10 @@ use Rattle.meaning.specs.declared.SetRating.{SetRating}
 use Rattle.meaning.specs.declared.FileOutcome.{FileOutcome}
 use Rattle.meaning.specs.declared.FileRating.{FileRating}
 use Rattle.meaning.specs.Result.{refused, answered, mapResult}
-use Rattle.meaning.specs.Repeat.{shortestPeriod}
 use Rattle.meaning.specs.File.{FileFigures, freeLabel}
 use Rattle.meaning.specs.Answers.{numberOf, toldPower, toldFree, toldSet}
 use Rattle.meaning.specs.Answers.{toldFile, labelTold, fileFiguresTold, padded, labelPowers, filePadded}
-use Rattle.rate_file.specs.outcomes.Outcomes.{powerFigures, freeFigures, Tells, TellsPeriod, TellsSet}
+use Rattle.rate_file.specs.outcomes.Outcomes.{powerFigures, freeFigures, Tells, TellsSet}
 
 -- the powers, in eight places
 abbrev places : List ℕ → FileOutcome → ℕ → FileRating
@@ -39,33 +37,17 @@ module _ (sender : ℕ) where
   unfolding mapResult filePadded
   figures-told e f = record { box = refl; rating = e; powers = f }
 
-  power-told : (m : ℕ) {q : PowerRating} {power degree bound : ℕ}
-      → q ≡ PowerRating.Rated power degree bound
-      → Tells sender (mapResult (powerFigures m) (toldPower q))
-      (places (power ∷ replicate 7 0) (FileOutcome.Powers degree m 1) sender)
+  pub power-refused : {q : PowerRating} {x : Refusal} {r : FileRating} → q ≡ PowerRating.Refused x
+      → Tells sender (refused (numberOf x)) r
+      → Tells sender (mapResult powerFigures (toldPower q)) r
+  unfolding toldPower mapResult
+  power-refused e t = rw e t
+
+  pub power-rated : {q : PowerRating} {power degree repeat : ℕ} → q ≡ PowerRating.Rated power degree repeat
+      → Tells sender (mapResult powerFigures (toldPower q))
+      (places (power ∷ replicate 7 0) (FileOutcome.Powers degree repeat 1) sender)
   unfolding toldPower mapResult powerFigures toldFile fileFiguresTold labelTold labelPowers padded
-  power-told m e = rw e (figures-told refl refl)
-
-  -- the period way: the shortest period of the terms is the only one
-  module _ {ts : List ℕ} {q : PowerRating} where
-    pub power-refused : {x : Refusal} {r : FileRating} → q ≡ PowerRating.Refused x
-        → Tells sender (refused (numberOf x)) r
-        → TellsPeriod sender ts q r
-    unfolding toldPower mapResult
-    power-refused e t = record { tells = λ m s. rw e t }
-
-    pub power-rated : {power degree bound n : ℕ} → q ≡ PowerRating.Rated power degree bound
-        → shortestPeriod ts ≡ some n
-        → TellsPeriod sender ts q (places (power ∷ replicate 7 0) (FileOutcome.Powers degree n 1) sender)
-    power-rated {power} {degree} {n = n} e s =
-        record {
-          tells =
-              λ m u.
-              subst (λ (k : ℕ). Tells sender (mapResult (powerFigures k) (toldPower q))
-              (places (power ∷ replicate 7 0) (FileOutcome.Powers degree n 1) sender))
-              (Option·some-injective n m (sym s ∙ u))
-              (power-told n e);
-        }
+  power-rated e = rw e (figures-told refl refl)
 
   module _ (m : ℕ) where
     pub free-refused : {q : FreeRating} {x : Refusal} {r : FileRating} → q ≡ FreeRating.Refused x
@@ -91,7 +73,8 @@ module _ (sender : ℕ) where
     unfolding toldSet mapResult toldFile
     set-refused e = record { box = refl; rating = rw e; powers = refl }
 
-    pub set-told : {s : SetRating} {degree bound count : ℕ} → s .outcome ≡ SetOutcome.Rated degree bound count
+    pub set-told : {s : SetRating} {degree repeat count : ℕ}
+        → s .outcome ≡ SetOutcome.Rated degree repeat count
         → TellsSet sender m s (places (s .powers) (FileOutcome.Powers degree m count) sender)
     unfolding toldSet mapResult toldFile
     set-told e = record { box = refl; rating = rw e; powers = refl }

@@ -102,7 +102,7 @@ module _ (p : ℕ) (fs : List WrittenFactor) (ts : List ℕ) (answer work : ℕ)
         → rateMode m p fs ts answer work ≡ refused (numberOf x)
     unfolding rateMode periodAnswer setAnswer rateFree ofPeriod ofSet ofFree
     mode-terms periodMode q =
-        ap (ofPeriod ts) (settle-refused _ _ (early _ _ period-parts q) refl)
+        ap ofPeriod (settle-refused _ _ (early _ _ period-parts q) refl)
     mode-terms setMode q = ap (ofSet (length ts)) (settle-refused _ _ (early _ _ set-parts q) refl)
     mode-terms freeMode q = ap (ofFree (length ts)) (settle-refused _ _ (early _ _ free-parts q) refl)
 
@@ -118,7 +118,7 @@ module _ (p : ℕ) (fs : List WrittenFactor) (ts : List ℕ) (answer work : ℕ)
             → rateMode periodMode p fs ts answer work ≡ refused (numberOf x)
         unfolding rateMode periodAnswer ofPeriod
         period-factors q =
-            ap (ofPeriod ts)
+            ap ofPeriod
             (settle-refused _ _
             (refused-second (termsTable p ts) (writtenTable p fs) periodRest eu ev accepted q
             ∙ sym (ap firstOf period-parts))
@@ -142,10 +142,10 @@ module _ (p : ℕ) (fs : List WrittenFactor) (ts : List ℕ) (answer work : ℕ)
 
           pub period-way : 1 ≤ length fs
               → rateMode periodMode p fs ts answer work
-              ≡ ofPeriod ts (ratePeriod p first ts answer work)
+              ≡ ofPeriod (ratePeriod p first ts answer work)
           unfolding rateMode writtenTable
           period-way low =
-              ap (ofPeriod ts)
+              ap ofPeriod
               (period-lists p fs full fieldExists (passes .degreesInRange) (passes .coefficientsInRange) ts
               answer work low)
 

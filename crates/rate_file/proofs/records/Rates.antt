@@ -1,6 +1,6 @@
 -- The rating of the records of an accepted file, whose terms 6, 7 and 8 accept, by its mode.
 -- Assumes nothing.
-use Prim.Native.Nat.{ℕ, _≤_, _<_}
+use Prim.Native.Nat.{ℕ, _≤_}
 use native.Mathlib.Decide.{ℕ-discrete}
 use native.Mathlib.Omega.{arith}
 use mathlib.Core.Path.{_≡_, refl, sym, ap, _∙_}
@@ -25,7 +25,6 @@ use Rattle.refusals.proofs.Settled.{verdict-passes}
 use Rattle.refusals.proofs.Lent.{never-clears}
 use Rattle.rate_file.specs.factors.Written.{factorsIn, polynomialsIn, writtenTable}
 use Rattle.rate_file.proofs.factors.Places.{factors-count}
-use Rattle.bridge.proofs.Accepted.{count-accepted}
 use Rattle.bridge.proofs.WrittenFactors.{AllFull}
 use Rattle.rate_file.proofs.factors.Polynomials.{factors-whole, polynomials-fit}
 use Rattle.rate_file.specs.records.Accepted.{AcceptedRecords, Rateable}
@@ -103,11 +102,6 @@ module _ (file ts : List ℕ) (answer work : ℕ) {p : ℕ} (ok : Rateable p fil
     unfolding numberIn
     terms-accepted = sym (ok .passed)
 
-    terms-there : 0 < length ts
-    unfolding termsTable
-    terms-there =
-        count-accepted (length ts) (verdict-passes (termsTable p ts) terms-accepted refl .countInRange) .0
-
     one : mode ≡ 1 → length (factorsIn file) ≡ 1
     one e =
         sym count-factors
@@ -150,7 +144,7 @@ module _ (file ts : List ℕ) (answer work : ℕ) {p : ℕ} (ok : Rateable p fil
 
         pub records-period : mode ≡ 1
             → rateRecords (recordsFrom file 0) answer work
-            ≡ ofPeriod ts (ratePeriod p (getD (polynomialsIn file) 0 []) ts answer work)
+            ≡ ofPeriod (ratePeriod p (getD (polynomialsIn file) 0 []) ts answer work)
         records-period e =
             rated-period e
             ∙ period-way p (factorsIn file) ts answer work terms-accepted refl ev q whole
@@ -166,11 +160,10 @@ module _ (file ts : List ℕ) (answer work : ℕ) {p : ℕ} (ok : Rateable p fil
         -- the polynomials fit in 33 bytes each
         pub one-fits : mode ≡ 1
             → (1 ≤ length (factorsIn file)) × (length (getD (polynomialsIn file) 0 []) ≤ 33)
-            × (0 < length ts)
         one-fits e =
             let n = one e in
             let f = polynomials-fit (prime p) (factorsIn file) whole degrees in
-            (omega arith, omega (arith, first-within (polynomialsIn file)), terms-there)
+            (omega arith, omega (arith, first-within (polynomialsIn file)))
 
         pub all-fit : mode ≡ 2
             → (count ≡ length (factorsIn file)) × (count ≤ 8)

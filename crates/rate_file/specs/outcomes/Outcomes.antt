@@ -1,10 +1,8 @@
 -- What the contracts of the ratings of a file cite.
 --
---   powerFigures m a, freeFigures m a == the figures of a file with the denominator m, from those of the
---                         period way and of the free way
+--   powerFigures a, freeFigures m a == the figures of a file from those of the period way, whose repeat
+--                         length is the denominator, and of the free way, with the denominator m
 --   Tells sender x r   == the rating r names the sender, and tells the figures or the refusal x
---   TellsPeriod sender ts q r == r names the sender, and tells with the shortest period of ts what the rating
---                         q of the period way tells
 --   TellsSet sender m s r == r names the sender, and tells with the denominator m what the rating s of the
 --                         set way tells
 --   RatedFile sender x answer work r answer′ work′ == r tells the result x, and the lent bytes are left as x
@@ -12,20 +10,17 @@
 use Prim.Native.Nat.{ℕ}
 use mathlib.Core.Path.{_≡_}
 use mathlib.Core.List.{List, [], _∷_}
-use mathlib.Core.Option.{some}
-use Rattle.meaning.specs.declared.PowerRating.{PowerRating}
 use Rattle.meaning.specs.declared.SetRating.{SetRating}
 use Rattle.meaning.specs.declared.FileRating.{FileRating}
 use Rattle.meaning.specs.Result.{Result, mapResult, Rated, figuresOf}
 use Rattle.meaning.specs.Power.{PowerFigures}
-use Rattle.meaning.specs.Repeat.{shortestPeriod}
 use Rattle.meaning.specs.Free.{FreeFigures}
 use Rattle.meaning.specs.File.{FileFigures, powers, freeLabel}
-use Rattle.meaning.specs.Answers.{toldPower, toldSet, withPowers, toldFile, fileFiguresTold, filePadded}
+use Rattle.meaning.specs.Answers.{toldSet, withPowers, toldFile, fileFiguresTold, filePadded}
 use Rattle.meaning.specs.Calls.{LentAfter}
 
-unfoldable pub powerFigures : ℕ → PowerFigures → FileFigures
-powerFigures m a = record { degree = a .degree; denominator = m; label = powers (a .power ∷ []) }
+unfoldable pub powerFigures : PowerFigures → FileFigures
+powerFigures a = record { degree = a .degree; denominator = a .repeat; label = powers (a .power ∷ []) }
 
 unfoldable pub freeFigures : ℕ → FreeFigures → FileFigures
 freeFigures m a = record { degree = a .degree; denominator = m; label = freeLabel (a .unique) }
@@ -34,11 +29,6 @@ pub record Tells (sender : ℕ) (x : Result FileFigures) (r : FileRating) : Type
   pub box : r .sender ≡ sender
   pub rating : toldFile (r .outcome) ≡ mapResult fileFiguresTold x
   pub powers : r .powers ≡ filePadded x
-
-pub record TellsPeriod (sender : ℕ) (ts : List ℕ) (q : PowerRating) (r : FileRating) : Type 0 where
-  pub tells : (m : ℕ)
-      → shortestPeriod ts ≡ some m
-      → Tells sender (mapResult (powerFigures m) (toldPower q)) r
 
 pub record TellsSet (sender m : ℕ) (s : SetRating) (r : FileRating) : Type 0 where
   pub box : r .sender ≡ sender

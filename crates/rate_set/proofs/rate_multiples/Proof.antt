@@ -5,7 +5,7 @@ use borrow.Author.Needs.{needs}
 use Rattle.arith.proofs.Represented.{field-isField}
 use Rattle.meaning.proofs.Slices.{lists-length}
 use Rattle.rate_set.proofs.SetWay.{set-refused, set-lent, set-input, set-seventeen}
-use Rattle.rate_set.proofs.SetWay.{set-powers-input, set-degrees, set-rated}
+use Rattle.rate_set.proofs.SetWay.{set-powers-input, set-powered, set-rated}
 use Rattle.rate_set.proofs.rate_multiples.Statement.{statement}
 use Rattle.rate_set.proofs.rate_multiples.Tie as tie
 
@@ -56,11 +56,11 @@ write-product-requires c κs =
       ),
     )
 
-slice-aggregate-single-bound : tie.Need-slice-aggregate-single-bound
-slice-aggregate-single-bound c = search needs
+slice-aggregate-repeat-length : tie.Need-slice-aggregate-repeat-length
+slice-aggregate-repeat-length c = search needs
 
-single-bound-requires : tie.Need-single-bound-requires
-single-bound-requires c κs =
+repeat-length-requires : tie.Need-repeat-length-requires
+repeat-length-requires c κs =
     let t = c .before .before .before .before .before .before .before in
     let y = t .before .before .before in
     let a = y .before .before in
@@ -68,11 +68,8 @@ single-bound-requires c κs =
     let s = start v in
     let e = v .set-verdict .ensures in (
       s .pre .0 .wellFormed,
-      (
-        set-powers-input _ _ _ _ _ _ (s .pre .1) e (a .enum-told .given .1) (s .pre .0 .isField)
-            (field-isField (s .pre .0 .wellFormed)) (y .set-powers .ensures) (t .if1 .taken),
-        set-degrees _ _ _ _ _ _ (s .pre .1) e (a .enum-told .given .1) (s .pre .0 .isField),
-      ),
+      set-powered _ _ _ _ _ _ (s .pre .1) e (a .enum-told .given .1) (s .pre .0 .isField)
+          (field-isField (s .pre .0 .wellFormed)) (y .set-powers .ensures) (t .if1 .taken),
     )
 
 rated-requires : tie.Need-rated-requires
@@ -107,7 +104,7 @@ returns-2 c =
     (t .if1 .taken)
     (sym (lists-length _))
     (w .write-product .ensures)
-    (b .single-bound .ensures)
+    (b .repeat-length .ensures)
     (c .rated .ensures)
 
 same-length-3 : tie.Need-same-length-3
@@ -137,8 +134,8 @@ rate-multiples-spec =
     set-powers-requires
     slice-aggregate-write-product
     write-product-requires
-    slice-aggregate-single-bound
-    single-bound-requires
+    slice-aggregate-repeat-length
+    repeat-length-requires
     rated-requires
     refused-requires-2
     returns

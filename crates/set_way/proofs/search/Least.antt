@@ -27,7 +27,7 @@ use Rattle.bridge.proofs.KnownActions.{strideOnKnown, allZero-getD, replicate-a
 use Rattle.bridge.proofs.PowerSearch.{powerFound}
 use Rattle.bridge.proofs.Products.{factorAt, monics-nonempty, length-named, factorAt-named, powerAt-named}
 use Rattle.bridge.proofs.Portions.{portionAt, prime-leastAt, setPowers-exists, setPowers-places}
-use Rattle.bridge.proofs.RepeatBounds.{level-bound}
+use Rattle.bridge.proofs.Levels.{level-bound}
 use Rattle.arith.specs.declared.field.GaloisField.{GaloisField}
 use Rattle.arith.specs.Represented.{fieldOf, WellFormed}
 use Rattle.arith.proofs.Represented.{field-isField, size-least}

@@ -4,7 +4,7 @@ use Prim.Native.Nat.{_-_, _^_, _≤_, zero-le}
 use native.Mathlib.Nat.{pow-zero, mul-le-mul}
 use native.Mathlib.Omega.{arith}
 use mathlib.Core.Path.{_≡_, sym}
-use Rattle.bridge.proofs.RepeatBounds.{power-next}
+use Rattle.bridge.proofs.Levels.{power-next}
 use Rattle.conditions.proofs.numbers.Powers.{power-beyond, power-of-large, power-within}
 use Rattle.conditions.proofs.numbers.power_exceeds.Statement.{statement}
 use Rattle.conditions.proofs.numbers.power_exceeds.Tie as tie

@@ -1,13 +1,7 @@
--- `rated` meets its contract: nothing found is 17, and else the power is written and its bound told.
--- Assumes nothing.
+-- `rated` meets its contract: nothing found is 17, and else the power is written and the shortest period
+-- told. Assumes nothing.
 use borrow.Author.Needs.{needs}
-use Rattle.period_way.proofs.one_factor.OneFactor.{
-  power-nonempty,
-  power-small,
-  power-input,
-  nothing-rated,
-  power-rated,
-}
+use Rattle.period_way.proofs.one_factor.OneFactor.{power-input, nothing-rated, power-rated}
 use Rattle.period_way.proofs.one_factor.rated.Statement.{statement}
 use Rattle.period_way.proofs.one_factor.rated.Tie as tie
 
@@ -19,21 +13,15 @@ enum-known-found c = search needs
 
 write-power-requires : tie.Need-write-power-requires
 write-power-requires c κs =
-    let s = c .before .before .before .before .before .before in (
+    let s = c .before .before .before .before .before .before .before in (
       s .pre .0,
       (s .pre .1 .0, power-input (s .pre .1 .1) (c .before .before .found .given .1)),
     )
 
-repeat-bound-requires : tie.Need-repeat-bound-requires
-repeat-bound-requires c κs =
-    let k = c .before .before .before .before .before in
-    let s = k .before .before .before .before in (
-      s .pre .0,
-      (
-        (power-nonempty (s .pre .1 .1) (k .found .given .1), s .pre .1 .1 .degreeInRange),
-        power-small (s .pre .1 .1) (k .found .given .1),
-      ),
-    )
+shortest-period-requires : tie.Need-shortest-period-requires
+shortest-period-requires c κs =
+    let s = c .before .before .before .before .before .before .before .before .before .before in
+    s .pre .1 .1 .atLeastOne
 
 returns : tie.Need-returns
 returns c = nothing-rated (c .enum-told .given .1)
@@ -45,7 +33,7 @@ returns-2 : tie.Need-returns-2
 returns-2 c =
     let w = c .before .before .before in
     power-rated (w .before .before .before .found .given .1) (w .write-power .ensures)
-    (c .repeat-bound .ensures)
+    (c .shortest-period .ensures)
 
 pub rated-spec : {M : Type 1} → statement M
 rated-spec =
@@ -54,7 +42,7 @@ rated-spec =
     enum-told
     enum-known-found
     write-power-requires
-    repeat-bound-requires
+    shortest-period-requires
     returns
     same-length
     returns-2)

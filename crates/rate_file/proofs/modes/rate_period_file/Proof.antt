@@ -45,7 +45,7 @@ returns c =
     let s = b .before .before .before .before .before in
     let g = polynomial-at (s .args .file .now) 0 _ (b .body-of .ensures) (s .pre .0) [] in
     let e = front-factor (f .lay-factor .ensures) (rw g at (s .pre .1)) (q .part .ensures) in
-    period-rated (rw (e ∙ sym g) at (r .rate-period .ensures)) (s .pre .2) (c .of-power .ensures)
+    period-rated (rw (e ∙ sym g) at (r .rate-period .ensures)) (c .of-power .ensures)
 
 pub rate-period-file-spec : {M : Type 1} → statement M
 rate-period-file-spec =

@@ -17,14 +17,11 @@ enum-known-rating-2 c = search needs
 array-write-powers : tie.Need-array-write-powers
 array-write-powers c = search needs
 
-shortest-period-requires : tie.Need-shortest-period-requires
-shortest-period-requires c κs = search needs
-
 returns : tie.Need-returns
 returns c = power-refused _ (c .before .before .rating .given .1) (c .of-refusal .ensures)
 
 returns-2 : tie.Need-returns-2
-returns-2 c = power-rated _ (c .before .before .rating2 .given .1) (c .shortest-period .ensures)
+returns-2 c = power-rated _ (c .before .rating2 .given .1)
 
 pub of-power-spec : {M : Type 1} → statement M
 of-power-spec =
@@ -34,6 +31,5 @@ of-power-spec =
     of-refusal-requires
     enum-known-rating-2
     array-write-powers
-    shortest-period-requires
     returns
     returns-2)

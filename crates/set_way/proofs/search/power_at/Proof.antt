@@ -4,7 +4,7 @@ use mathlib.Core.Path.{sym, subst, _∙_}
 use native.Mathlib.Omega.{arith}
 use lib.ListN.{length}
 use borrow.Author.Needs.{needs}
-use Rattle.powers.proofs.levels.Bounds.{size-base}
+use Rattle.powers.proofs.levels.Climbing.{size-base}
 use Rattle.powers.specs.digit_search.Searching.{Searchable, Searched}
 use Rattle.meaning.specs.Slices.{listsOf}
 use Rattle.meaning.proofs.Slices.{lists-length, lists-at}

@@ -1,0 +1,61 @@
+-- `repeat_length` meets its contract. Assumes nothing.
+use denote.Ref.{now}
+use Rattle.powers.proofs.levels.Climbing.{size-base}
+use Rattle.orders.proofs.Factors.{powers-enough, largest-small, level-positive, limit-small}
+use Rattle.orders.proofs.Factors.{repeat-fits, repeat-is}
+use native.Mathlib.Omega.{arith}
+use borrow.Author.Needs.{needs}
+use Rattle.orders.proofs.repeat_length.Statement.{statement}
+use Rattle.orders.proofs.repeat_length.Tie as tie
+
+largest-power-requires : tie.Need-largest-power-requires
+largest-power-requires c κs =
+    let s = c .before in
+    powers-enough (now (s .args .factors)) (now (s .args .powers)) (s .pre .1)
+
+cast-level-reaching : tie.Need-cast-level-reaching
+cast-level-reaching c = search needs
+
+level-reaching-requires : tie.Need-level-reaching-requires
+level-reaching-requires c κs =
+    let s = c .before .before .before in
+    let small = largest-small (now (s .args .factors)) (now (s .args .powers)) (s .pre .1) in
+    (size-base (s .pre .0), omega (arith, c .before .largest-power .ensures))
+
+div-orders-within : tie.Need-div-orders-within
+div-orders-within c =
+    let s = c .before .before .before .before in
+    let x = c .level-reaching .ensures in
+    level-positive (s .pre .0) (x .least) (x .isLevel)
+
+orders-within-requires : tie.Need-orders-within-requires
+orders-within-requires c κs =
+    let s = c .before .before .before .before in
+    let x = c .level-reaching .ensures in
+    (s .pre .0, (s .pre .1, limit-small (s .pre .0) (x .least) (x .isLevel) _ (omega arith)))
+
+mul-result : tie.Need-mul-result
+mul-result c =
+    let s = c .before .before .before .before .before in
+    let x = c .before .level-reaching .ensures in
+    let b = repeat-fits (s .pre .0) (x .least) (x .isLevel) _ _ (c .orders-within .ensures) in
+    omega arith
+
+returns : tie.Need-returns
+returns c =
+    let s = c .before .before .before .before .before in
+    let x = c .before .level-reaching .ensures in
+    repeat-is (s .pre .0) (x .least) (x .isLevel) _ (c .orders-within .ensures)
+    (c .before .before .before .largest-power .ensures)
+
+pub repeat-length-spec : {M : Type 1} → statement M
+repeat-length-spec =
+    tie.close
+    (tie.spec
+    largest-power-requires
+    cast-level-reaching
+    level-reaching-requires
+    div-orders-within
+    orders-within-requires
+    mul-result
+    returns)

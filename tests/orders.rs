@@ -1,0 +1,221 @@
+// The orders of crates/orders, by the leaves: the order of x modulo a polynomial against the sequence that the polynomial
+// continues 0…01 to, run until it comes again, and the least common multiple against a table of multiples.
+mod common;
+
+use common::poly::{monics, to_bytes};
+use common::random::Random;
+use common::{expect, list, primes, run, Outcome, NO_PRIMES};
+
+mod exported {
+    extern "C" {
+        pub fn leaf_order(p: u64, f: *const u8, n: usize, limit: usize) -> usize;
+        pub fn leaf_common(m: usize, n: usize, limit: usize) -> usize;
+    }
+}
+
+const LONGEST: usize = 65536;
+
+fn order(p: u64, f: &[u8], limit: usize) -> usize {
+    unsafe { exported::leaf_order(p, f.as_ptr(), f.len(), limit) }
+}
+
+fn common(m: usize, n: usize, limit: usize) -> usize {
+    unsafe { exported::leaf_common(m, n, limit) }
+}
+
+// The number of terms after which the sequence that f continues 0…01 to comes again, or 0 where there are more than the
+// limit. The constant term is not 0, so that it does come again.
+fn returns(p: u64, f: &[u8], limit: usize) -> usize {
+    let d = f.len() - 1;
+    let mut start = vec![0; d];
+    start[d - 1] = 1;
+    let mut window = start.clone();
+    for n in 1..=limit {
+        let sum: u64 = f[..d]
+            .iter()
+            .zip(&window)
+            .map(|(&c, &t)| c as u64 * t)
+            .sum();
+        window.remove(0);
+        window.push((p - sum % p) % p);
+        if window == start {
+            return n;
+        }
+    }
+    0
+}
+
+fn order_agrees(p: u64, f: &[u8], limit: usize) -> Result<usize, String> {
+    let expected = if f[0] == 0 { 0 } else { returns(p, f, limit) };
+    expect(order(p, f, limit), expected, || {
+        format!("p {p}, {}, limit {limit}", list(f))
+    })?;
+    Ok(expected)
+}
+
+// Every monic polynomial of a small degree, reducible ones and multiples of x among them, and limits on both sides of the
+// order
+fn all_small() -> Outcome {
+    let mut cases = 0;
+    for (p, last) in [(2, 10), (3, 6), (5, 4), (7, 3), (11, 2), (251, 1)] {
+        for d in 1..=last {
+            for f in monics(p, d) {
+                let f = to_bytes(&f);
+                let n = order_agrees(p, &f, LONGEST)?;
+                cases += 1;
+                if n > 0 {
+                    for (limit, expected) in [(n, n), (n - 1, 0), (0, 0)] {
+                        expect(order(p, &f, limit), expected, || {
+                            format!("p {p}, {}, limit {limit}", list(&f))
+                        })?;
+                        cases += 1;
+                    }
+                }
+            }
+        }
+    }
+    Ok(cases)
+}
+
+// Long orders and orders beyond the limit, over each prime and at each degree that fits
+fn long() -> Outcome {
+    let mut random = Random::of_seed(81);
+    let mut cases = 0;
+    for p in primes() {
+        for d in [1, 2, 3, 5, 8, 13, 21, 31, 32] {
+            let mut f = random.monic(p, d);
+            f[0] = random.between(1, p - 1) as u8;
+            order_agrees(p, &f, 5000)?;
+            cases += 1;
+        }
+    }
+    // the place where the residues start anew
+    for (p, d) in [(3, 8), (5, 6), (251, 3)] {
+        let mut f = random.monic(p, d);
+        f[0] = 1;
+        for limit in [1023, 1024, 1025, 2047, 2048, 2049, LONGEST] {
+            order_agrees(p, &f, limit)?;
+            cases += 1;
+        }
+    }
+    Ok(cases)
+}
+
+// x^16 + x^5 + x^3 + x^2 + 1 has the order 2^16 − 1, x^17 + x^3 + 1 the order 2^17 − 1, and over GF(3) x^10 + x^2 + x + 2
+// one of at most 3^10 − 1
+fn registers() -> Outcome {
+    let terms = |d: usize, places: &[usize]| {
+        let mut f = vec![0u8; d + 1];
+        for &i in places {
+            f[i] = 1;
+        }
+        f
+    };
+    let sixteen = terms(16, &[0, 2, 3, 5, 16]);
+    let seventeen = terms(17, &[0, 3, 17]);
+    expect(order(2, &sixteen, 65535), 65535, || "degree 16".into())?;
+    expect(order(2, &sixteen, 65534), 0, || {
+        "degree 16, a limit less".into()
+    })?;
+    expect(order(2, &seventeen, LONGEST), 0, || "degree 17".into())?;
+    expect(order(2, &seventeen, 131071), 131071, || {
+        "degree 17, told".into()
+    })?;
+    order_agrees(2, &sixteen, LONGEST)?;
+    let mut ten = terms(10, &[0, 1, 2, 10]);
+    ten[0] = 2;
+    order_agrees(3, &ten, LONGEST)?;
+    Ok(6)
+}
+
+fn no_orders() -> Outcome {
+    let mut random = Random::of_seed(82);
+    let mut cases = 0;
+    let mut none = |p: u64, f: &[u8]| {
+        cases += 1;
+        expect(order(p, f, LONGEST), 0, || format!("p {p}, {}", list(f)))
+    };
+    for n in NO_PRIMES {
+        none(n, &[1, 1])?;
+    }
+    for p in primes() {
+        none(p, &[])?;
+        none(p, &[1])?;
+        // degree 33, no leading 1, a coefficient that is no element, and a multiple of x
+        let mut f = random.monic(p, 33);
+        f[0] = 1;
+        none(p, &f)?;
+        none(p, &[1, 0])?;
+        if p > 2 {
+            none(p, &[1, 2])?;
+        }
+        none(p, &[p as u8, 1])?;
+        none(p, &[255, 1])?;
+        none(p, &[0, 1, 1])?;
+    }
+    Ok(cases)
+}
+
+// The least multiple of m that is in the table of the multiples of n
+fn common_agrees(m: usize, n: usize, limit: usize) -> Result<(), String> {
+    let expected = if m == 0 || n == 0 {
+        0
+    } else {
+        (1..=limit / m)
+            .map(|k| k * m)
+            .find(|k| k % n == 0)
+            .unwrap_or(0)
+    };
+    expect(common(m, n, limit), expected, || {
+        format!("{m} and {n}, limit {limit}")
+    })
+}
+
+fn multiples() -> Outcome {
+    let mut random = Random::of_seed(83);
+    let mut cases = 0;
+    for m in 0..60 {
+        for n in 0..60 {
+            for limit in [0, 1, 59, 100, 1000, LONGEST] {
+                common_agrees(m, n, limit)?;
+                cases += 1;
+            }
+        }
+    }
+    for _ in 0..20000 {
+        let m = random.between(1, 65536) as usize;
+        let most = random.one_of(&[300, 65536]);
+        let n = random.between(1, most) as usize;
+        common_agrees(m, n, random.below(65537) as usize)?;
+        cases += 1;
+    }
+    for (m, n, expected) in [
+        (255, 257, 65535),
+        (256, 256, 256),
+        (1, 65536, 65536),
+        (65536, 1, 65536),
+        (256, 257, 0),
+        (65535, 65536, 0),
+    ] {
+        expect(common(m, n, LONGEST), expected, || format!("{m} and {n}"))?;
+        cases += 1;
+    }
+    for (m, n, limit) in [(65537, 1, 9), (1, 65537, 9), (1, 1, 65537)] {
+        expect(common(m, n, limit), 0, || format!("{m}, {n}, {limit}"))?;
+        cases += 1;
+    }
+    Ok(cases)
+}
+
+fn main() {
+    run(
+        "orders",
+        &[
+            ("all small polynomials", all_small),
+            ("long orders", long),
+            ("registers", registers),
+            ("where no order is told", no_orders),
+            ("common multiples", multiples),
+        ],
+    )
+}
