@@ -1,4 +1,5 @@
-// The rater and its two C versions as contestants: three times the same code over the calls of calls.h.
+// The rater, its C versions and, where it is at hand, an earlier rater as contestants: the same code for each, over the
+// calls of calls.h.
 #include "calls.h"
 #include "jobs.h"
 #include <stdlib.h>
@@ -57,7 +58,11 @@ static void tell(void *task_, answer *a) {
 
 CONTESTANT(rater)
 CONTESTANT(plain)
-CONTESTANT(tuned)
+CONTESTANT(bytes)
+CONTESTANT(best)
+#ifdef WITH_BEFORE
+CONTESTANT(before)
+#endif
 
 // ---- the profile, whose last entry has the figures that the free way answers
 

@@ -1,6 +1,7 @@
-// The exported calls of the rater, and the two C versions that they are measured beside: `plain`, with bytes and a
-// remainder at each product, and `tuned`, with sums in wider numbers and remainders without a division. All three have
-// the same arguments, the same answers, and leave the same in the lent bytes. A slice passes as its start and length.
+// The exported calls of the rater, and the C versions that they are measured beside: `plain`, with bytes and a
+// remainder at each product; `bytes`, with sums in wider numbers and remainders without a division; and `best`, in
+// words over GF(2) and with numbers of 16 bits else. `before` is the rater of an earlier tree. All have the same
+// arguments, the same answers, and leave the same in the lent bytes. A slice passes as its start and length.
 #ifndef CALLS_H
 #define CALLS_H
 #include <stdbool.h>
@@ -32,7 +33,9 @@ uint64_t rater_profile(uint64_t p, const uint8_t *terms, size_t count, uint8_t *
 uint64_t rater_continue_sequence(uint64_t p, const uint8_t *polynomial, size_t coefficients, const uint8_t *start,
                                  size_t count, uint8_t *buffer, size_t bytes, size_t place);
 DECLARE_CALLS(plain)
-DECLARE_CALLS(tuned)
+DECLARE_CALLS(bytes)
+DECLARE_CALLS(best)
+DECLARE_CALLS(before)
 #ifdef __cplusplus
 }
 #endif

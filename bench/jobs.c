@@ -146,16 +146,17 @@ static void period(const char *family, uint32_t p, const char *shown, size_t n, 
     snprintf(j->name, sizeof j->name, "period of %s terms, (%s)^%s over GF(%u)", grouped(n), shown, grouped(r), p);
 }
 
-// a portion of n terms with f to the power v, random as far as they may be
-static void portion(const char *family, uint32_t p, const char *shown, const uint8_t *f, size_t d, uint64_t v,
-                    size_t n) {
+// a set of one factor, f to the power v, with n terms that are random as far as they may be
+static void one_factor(const char *family, uint32_t p, const char *shown, const uint8_t *f, size_t d, uint64_t v,
+                       size_t n) {
     job *j = add(family, SET, p);
     uint8_t all[4097];
     add_factor(j, f, d, v);
     j->count = n;
     random_terms(j, 0, d * v);
     continue_terms(j, all, product_of_powers(j, all), d * v);
-    snprintf(j->name, sizeof j->name, "portion of %s terms, (%s)^%s over GF(%u)", grouped(n), shown, grouped(v), p);
+    snprintf(j->name, sizeof j->name, "set of one factor, %s terms, (%s)^%s over GF(%u)", grouped(n), shown, grouped(v),
+             p);
 }
 
 static void binary_set(void) {
@@ -169,7 +170,7 @@ static void binary_set(void) {
     for (int i = 0; i < 8; i++) add_factor(j, parts[i].f, parts[i].d, parts[i].upper);
     j->count = 4096;
     random_terms(j, 0, 4096);
-    snprintf(j->name, sizeof j->name, "set of eight factors of degrees 1 to 5, D = 4,096, GF(2)");
+    snprintf(j->name, sizeof j->name, "set of eight factors of degrees 1 to 5, 4,096 terms, GF(2)");
 }
 
 static void linear_set(uint32_t p) {
@@ -177,7 +178,7 @@ static void linear_set(uint32_t p) {
     for (uint32_t a = 1; a <= 8; a++) add_factor(j, (uint8_t[]){p - a, 1}, 1, 512);
     j->count = 4096;
     random_terms(j, 0, 4096);
-    snprintf(j->name, sizeof j->name, "set of eight factors of degree 1, D = 4,096, GF(%u)", p);
+    snprintf(j->name, sizeof j->name, "set of eight factors of degree 1, powers 512, 4,096 terms, GF(%u)", p);
 }
 
 static void random_irreducible(uint32_t p, uint8_t *f, size_t degree) {
@@ -187,17 +188,18 @@ static void random_irreducible(uint32_t p, uint8_t *f, size_t degree) {
     } while (!c_irreducible_ben_or(p, f, degree));
 }
 
-// as much as there may be of one random factor of a large degree, and of eight
-static void large_portion(uint32_t p, size_t degree) {
+// one random factor of this degree to the power v, with n terms
+static void random_factor(const char *family, uint32_t p, size_t degree, uint64_t v, size_t n) {
     uint8_t f[33];
     char shown[32];
     random_irreducible(p, f, degree);
     snprintf(shown, sizeof shown, "f of degree %zu", degree);
-    portion("portion, large factor", p, shown, f, degree, 4096 / degree, 4096);
+    one_factor(family, p, shown, f, degree, v, n);
 }
 
-static void large_set(uint32_t p, size_t degree) {
-    job *j = add("set, large factors", SET, p);
+// eight of them, and as many terms as their total degree
+static void random_set(const char *family, uint32_t p, size_t degree, uint64_t v) {
+    job *j = add(family, SET, p);
     for (int i = 0; i < 8; i++) {
         uint8_t f[33];
         bool again;
@@ -206,12 +208,27 @@ static void large_set(uint32_t p, size_t degree) {
             again = false;
             for (int k = 0; k < i; k++) again |= memcmp(j->coefficients + k * (degree + 1), f, degree + 1) == 0;
         } while (again);
-        add_factor(j, f, degree, 4096 / (8 * degree));
+        add_factor(j, f, degree, v);
     }
-    j->count = 8 * degree * (4096 / (8 * degree));
+    j->count = 8 * degree * v;
     random_terms(j, 0, j->count);
-    snprintf(j->name, sizeof j->name, "set of eight factors of degree %zu, powers %zu, GF(%u)", degree,
-             4096 / (8 * degree), p);
+    snprintf(j->name, sizeof j->name, "set of eight factors of degree %zu, powers %zu, %s terms, GF(%u)", degree,
+             (size_t)v, grouped(j->count), p);
+}
+
+// The last job, of D terms, again with one more, as the product of the upper powers continues those before; its name says
+// so, since another job may have as many terms.
+static void one_more(void) {
+    const job *last = &list[listed - 1];
+    job *j = add(last->family, SET, last->p);
+    *j = *last;
+    uint8_t all[4097];
+    j->count++;
+    continue_terms(j, all, product_of_powers(j, all), last->count);
+    char name[sizeof last->name];
+    memcpy(name, last->name, sizeof name);
+    char *number = strstr(name, grouped(last->count)), *rest = number + strlen(grouped(last->count));
+    snprintf(j->name, sizeof j->name, "%.*sD + 1 = %s%s", (int)(number - name), name, grouped(j->count), rest);
 }
 
 // an irreducible polynomial, so that no common divisor ends the test
@@ -239,8 +256,8 @@ static void fill(void) {
         for (int k = 0; k < 4; k++) free_random(fields[i].random, fields[i].p, sizes[k]);
         for (int k = 0; k < 4; k++) free_register(fields[i].of_register, fields[i].p, sizes[k], sizes[k] * 1000 / 4096);
     }
-    for (int k = 0; k < 4; k++) portion("portion, all powers", 2, "x^3+x+1", f, 3, uppers[k], sizes[k]);
-    for (int k = 0; k < 4; k++) portion("portion, powers up to 170", 2, "x^3+x+1", f, 3, 170, sizes[k]);
+    for (int k = 0; k < 4; k++) one_factor("one factor, all powers", 2, "x^3+x+1", f, 3, uppers[k], sizes[k]);
+    for (int k = 0; k < 4; k++) one_factor("one factor, powers up to 170", 2, "x^3+x+1", f, 3, 170, sizes[k]);
     for (int k = 0; k < 4; k++) period("period, GF(2)", 2, "x+1", sizes[k], sizes[k], sizes[k] - 1);
     for (int k = 0; k < 4; k++) period("period, GF(2), powers up to 64", 2, "x+1", 64 * binary[k], 64, 63);
     period("period, GF(3)", 3, "x+2", 729, 729, 728);
@@ -254,8 +271,10 @@ static void fill(void) {
         uint32_t p;
         size_t degree;
     } large[5] = {{2, 32}, {3, 21}, {7, 11}, {13, 9}, {251, 5}};
-    for (int k = 0; k < 5; k++) large_portion(large[k].p, large[k].degree);
-    for (int k = 0; k < 5; k++) large_set(large[k].p, large[k].degree);
+    for (int k = 0; k < 5; k++)
+        random_factor("one factor, large degree", large[k].p, large[k].degree, 4096 / large[k].degree, 4096);
+    for (int k = 0; k < 5; k++)
+        random_set("set, large degrees", large[k].p, large[k].degree, 4096 / (8 * large[k].degree));
     irreducibility(2, 32);
     irreducibility(3, 21);
     irreducibility(5, 13);
@@ -268,6 +287,24 @@ static void fill(void) {
     free_changed("free way, several fit, GF(2)", 2, 4096, 1024);
     free_changed("free way, several fit, GF(3)", 3, 4096, 1024);
     free_changed("free way, several fit, GF(251)", 251, 4096, 1024);
+    // exactly as many terms as the total degree D, which the upper powers annihilate as none is left, and one more
+    one_factor("one factor, D terms or D + 1", 2, "x^3+x+1", f, 3, 1365, 4095);
+    one_more();
+    random_factor("one factor, D terms or D + 1", 2, 32, 127, 4064);
+    one_more();
+    // powers with large digits: 2^10 - 1, 3^6 - 1, 13^3 - 1, 4 * 251 + 250, 2 * 251 + 250
+    one_factor("one factor, large digits", 2, "x^3+x+1", f, 3, 1023, 4096);
+    random_factor("one factor, large digits", 3, 5, 728, 4096);
+    random_factor("one factor, large digits", 13, 1, 2196, 4096);
+    random_factor("one factor, large digits", 251, 3, 1254, 4096);
+    random_factor("one factor, large digits", 251, 5, 752, 3760);
+    random_set("set, large digits", 2, 8, 63);
+    one_more();
+    random_set("set, large digits", 3, 6, 80);
+    random_set("set, large digits", 13, 3, 168);
+    random_set("set, large digits", 251, 1, 250);
+    random_set("set, large digits", 251, 3, 170);
+    one_more();
 }
 
 const job *all_jobs(size_t *count) {

@@ -11,8 +11,8 @@ extern "C" {
 
 enum way { FREE, PERIOD, SET, IRREDUCIBLE };
 
-// One job. A set has one factor or more, and a portion has one. Factors stand one after the other, constants first. Jobs
-// of one family differ in their number of terms alone; `compared` jobs are there for their answers, and not timed.
+// One job. A set has one factor to eight, which stand one after the other, constants first. Jobs of one family take
+// turns in a round; `compared` jobs are there for their answers, and not timed.
 typedef struct {
     const char *family;
     char name[100];
@@ -46,7 +46,9 @@ typedef struct {
 } contestant;
 
 // the rater, its C versions, and the peers by their two methods: a gcd, or the minimal polynomial of twice the terms
-extern const contestant rater, plain, tuned;
+extern const contestant rater, plain, bytes, best;
+// the rater of an earlier tree, where its library is at hand
+extern const contestant before;
 // the rater again: the whole profile of 4,096 terms that the free way rates
 extern const contestant profile;
 extern const contestant ntl, ntl_twice, flint, flint_twice, pari, pari_twice;

@@ -1,5 +1,7 @@
-// The leaves beside C in one run: sums of products, updates, irreducibility, and shortest periods.
+// The leaves beside C in one run: sums of products and updates beside the loops that the C versions of the calls have,
+// irreducibility, shortest periods, and orders.
 // Each line has the time of the proved function, the time of the same work in C, and their ratio.
+#include "kernels.h"
 #include "reference.h"
 #include <stdio.h>
 #include <stdlib.h>
@@ -12,12 +14,14 @@ uint8_t leaf_dot(uint64_t p, const uint8_t *c, size_t m, const uint8_t *s, size_
 void leaf_update(uint64_t p, uint8_t *a, size_t n, uint8_t c, const uint8_t *b, size_t m);
 uint64_t rater_is_irreducible(uint64_t p, const uint8_t *f, size_t n, uint8_t *yes);
 size_t leaf_shortest_period(const uint8_t *terms, size_t n);
+size_t leaf_order(uint64_t p, const uint8_t *f, size_t n, size_t limit);
 
 // ---- measurement
 
+// the time of this thread, so that what others do on the same core is not counted
 static double now(void) {
     struct timespec t;
-    clock_gettime(CLOCK_MONOTONIC, &t);
+    clock_gettime(CLOCK_THREAD_CPUTIME_ID, &t);
     return t.tv_sec * 1e9 + t.tv_nsec;
 }
 
@@ -62,23 +66,27 @@ static void vectors(uint16_t p) {
         c[i] = below(p);
         s[i] = below(p);
     }
-    same(leaf_dot(p, c, BYTES, s, BYTES) == c_dot(p, c, s, BYTES), "sum of products");
-    MEASURE(sink = leaf_dot(p, c, BYTES, s, BYTES), sink = c_dot(p, c, s, BYTES), 2000, a, b)
-    (void)sink;
-    snprintf(what, sizeof what, "sum of products modulo %d", p);
+    same(leaf_dot(p, c, BYTES, s, BYTES) == dot(p, c, s, BYTES), "sum of products");
+    same(leaf_dot(p, c, BYTES, s, BYTES) == dot_rows(p, c, s, BYTES), "sum of products");
+    MEASURE(sink = leaf_dot(p, c, BYTES, s, BYTES), sink = dot(p, c, s, BYTES), 2000, a, b)
+    snprintf(what, sizeof what, "sum of products modulo %d, C bytes", p);
     line(what, a / BYTES, b / BYTES, "ns");
+    MEASURE(sink = leaf_dot(p, c, BYTES, s, BYTES), sink = dot_rows(p, c, s, BYTES), 2000, i, j)
+    snprintf(what, sizeof what, "sum of products modulo %d, C best", p);
+    line(what, i / BYTES, j / BYTES, "ns");
+    (void)sink;
 
     uint8_t k = p - 1;
     memcpy(ours, c, BYTES);
     memcpy(theirs, c, BYTES);
     leaf_update(p, ours, BYTES, k, s, BYTES);
-    c_update(p, theirs, k, s, BYTES);
+    update(p, theirs, k, s, BYTES);
     same(memcmp(ours, theirs, BYTES) == 0, "update");
-    MEASURE(leaf_update(p, ours, BYTES, k, s, BYTES), c_update(p, theirs, k, s, BYTES), 500, d, e)
-    snprintf(what, sizeof what, "update a + c*b modulo %d", p);
+    MEASURE(leaf_update(p, ours, BYTES, k, s, BYTES), update(p, theirs, k, s, BYTES), 500, d, e)
+    snprintf(what, sizeof what, "update a + c*b modulo %d, C bytes", p);
     line(what, d / BYTES, e / BYTES, "ns");
     MEASURE(leaf_update(p, ours, BYTES, k, s, BYTES), c_update_by_division(p, theirs, k, s, BYTES), 100, g, h)
-    snprintf(what, sizeof what, "update, in C by a division");
+    snprintf(what, sizeof what, "update modulo %d, in C by a division", p);
     line(what, g / BYTES, h / BYTES, "ns");
 }
 
@@ -115,6 +123,23 @@ static void periods(size_t n) {
     }
 }
 
+// an irreducible polynomial whose order is beyond the limit, so that the walk is as long as it may be
+static void order(uint32_t p, int d) {
+    uint8_t f[33], yes = 0;
+    char what[80];
+    do {
+        for (int i = 0; i < d; i++) f[i] = below(p);
+        f[d] = 1;
+        same(rater_is_irreducible(p, f, d + 1, &yes) == 0, "an accepted polynomial");
+    } while (!yes || c_order(p, f, d, 65536) != 0);
+    same(leaf_order(p, f, d + 1, 65536) == 0, "an order");
+    volatile size_t sink;
+    MEASURE(sink = leaf_order(p, f, d + 1, 65536), sink = c_order(p, f, d, 65536), 3, a, b)
+    snprintf(what, sizeof what, "order beyond 65,536, degree %d over %d", d, p);
+    line(what, a / 1e3, b / 1e3, "µs");
+    (void)sink;
+}
+
 int main(void) {
     printf("%-44s %10s %10s %-5s %6s\n", "per byte, or per call", "proved", "C", "", "ratio");
     vectors(2);
@@ -127,5 +152,9 @@ int main(void) {
     periods(4096);
     periods(3360);
     periods(4093);
+    order(2, 17);
+    order(2, 32);
+    order(3, 21);
+    order(251, 5);
     return 0;
 }

@@ -11,7 +11,10 @@
 #include <time.h>
 
 static const contestant *const contestants[] = {
-    &rater, &plain, &tuned, &profile,
+    &rater, &plain, &bytes, &best, &profile,
+#ifdef WITH_BEFORE
+    &before,
+#endif
 #ifdef WITH_NTL
     &ntl, &ntl_twice,
 #endif
@@ -39,24 +42,19 @@ static double batch(const contestant *c, void *task, long times) {
     return (now() - begun) / times;
 }
 
-// so many calls that they take this long together, found by doubling, which warms up as well
+// So many calls that they take this long together, found by doubling, which warms up as well, and no more rounds than
+// take `LONGEST` together, but one.
 #define BATCH 4e5
-static long times_of(const contestant *c, void *task) {
-    long times = 1;
-    while (times < 1 << 20) {
-        double t = batch(c, task, times) * times;
-        if (t >= BATCH / 2) return t >= BATCH ? times : 2 * times;
-        times *= 2;
+#define LONGEST 6e7
+static int plan(const contestant *c, void *task, int rounds, long *times) {
+    double taken;
+    for (*times = 1; (taken = batch(c, task, *times) * *times) < BATCH / 2 && *times < 1 << 20;) *times *= 2;
+    if (taken < BATCH) {
+        *times *= 2;
+        taken *= 2;
     }
-    return times;
-}
-
-// no more rounds than take this long together, but at least some
-#define LONGEST 6e8
-static int rounds_of(int rounds, double batch_time) {
-    double most = LONGEST / batch_time;
-    if (most >= rounds) return rounds;
-    return most < 5 ? 5 : (int)most;
+    double most = LONGEST / taken;
+    return most >= rounds ? rounds : most < 1 ? 1 : (int)most;
 }
 
 // ---- answers
@@ -86,10 +84,26 @@ static const char *verdict(const job *j, const answer *ours, const answer *their
     return "different";
 }
 
-// the C versions must agree with the rater to the last number, and the last entry of the profile in its figures
+static bool is_before(const contestant *c) {
+#ifdef WITH_BEFORE
+    return c == &before;
+#else
+    (void)c;
+    return false;
+#endif
+}
+
+// those with the calls of the rater
+static bool same_calls(const contestant *c) {
+    return is_before(c) || c == &plain || c == &bytes || c == &best || c == &profile;
+}
+
+// The C versions must agree with the rater to the last number, and the last entry of the profile in its figures. An earlier
+// tree may have a bound in place of the exact repeat length, which is not compared.
 static void hold(const job *j, const contestant *c, const answer *ours, const answer *theirs) {
-    bool same = ours->status == theirs->status && ours->degree == theirs->degree && ours->repeat == theirs->repeat &&
-                ours->unique == theirs->unique && memcmp(ours->powers, theirs->powers, sizeof ours->powers) == 0;
+    bool same = ours->status == theirs->status && ours->degree == theirs->degree && ours->unique == theirs->unique &&
+                memcmp(ours->powers, theirs->powers, sizeof ours->powers) == 0;
+    if (!is_before(c)) same = same && ours->repeat == theirs->repeat;
     if (c != &profile && j->way != IRREDUCIBLE && ours->status == 0)
         same = same && memcmp(ours->polynomial, theirs->polynomial, ours->degree + 1) == 0;
     if (same) return;
@@ -121,13 +135,12 @@ static void begin(const job *j, size_t number, int rounds, state *s) {
         c->run(task);
         c->tell(task, &theirs);
         if (i == 0) ours = theirs;
-        if (c == &plain || c == &tuned || c == &profile) hold(j, c, &ours, &theirs);
+        if (same_calls(c)) hold(j, c, &ours, &theirs);
         words[0] = 0;
         const char *found = c == &profile ? "same" : verdict(j, &ours, &theirs, words, sizeof words);
         printf("answer\t%zu\t%s\t%s\t%s\n", number, c->name, found, words);
         if (j->compared) continue;
-        s->times[i] = times_of(c, task);
-        s->rounds[i] = rounds_of(rounds, batch(c, task, s->times[i]) * s->times[i]);
+        s->rounds[i] = plan(c, task, rounds, &s->times[i]);
     }
 }
 
@@ -157,26 +170,35 @@ static void continues(void *nothing) {
 }
 
 static void stacks(const job *jobs, size_t count) {
-    static const char *const calls[] = {"rate_free", "rate_period", "rate_set", "is_irreducible"};
-    for (int way = FREE; way <= IRREDUCIBLE; way++) {
+    static const struct {
+        const char *call;
+        enum way way;
+        size_t least, most; // factors
+    } calls[] = {{"rater_rate_free", FREE, 0, 0},
+                 {"rater_rate_period", PERIOD, 1, 1},
+                 {"rater_rate_with_factors, one factor", SET, 1, 1},
+                 {"rater_rate_with_factors, eight factors", SET, 2, 8},
+                 {"rater_is_irreducible", IRREDUCIBLE, 1, 1}};
+    for (size_t k = 0; k < sizeof calls / sizeof calls[0]; k++) {
         size_t most = 0;
         for (size_t i = 0; i < count; i++) {
-            if (jobs[i].way != (enum way)way) continue;
+            if (jobs[i].way != calls[k].way || jobs[i].factors < calls[k].least || jobs[i].factors > calls[k].most)
+                continue;
             void *task = rater.prepare(&jobs[i]);
             size_t used = stack_used(rater.run, task);
             if (used > most) most = used;
             rater.finish(task);
         }
-        printf("stack\t%s\t%zu\n", calls[way], most);
+        printf("stack\t%s\t%zu\n", calls[k].call, most);
     }
     for (size_t i = 0; i < count; i++) {
         void *task = profile.prepare(&jobs[i]);
         if (task == NULL) continue;
-        printf("stack\tprofile\t%zu\n", stack_used(profile.run, task));
+        printf("stack\trater_profile\t%zu\n", stack_used(profile.run, task));
         profile.finish(task);
         break;
     }
-    printf("stack\tcontinue_sequence\t%zu\n", stack_used(continues, NULL));
+    printf("stack\trater_continue_sequence\t%zu\n", stack_used(continues, NULL));
 }
 
 static void show(const job *j) {
@@ -233,7 +255,7 @@ int main(int argc, char **argv) {
     }
     for (size_t i = 0, n; i < count; i += n) {
         n = 1;
-        while (i + n < count && n < MEMBERS && jobs[i + n].family == jobs[i].family) n++;
+        while (i + n < count && n < MEMBERS && strcmp(jobs[i + n].family, jobs[i].family) == 0) n++;
         if (strstr(jobs[i].family, only) != NULL) measure(jobs, i, n, rounds);
     }
     if (only[0] == 0) stacks(jobs, count);

@@ -85,22 +85,58 @@ static uint64_t rate(void) {
     }
 }
 
+// ---- what is printed stands in a buffer first: a coefficient takes four characters at most
+
+static char output[4097 * 4 + 512];
+static size_t written;
+
+static void put(const char *text) {
+    while (*text != 0) output[written++] = *text++;
+}
+
+static void put_number(uint64_t n) {
+    char digits[20];
+    int at = 20;
+    do digits[--at] = '0' + n % 10;
+    while ((n /= 10) > 0);
+    memcpy(output + written, digits + at, 20 - at);
+    written += 20 - at;
+}
+
+static void put_rating(void) {
+    put(" ok ");
+    put_number(degree);
+    put("/");
+    put_number(mode == 1 ? repeat : count);
+    put(" ");
+    if (mode == 3) put(unique ? "one" : "some");
+    for (size_t i = 0; i < factor_count; i++) {
+        if (i > 0) put(",");
+        put_number(powers[i]);
+    }
+    put("\npoly");
+    for (size_t i = 0; i <= degree; i++) {
+        output[written++] = ' ';
+        if (answer[i] < 10) output[written++] = '0' + answer[i];
+        else put_number(answer[i]);
+    }
+    put("\n");
+}
+
 int main(void) {
     size = fread(file, 1, sizeof file, stdin);
     unsigned box = size >= 5 && size <= LONGEST && file[0] == 1
                        ? (unsigned)file[1] << 24 | file[2] << 16 | file[3] << 8 | file[4]
                        : 0;
     uint64_t refusal = rate();
-    printf("box result density powers\n");
-    if (refusal != 0) {
-        printf("%u refused %d\n", box, (int)refusal);
-        return 0;
+    put("box result density powers\n");
+    put_number(box);
+    if (refusal == 0) {
+        put_rating();
+    } else {
+        put(" refused ");
+        put_number(refusal);
+        put("\n");
     }
-    printf("%u ok %d/%d ", box, (int)degree, (int)(mode == 1 ? repeat : count));
-    if (mode == 3) printf("%s", unique ? "one" : "some");
-    for (size_t i = 0; i < factor_count; i++) printf(i == 0 ? "%d" : ",%d", (int)powers[i]);
-    printf("\npoly");
-    for (size_t i = 0; i <= degree; i++) printf(" %d", answer[i]);
-    printf("\n");
-    return 0;
+    return fwrite(output, 1, written, stdout) == written && fflush(stdout) == 0 ? 0 : 3;
 }

@@ -251,6 +251,41 @@ fn every_length() -> Outcome {
     Ok(cases)
 }
 
+// Degrees and numbers of terms on both sides of whole words of 64 bits, and of whole rows of sixteen: registers, the same
+// with the last term changed, and zeros up to a last term.
+fn word_boundaries() -> Outcome {
+    let mut random = Random::of_seed(39);
+    let mut cases = 0;
+    for p in [2, 3, 251] {
+        for whole in [16, 32, 64, 128, 192, 512, 576, 1024] {
+            for d in whole - 1..=whole + 1 {
+                for n in [
+                    d,
+                    d + 1,
+                    d + 63,
+                    d + 64,
+                    d + 65,
+                    2 * d - 1,
+                    2 * d,
+                    2 * d + 1,
+                    2 * d + 64,
+                ] {
+                    let mut alone = vec![0; n];
+                    alone[n - 1] = 1;
+                    let changed = changed_register(&mut random, p, d, n);
+                    let mut kept = changed.clone();
+                    kept.truncate((n - 1).max(1));
+                    for terms in [changed, kept, alone] {
+                        agrees(&inputs::free(p, &terms))?;
+                        cases += 1;
+                    }
+                }
+            }
+        }
+    }
+    Ok(cases)
+}
+
 fn main() {
     run(
         "free",
@@ -265,6 +300,7 @@ fn main() {
             ("the last term alone", last_term_alone),
             ("the longest portions", longest),
             ("every length", every_length),
+            ("whole words and rows", word_boundaries),
             ("refused by 6", || faults::not_prime(Way::Free)),
             ("refused by 7", || faults::counts(Way::Free)),
             ("refused by 8", || faults::terms(Way::Free)),

@@ -21,8 +21,9 @@ use refusals::numbering::refusal_number;
 const ANSWER: usize = 4097 + 13;
 const HALVES: usize = 8192;
 const WORK: usize = HALVES + 13;
-// the only array of the search: the 256 sums of a block, of 16 bits each, and the file in which they are made
-const SUMS: (&str, usize) = ("/lent/blocks.rs", 512);
+// the only arrays of the search: the 256 sums of a block, of 16 bits each and over GF(2) of 8, and the files in which they
+// are made
+const SUMS: [(&str, usize); 2] = [("/lent/blocks.rs", 512), ("/action/bits.rs", 256)];
 
 // A period with one factor, and how it is to be rated.
 struct Period {
@@ -167,7 +168,7 @@ fn searched(search: Search, period: &Period) -> Counts {
     counting::count(&mut [], &mut work, power).1
 }
 
-// The search stores no byte outside of the work bytes.
+// The search stores no byte outside of the work bytes, the sums of a block apart.
 fn no_bytes_elsewhere(search: Search, period: &Period) -> Result<(), String> {
     expect(searched(search, period).elsewhere, 0, || {
         format!("{}: bytes elsewhere", period.name())
@@ -177,7 +178,11 @@ fn no_bytes_elsewhere(search: Search, period: &Period) -> Result<(), String> {
 // The search makes no array but that of the sums of a block.
 fn no_other_array(search: Search, period: &Period) -> Result<(), String> {
     let rooms = searched(search, period).rooms;
-    let other = |(file, size): &&(String, usize)| !file.ends_with(SUMS.0) || *size != SUMS.1;
+    let other = |(file, size): &&(String, usize)| {
+        !SUMS
+            .iter()
+            .any(|(name, bytes)| file.ends_with(name) && size == bytes)
+    };
     expect(rooms.iter().find(other), None, || {
         format!("{}: an array", period.name())
     })
@@ -338,8 +343,9 @@ fn row(line: &Line) -> Result<String, String> {
 
 // What is stored beside the terms.
 fn besides(counts: &Counts) -> String {
-    let [answer, elsewhere, wider] = [counts.answer, counts.elsewhere, counts.wider].map(grouped);
-    format!("8,192 zeros, answer {answer}, other bytes {elsewhere}, wider {wider}")
+    let sums = counts.sums + counts.wider;
+    let [answer, elsewhere, sums] = [counts.answer, counts.elsewhere, sums].map(grouped);
+    format!("8,192 zeros, answer {answer}, other bytes {elsewhere}, sums and wider numbers {sums}")
 }
 
 // Prints the table, each line of which docs/READING.md has, and after each line what else is stored.

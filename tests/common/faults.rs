@@ -164,7 +164,10 @@ pub fn multiples(way: Way) -> Outcome {
     for p in primes() {
         let input = accepted(&mut random, way, p);
         let rating = rate(&input);
-        let (f, g) = (irreducible(&mut random, p, 1), irreducible(&mut random, p, 1));
+        let (f, g) = (
+            irreducible(&mut random, p, 1),
+            irreducible(&mut random, p, 1),
+        );
         for c in 1..p {
             let mut given = input.clone();
             for (i, factor) in given.factors.iter_mut().enumerate() {

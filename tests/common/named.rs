@@ -261,7 +261,8 @@ pub fn too_few(most: u64) -> Outcome {
     Ok(cases)
 }
 
-// 17: one term beyond the first D is not what the continuation has there, the last of all among them.
+// 17: one term beyond the first D is not what the continuation has there, the last of all among them, and the only one
+// where there are D + 1.
 pub fn one_term_changed(most: u64) -> Outcome {
     let mut random = Random::of_seed(115);
     let mut cases = 0;
@@ -272,8 +273,9 @@ pub fn one_term_changed(most: u64) -> Outcome {
             let first = named.total_degree() as u64;
             let n = first + random.between(1, 96);
             let terms = named.terms(&mut random, n as usize);
-            for place in [first, random.between(first, n - 1), n - 1] {
-                let mut changed = terms.clone();
+            let between = random.between(first, n - 1);
+            for (place, n) in [(first, n), (between, n), (n - 1, n), (first, first + 1)] {
+                let mut changed = terms[..n as usize].to_vec();
                 let term = &mut changed[place as usize];
                 *term = (*term + random.between(1, p - 1)) % p;
                 refuses(&named.input(&changed), 17)?;

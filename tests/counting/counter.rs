@@ -12,6 +12,8 @@ pub struct Counts {
     pub work: Vec<(usize, u8)>,
     // of single bytes into the answer bytes
     pub answer: usize,
+    // of single bytes into the sums of a block over GF(2)
+    pub sums: usize,
     // of single bytes anywhere else
     pub elsewhere: usize,
     // of wider numbers: sums of products, powers
@@ -36,9 +38,14 @@ fn addresses(bytes: &[u8]) -> Range<usize> {
     start..start + bytes.len()
 }
 
-// A value was stored at the place.
+// The source whose stores outside of the lent bytes are sums of a block: over GF(2) they are bytes.
+const SUMS: &str = "/action/bits.rs";
+
+// A value was stored at the place, by the source that calls this.
+#[track_caller]
 pub fn stored<T: Copy>(place: &T) {
     let address = place as *const T as usize;
+    let sums = Location::caller().file().ends_with(SUMS);
     COUNTING.with_borrow_mut(|counting| {
         let counts = &mut counting.counts;
         if size_of::<T>() != 1 {
@@ -48,6 +55,8 @@ pub fn stored<T: Copy>(place: &T) {
             counts.work.push((address - counting.work.start, value));
         } else if counting.answer.contains(&address) {
             counts.answer += 1;
+        } else if sums {
+            counts.sums += 1;
         } else {
             counts.elsewhere += 1;
         }

@@ -4,6 +4,8 @@
 --                        every common divisor divides g (`gcd-greatest`); of 0 and 0 it is 0
 --   Lcm R a b m       == a and b divide m, and m divides whatever both divide; of 0 and any b it is 0
 --   Factor f g k      == the monic polynomial g of positive degree k divides f
+--   gcd-step          == one step of Euclid's algorithm
+--   gcd-cancel        == a factor of a that is coprime to b may be left out
 --   gcd               == polynomials over a field have a greatest common divisor
 --   monic-gcd         == a monic one, where not both are 0
 --   gcd-unique        == there is at most one monic greatest common divisor
@@ -130,6 +132,24 @@ module _ {K : Type 0} (R : Ring K) where
     where
       ideal : Ideal R (Divides R g)
       ideal = multiples-ideal R g
+
+  -- A factor of a that is coprime to b may be left out.
+  pub gcd-cancel : {a b c g : K} → Coprime R c b → Gcd a b g → Gcd (c ⊗ a) b g
+  gcd-cancel {a} {b} {c} {g} o p =
+      record {
+        left = p .left ⊗ o .left;
+        right = p .right ⊕ p .left ⊗ o .right ⊗ a;
+        bezout =
+            solve R 7
+            (λ a b c l r u v. l :* u :* (c :* a) :+ (r :+ l :* v :* a) :* b
+            := l :* (u :* c :+ v :* b) :* a :+ r :* b)
+            refl a b c (p .left) (p .right) (o .left) (o .right)
+            ∙ ap (λ y. p .left ⊗ y ⊗ a ⊕ p .right ⊗ b) (o .bezout)
+            ∙ solve R 4 (λ a b l r. l :* :1 :* a :+ r :* b := l :* a :+ r :* b) refl a b (p .left) (p .right)
+            ∙ p .bezout;
+        divides-left = multiples-ideal R g .multiple c (p .divides-left);
+        divides-right = p .divides-right;
+      }
 
   pub gcd-scale : {a b g : K} (c : K) → Divides R (c ⊗ g) g → Gcd a b g → Gcd a b (c ⊗ g)
   gcd-scale {a} {b} c d p =

@@ -2,6 +2,7 @@
 --
 --   field-isField     == it is a field
 --   field-size        == its size
+--   binary-field      == it is GF(2) where its size is 2
 --   size-power        == it is a power of the characteristic
 --   size-prime        == the size is prime
 --   size-least, size-most == and from 2 to 251
@@ -14,8 +15,12 @@
 -- Assumes nothing.
 use Prim.Native.Nat.{ℕ, _+_, _*_, _^_, _%_, _≤_, _<_}
 use mathlib.Core.Path.{_≡_, sym, ap, _∙_}
+use mathlib.Core.Bool.{Bool, true}
 use native.Mathlib.Nat.{mod-lt, mod-mod, zero-mod}
 use native.Mathlib.Omega.{arith}
+use lib.Dec.{eqb}
+use borrow.Author.Tests.{eqb-true}
+use Rattle.meaning.specs.Field.{prime}
 use Rattle.bridge.proofs.Interpretation.{IsField, Prime, prime-size, inRange-isField, inRange-prime}
 use Rattle.bridge.proofs.Interpretation.{prime-size-power, prime-add, prime-add-product, prime-add-remainder}
 use Rattle.arith.specs.Represented.{fieldOf, elementOf, WellFormed}
@@ -24,6 +29,10 @@ use Rattle.arith.specs.declared.field.GaloisField.{GaloisField}
 pub field-size : (f : GaloisField) → fieldOf f .size ≡ f .size
 unfolding fieldOf
 field-size f = prime-size (f .size)
+
+pub binary-field : (f : GaloisField) {b : Bool} → b ≡ eqb (f .size) 2 → b ≡ true → fieldOf f ≡ prime 2
+unfolding fieldOf
+binary-field f e h = ap prime (eqb-true _ _ (sym e ∙ h))
 
 pub size-power : (f : GaloisField) → (w : ℕ) × (fieldOf f .size ≡ fieldOf f .characteristic ^ w)
 unfolding fieldOf

@@ -2,3 +2,4 @@ pub mod Represented
 pub mod Inverse
 pub mod Slices
 pub mod sums
+pub mod products

@@ -4,6 +4,7 @@
 // constructor and the prime test assume a well-formed struct.
 mod field;
 pub mod primes;
+mod products;
 pub mod sums;
 mod vectors;
 

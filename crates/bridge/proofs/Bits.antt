@@ -1,5 +1,6 @@
 -- Polynomials over GF(2) as words of 64 bits: coefficient i is bit i, and a sum is an exclusive or.
 --
+--   differ-bits      == two bits differ where their sum is odd
 --   value-plus       == the word of a sum is the exclusive or of the words
 --   xor-top, xor-cancels == an exclusive or of words below 2^(k + 1): bit k is there where one has it, and
 --                       gone where both do
@@ -9,8 +10,10 @@
 --   word-zero, word-cons, word-shift, word-xor == the words 0, c + 2·w, w·2^i, and of an exclusive or
 --   digits-word, digits-monic == the list of as many bits as a word needs, and that it is monic
 --   word-monic       == a word from 2^k on and below 2^(k + 1) has degree k
---   word-lessX, word-reduced, word-square, word-ends == what code on words shows: h - x, a step of a division
---                       and of a square, the end of Euclid's algorithm
+--   word-lessX, word-reduced, word-square, word-ends == what code on words shows: h - x, a step of a
+--                       division, a square, the end of Euclid's algorithm
+--   word-halved, word-sum == beside an odd word a, the greatest common divisors of a and t·2^i are those of a
+--                       and t; those of a and b are those of b and the exclusive or of both
 --
 -- Assumes nothing.
 use Prim.Native.Nat.{ℕ, zero, suc, _+_, _*_, _-_, _^_, _/_, _%_, _≤_, _<_, max}
@@ -19,7 +22,7 @@ use mathlib.Core.List.{List, [], _∷_}
 use lib.ListN.{length, getD, List·getD-eq-default}
 use lib.Bits.{bitXor, differ, xor-step, xor-zero-r, xor-block, xor-lt}
 use lib.Pow.{pow-mono, pow-pos}
-use native.Mathlib.Nat.{div-eq-of-lt, div-lt-iff-lt-mul, pow-zero, pow-suc, mul-one, mul-assoc}
+use native.Mathlib.Nat.{div-eq-of-lt, div-lt-iff-lt-mul, div-add-mod', pow-zero, pow-suc, mul-one, mul-assoc}
 use native.Mathlib.Decide.{decLt}
 use native.Mathlib.Omega.{arith}
 use lib.Dec.{T}
@@ -29,20 +32,20 @@ use Rattle.meaning.specs.Field.{negative}
 use Rattle.meaning.specs.Polynomial.{Polynomial, isMonicOver, plus, scale, power}
 use Rattle.algebra.proofs.Ring.{Ring}
 use Rattle.algebra.proofs.Solver.{solve, _:=_, _:+_, _:*_, :-_, :0, :1}
-use Rattle.algebra.proofs.Power.{power-zero, power-one, power-mul, power-suc-left, power-of-zero}
+use Rattle.algebra.proofs.Ideal.{Coprime, coprime-sym, coprime-power-right}
+use Rattle.algebra.proofs.Power.{power-zero, power-suc-left}
 use Rattle.algebra.proofs.Power.{power as algebra-power}
 use Rattle.algebra.proofs.Polynomial.{X, constant, constant-polynomial-hom}
 use Rattle.algebra.proofs.Monic.{Monic, monic-degree}
 use Rattle.algebra.proofs.Divisor.{Gcd, gcd-zero}
-use Rattle.algebra.proofs.BenOr.{sum-raised, constant-fixed}
-use Rattle.bridge.proofs.Interpretation.{IsField, inRange-isField, elements, prime-add, prime-size}
-use Rattle.bridge.proofs.Interpretation.{size-positive, prime-size-power}
+use Rattle.bridge.proofs.Interpretation.{IsField, inRange-isField, prime-add, prime-size}
 use Rattle.bridge.proofs.Polynomials.{Poly, polyRing, poly, poly-nil, poly-cons}
 use Rattle.bridge.proofs.Polynomials.{poly-plus, coefficient-poly, length-plus, plus-elements}
 use Rattle.bridge.proofs.Polynomials.{monic-over}
 use Rattle.bridge.proofs.Products.{poly-power}
+use Rattle.bridge.proofs.Spread.{spread, prime-power-spread}
 use Rattle.bridge.proofs.Remainders.{Congruent, congruent-poly}
-use Rattle.bridge.proofs.IrreducibleTests.{CommonDegree, lessX}
+use Rattle.bridge.proofs.IrreducibleTests.{CommonDegree, common-step, common-sym, common-cancel, lessX}
 use Rattle.bridge.proofs.Monics.{digit, digits, length-digits, getD-digits}
 use Rattle.bridge.proofs.Words.{value, Below, below-nil, below-cons, value-nil, value-cons}
 use Rattle.bridge.proofs.Words.{value-below}
@@ -50,7 +53,7 @@ use Rattle.bridge.proofs.Words.{elements-below, below-elements}
 use Rattle.bridge.proofs.Words.{low-digit, high-digits, digits-value, value-digits, digits-below}
 
 -- The sum of two bits
-differ-bits : (x y : ℕ) → x < 2 → y < 2 → differ x y ≡ (x + y) % 2
+pub differ-bits : (x y : ℕ) → x < 2 → y < 2 → differ x y ≡ (x + y) % 2
 differ-bits zero zero h k = refl
 differ-bits zero (suc zero) h k = refl
 differ-bits (suc zero) zero h k = refl
@@ -121,7 +124,7 @@ two = inRange-isField 2 two-prime
 unfoldable pub bits : ℕ → List ℕ
 bits w = digits 2 64 w
 
-open Ring (polyRing two) using (0#, _⊕_, _⊗_, ⊖_)
+open Ring (polyRing two) using (0#, 1#, _⊕_, _⊗_, ⊖_)
 
 infixl 60 _⊕_
 infixl 70 _⊗_
@@ -322,58 +325,27 @@ word-reduced w g i l h =
           (sym (word-xor w (g * 2 ^ i) l h ∙ ap (_⊕_ (word w)) (word-shift g i h)));
     }
 
--- A square, from the top bit down: that of 0, and (c + x·u)² = c + x²·u²
-pub word-square-zero : {f : Polynomial} → Congruent two f (power (prime 2) (bits 0) (prime 2 .size)) (bits 0)
-word-square-zero =
-    congruent-poly two
-    (poly-power two (bits 0) (prime 2 .size)
-    ∙ ap (λ u. algebra-power (polyRing two) u (prime 2 .size)) empty
-    ∙ power-of-zero (polyRing two) (prime 2 .size) (size-positive two)
-    ∙ sym empty)
-  where
-    empty : word 0 ≡ 0#
-    empty = word-zero ∙ poly-nil two
-
+-- A square: the bits two places apart
 pub word-square :
-    {f : Polynomial} (c u s : ℕ)
-    → c < 2
-    → u < 2 ^ 63
-    → s < 2 ^ 62
-    → Congruent two f (power (prime 2) (bits u) (prime 2 .size)) (bits s)
-    → Congruent two f (power (prime 2) (bits (c + 2 * u)) (prime 2 .size)) (bits (c + 2 * (0 + 2 * s)))
-word-square {f} c u s h k l e =
-    record {
-      quotient = x ⊗ (x ⊗ e .quotient);
-      equation =
-          poly-power two (bits (c + 2 * u)) (prime 2 .size)
-          ∙ ap square (word-cons c u h k)
-          ∙ sum-raised (two .field) (elements two) (two .characteristic) 1 (prime-size-power 2)
-          (number c) (x ⊗ word u)
-          ∙ ap₂ _⊕_ (constant-fixed (two .field) (elements two) (two .element c))
-          (power-mul (polyRing two) x (word u) (prime 2 .size) ∙ ap₂ _⊗_ twice inner)
-          ∙ solve (polyRing two) 5
-          (λ c x s q f. c :+ x :* x :* (s :+ q :* f) := c :+ x :* (:0 :+ x :* s) :+ x :* (x :* q) :* f) refl
-          (number c) x (word s) (e .quotient) (poly two f)
-          ∙ ap (λ v. v ⊕ x ⊗ (x ⊗ e .quotient) ⊗ poly two f) (sym result);
-    }
+    {f : Polynomial} (h r : ℕ)
+    → h < 2 ^ 32
+    → r < 2 ^ 63
+    → digits 2 63 r ≡ spread 2 (digits 2 32 h)
+    → Congruent two f (power (prime 2) (bits h) (prime 2 .size)) (bits r)
+word-square h r l m e =
+    congruent-poly two
+    (poly-power two (bits h) (prime 2 .size)
+    ∙ ap (λ u. algebra-power (polyRing two) u (prime 2 .size)) (sym (digits-word 32 h (omega arith) l))
+    ∙ sym (poly-power two (digits 2 32 h) (prime 2 .size))
+    ∙ ap (λ (n : ℕ). poly two (power (prime 2) (digits 2 32 h) n)) (prime-size 2)
+    ∙ ap (poly two)
+    (prime-power-spread 2 two 1 (digits 2 32 h) (omega (arith, length-digits 2 32 h)) elements-h ∙ sym e)
+    ∙ digits-word 63 r (omega arith) m)
   where
-    square : Poly two → Poly two
-    square a = algebra-power (polyRing two) a (prime 2 .size)
-
-    inner : square (word u) ≡ word s ⊕ e .quotient ⊗ poly two f
-    inner = sym (poly-power two (bits u) (prime 2 .size)) ∙ e .equation
-
-    twice : square x ≡ x ⊗ x
-    twice =
-        ap (algebra-power (polyRing two) x) (prime-size 2)
-        ∙ power-suc-left (polyRing two) x 1
-        ∙ ap (_⊗_ x) (power-one (polyRing two) x)
-
-    result : word (c + 2 * (0 + 2 * s)) ≡ number c ⊕ x ⊗ (0# ⊕ x ⊗ word s)
-    result =
-        word-cons c (0 + 2 * s) h (omega arith)
-        ∙ ap (λ v. number c ⊕ x ⊗ v)
-        (word-cons 0 s (omega arith) (omega arith) ∙ ap (λ v. v ⊕ x ⊗ word s) nothing)
+    elements-h : T (areElements (prime 2) (digits 2 32 h))
+    elements-h =
+        below-elements (prime 2)
+        (subst (λ (q : ℕ). Below q (digits 2 32 h)) (sym (prime-size 2)) (digits-below 2 32 h (omega arith)))
 
 -- Euclid's algorithm ends: nothing is left beside a word of degree k
 pub word-ends : (k a : ℕ) → k < 64 → 2 ^ k ≤ a → a < 2 ^ suc k → CommonDegree two (bits a) (bits 0) k
@@ -385,3 +357,51 @@ word-ends k a s l h =
           subst (λ u. Gcd (polyRing two) (word a) u (word a)) (sym (word-zero ∙ poly-nil two))
           (gcd-zero (polyRing two) (word a));
     }
+
+-- The binary algorithm: beside an odd word, factors x may be left out; the sum of two words stands for one
+coprime-odd : (w : ℕ) → w < 2 ^ 63 → Coprime (polyRing two) x (word (1 + 2 * w))
+coprime-odd w l =
+    record {
+      left = ⊖ word w;
+      right = 1#;
+      bezout =
+          ap (λ u. ⊖ word w ⊗ x ⊕ 1# ⊗ u) (word-cons 1 w (omega arith) l)
+          ∙ solve (polyRing two) 3 (λ x w c. :- w :* x :+ :1 :* (c :+ x :* w) := c) refl x (word w) (number 1)
+          ∙ ap (constant (two .ring) (two .field .discrete)) (two .element-one)
+          ∙ constant-polynomial-hom (two .ring) (two .field .discrete) .one;
+    }
+
+pub word-halved :
+    (a t i : ℕ) {k : ℕ}
+    → a % 2 ≡ 1
+    → a < 2 ^ 64
+    → t * 2 ^ i < 2 ^ 64
+    → CommonDegree two (bits a) (bits t) k
+    → CommonDegree two (bits a) (bits (t * 2 ^ i)) k
+word-halved a t i odd l h d =
+    common-sym two (common-cancel two coprime (word-shift t i h) (common-sym two d))
+  where
+    whole : 1 + 2 * (a / 2) ≡ a
+    whole = omega (arith, div-add-mod' a 2)
+
+    coprime : Coprime (polyRing two) (algebra-power (polyRing two) x i) (word a)
+    coprime =
+        coprime-sym (polyRing two)
+        (coprime-power-right (polyRing two)
+        (coprime-sym (polyRing two)
+        (subst (λ (n : ℕ). Coprime (polyRing two) x (word n)) whole
+        (coprime-odd (a / 2) (omega (arith, whole)))))
+        i)
+
+pub word-sum :
+    (a b : ℕ) {k : ℕ}
+    → a < 2 ^ 64
+    → b < 2 ^ 64
+    → CommonDegree two (bits b) (bits (bitXor a b)) k
+    → CommonDegree two (bits a) (bits b) k
+word-sum a b l h = common-step two
+    (subst (λ (n : ℕ). Congruent two (bits b) (bits a) (bits (bitXor a n))) same
+    (word-reduced a b 0 l (omega (arith, same))))
+  where
+    same : b * 2 ^ 0 ≡ b
+    same = rw (pow-zero 2) (mul-one b)

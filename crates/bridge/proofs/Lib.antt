@@ -29,8 +29,10 @@ pub mod Repeats
 pub mod CommonOrders
 pub mod RepeatLengths
 pub mod Padding
+pub mod WordLists
 pub mod Coefficients
 pub mod MasseySteps
+pub mod MasseyBits
 pub mod MasseyAnswer
 pub mod MasseyFirst
 pub mod Meters

@@ -11,7 +11,7 @@ use crate::smaller;
 use arith::GaloisField;
 
 // The place `step` places after `at` in a period of n terms.
-fn advance(at: usize, step: usize, n: usize) -> usize
+pub fn advance(at: usize, step: usize, n: usize) -> usize
     requires { ⌜ (at < n) × (step < n) ⌝ }
     ensures { λ r. ⌜ r ≡ (at + step) % n ⌝ }
 {

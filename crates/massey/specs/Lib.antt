@@ -1,2 +1,4 @@
 pub mod Shortest
 pub mod step
+pub mod words
+pub mod binary

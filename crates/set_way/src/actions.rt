@@ -5,6 +5,7 @@ use action::power_action::act_power;
 use arith::GaloisField;
 use lent::halves::all_zero;
 use lent::halves::load;
+use poly::factors::total_degree;
 ghost use Prim.Native.Nat.{_≤_};
 ghost use lib.ListN.{length};
 ghost use Rattle.arith.specs.Represented.{fieldOf, WellFormed};
@@ -43,8 +44,9 @@ pub fn act_others(
     Place { half: at, count }
 }
 
-// Whether the product of the factors to their upper powers annihilates the terms: it acts on all of them.
-// Uses both halves of the work bytes, and leaves all beyond them as it was.
+// Whether the product of the factors to their upper powers annihilates the terms: it acts on all of them,
+// where there are more than its degree. Uses both halves of the work bytes, and leaves all beyond them as it
+// was.
 pub fn annihilates(
     field: GaloisField,
     work: &mut [u8],
@@ -58,6 +60,9 @@ pub fn annihilates(
     ensures { λ r. ⌜ SetDecided (fieldOf field) (listsOf (now (factors .entry))) (now (uppers .entry))
         (now (terms .entry)) (now (work .entry)) (now (work .exit)) r ⌝ }
 {
+    if terms.len() <= total_degree(factors, uppers) {
+        return true;
+    }
     load(work, 0, terms);
     let left = act_others(field, work, terms.len(), factors, uppers, factors.len());
     let from = 4096 * left.half;

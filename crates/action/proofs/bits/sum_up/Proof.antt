@@ -1,0 +1,95 @@
+-- `bits::sum_up` meets its contract. The invariant: the elements of the sums, with the action of the
+-- coefficients that are left at the place `at`, make the whole action. The measure is how many coefficients
+-- are left. Assumes nothing.
+use Prim.Native.Nat.{_-_, _≤_, _<_}
+use mathlib.Core.Path.{_≡_, refl, sym, ap, subst, _∙_}
+use native.Mathlib.Nat.{mod-lt}
+use lib.ListN.{length}
+use denote.Ref.{now}
+use borrow.Author.Needs.{needs}
+use Rattle.meaning.specs.Field.{prime}
+use Rattle.bridge.proofs.Bits.{two}
+use Rattle.lent.proofs.blocks.Summing.{Summing, summing-none, summing-more, summing-end}
+use Rattle.action.specs.bits.Bits.{bitsOf}
+use Rattle.action.proofs.bits.Summed.{bits-zeros, bits-below}
+use native.Mathlib.Omega.{arith}
+use Rattle.action.proofs.bits.sum_up.Statement.{statement}
+use Rattle.action.proofs.bits.sum_up.Tie as tie
+
+abbrev Inv-loop : tie.InvT-loop
+Inv-loop sums₀ ts i f step at₀ j₀ j-end sums at j =
+    (j ≤ j-end)
+    × (j-end ≡ length f)
+    × (at < length ts)
+    × (length sums ≡ length sums₀)
+    × Summing (prime 2) f step ts i (length sums₀) (bitsOf sums) at j
+
+abbrev μ-loop : tie.MeasureT-loop
+μ-loop sums₀ ts i f step at₀ j₀ j-end sums at j = j-end - j
+
+loop-holds : tie.Need-loop-holds Inv-loop μ-loop
+loop-holds c =
+    let b = c .before .before .before in
+    let a = b .args in
+    let m = length (now (a .sums)) in
+    let z = b .pre .0 in (
+      omega arith,
+      refl,
+      omega arith,
+      refl,
+      subst (λ l. Summing (prime 2) (now (a .f)) (a .step) (now (a .ts)) (a .i) m l (a .i) 0)
+          (sym (ap bitsOf z ∙ bits-zeros m))
+          (summing-none two),
+    )
+
+shared-slice-read-add-cyclic : tie.Need-shared-slice-read-add-cyclic Inv-loop μ-loop
+shared-slice-read-add-cyclic c = search needs
+
+add-cyclic-requires : tie.Need-add-cyclic-requires Inv-loop μ-loop
+add-cyclic-requires c κs = (omega arith, omega arith)
+
+advance-requires : tie.Need-advance-requires Inv-loop μ-loop
+advance-requires c κs = search needs
+
+add-j : tie.Need-add-j Inv-loop μ-loop
+add-j c = search needs
+
+loop-less : tie.Need-loop-less Inv-loop μ-loop
+loop-less c = search needs
+
+loop-again : tie.Need-loop-again Inv-loop μ-loop
+loop-again c =
+    let k = c .before .before .before .add-cyclic in
+    let l = c .before .before .before .before .before .before .before .loop in
+    let b = c .before .before .before .before .before .before .before .before .before .before .before in
+    let t = now (b .args .ts) in (
+      omega arith,
+      refl,
+      subst (λ n. n < length t) (sym (c .advance .ensures)) (mod-lt _ (omega arith)),
+      k .kept .0 ∙ l .inv .3,
+      summing-more two (l .inv .4) (omega arith) (c .advance .ensures) (l .inv .3) (k .ensures),
+    )
+
+same-length : tie.Need-same-length Inv-loop μ-loop
+same-length c = search needs
+
+returns : tie.Need-returns Inv-loop μ-loop
+returns c =
+    let l = c .before .loop in
+    summing-end two (l .inv .4) (omega arith) (bits-below (l .sums))
+
+pub sum-up-spec : {M : Type 1} → statement M
+sum-up-spec =
+    tie.close
+    (tie.spec
+    Inv-loop
+    μ-loop
+    loop-holds
+    shared-slice-read-add-cyclic
+    add-cyclic-requires
+    advance-requires
+    add-j
+    loop-less
+    loop-again
+    same-length
+    returns)

@@ -1,0 +1,128 @@
+// A block of the action of a polynomial on a period over GF(2), at most 256 places of it, by exclusive or of
+// bytes: of each byte the lowest bit counts. Assumes nothing.
+ghost use mathlib.Core.Path.{_≡_};
+ghost use mathlib.Core.List.{_++_};
+ghost use Prim.Native.Nat.{_+_, _≤_, _<_};
+ghost use lib.ListN.{length, replicate};
+ghost use Rattle.meaning.specs.Field.{prime};
+ghost use Rattle.meaning.specs.Sequence.{cut, periodic};
+ghost use Rattle.bridge.proofs.KnownActions.{allZero};
+ghost use Rattle.arith.specs.Represented.{fieldOf, WellFormed};
+ghost use Rattle.arith.specs.Slices.{combined};
+ghost use Rattle.lent.specs.blocks.Blocks.{blockOnPeriod, Block, BlockActed};
+ghost use Rattle.action.specs.bits.Bits.{bytes, bitsOf};
+use arith::GaloisField;
+use lent::blocks::act_block;
+use lent::blocks::advance;
+use lent::smaller;
+
+// Leaves in the place of each sum the exclusive or of it and its term, as far as the terms s go.
+fn add_run(sums: &mut [u8], s: &[u8])
+    requires { ⌜ length (now s) ≤ length (now sums) ⌝ }
+    ensures { λ _. ⌜ now (sums .exit) ≡ combined bytes (now (sums .entry)) 1 (now (s .entry)) ⌝ }
+{
+    // the first i sums have their term added, and the others are as they were
+    for i in 0..s.len() {
+        sums[i] = sums[i] ^ s[i];
+    }
+}
+
+// The same for as many terms as there are sums, which stand in two runs.
+fn add_runs(sums: &mut [u8], first: &[u8], second: &[u8])
+    requires { ⌜ length (now first) + length (now second) ≡ length (now sums) ⌝ }
+    ensures { λ _. ⌜ now (sums .exit)
+        ≡ combined bytes (now (sums .entry)) 1 (now (first .entry) ++ now (second .entry)) ⌝ }
+{
+    let n = first.len();
+    add_run(&mut sums[0..n], first);
+    add_run(&mut sums[n..], second);
+}
+
+// Adds c·s to the sums, s being the terms of the period ts from the place `at` on.
+fn add_cyclic(sums: &mut [u8], c: u8, ts: &[u8], at: usize)
+    requires { ⌜ (at < length (now ts)) × (length (now sums) ≤ length (now ts)) ⌝ }
+    ensures { λ _. ⌜ bitsOf (now (sums .exit)) ≡ combined (prime 2) (bitsOf (now (sums .entry))) c
+        (cut (periodic (now (ts .entry))) at (length (now (sums .entry)))) ⌝ }
+{
+    if c % 2 == 0 {
+        return;
+    }
+    let n = smaller(sums.len(), ts.len() - at);
+    let rest = sums.len() - n;
+    add_runs(sums, &ts[at..at + n], &ts[0..rest]);
+}
+
+// Leaves in the sums, which are 0, the action of f with the stride `step` on the period ts, from the place i
+// on.
+fn sum_up(sums: &mut [u8], ts: &[u8], i: usize, f: &[u8], step: usize)
+    requires { ⌜ now sums ≡ replicate (length (now sums)) 0 ⌝ }
+    requires { ⌜ (i < length (now ts)) × (length (now sums) ≤ length (now ts)) × (step < length (now ts)) ⌝ }
+    ensures { λ _. ⌜ bitsOf (now (sums .exit)) ≡ blockOnPeriod (prime 2) (now (f .entry)) step
+        (now (ts .entry)) i (length (now (sums .entry))) ⌝ }
+{
+    // sums + the action of the coefficients from j on at the place `at` is the whole action
+    let mut at = i;
+    for j in 0..f.len() {
+        add_cyclic(sums, f[j], ts, at);
+        at = advance(at, step, ts.len());
+    }
+}
+
+// Leaves in `out` the elements that the sums stand for, and answers whether all of them are 0.
+fn store(sums: &[u8], out: &mut [u8]) -> bool
+    requires { ⌜ length (now sums) ≡ length (now out) ⌝ }
+    ensures { λ r. ⌜ (now (out .exit) ≡ bitsOf (now (sums .entry))) × (r ≡ allZero (now (out .exit))) ⌝ }
+{
+    // the first i elements are in out, and `any` is 0 where they are all 0
+    let mut any: u8 = 0;
+    for i in 0..out.len() {
+        let value = sums[i] % 2;
+        out[i] = value;
+        any = any | value;
+    }
+    any == 0
+}
+
+// Acts over GF(2) as `act_block` of lent does over any field.
+fn act_bits(
+    w: &mut [u8],
+    from: usize,
+    n: usize,
+    i: usize,
+    f: &[u8],
+    q: usize,
+    to: usize,
+    m: usize,
+) -> bool
+    requires { ⌜ Block (now w) from n i to m ⌝ }
+    ensures { λ r. ⌜ BlockActed (prime 2) (now (w .entry)) from n i (now (f .entry)) q to m
+        (now (w .exit)) r ⌝ }
+{
+    let mut sums = [0u8; 256];
+    sum_up(&mut sums[0..m], &w[from..from + n], i, f, q % n);
+    store(&sums[0..m], &mut w[to..to + m])
+}
+
+// Acts with f and the stride q on the n numbers of w from `from` on as a period, and leaves the m values from
+// the place i on in w from `to` on, and all other bytes as they were. Answers whether these values are all 0.
+pub(crate) fn act_part(
+    field: GaloisField,
+    w: &mut [u8],
+    from: usize,
+    n: usize,
+    i: usize,
+    f: &[u8],
+    q: usize,
+    to: usize,
+    m: usize,
+) -> bool
+    requires { ⌜ WellFormed field ⌝ }
+    requires { ⌜ Block (now w) from n i to m ⌝ }
+    ensures { λ r. ⌜ BlockActed (fieldOf field) (now (w .entry)) from n i (now (f .entry)) q to m
+        (now (w .exit)) r ⌝ }
+{
+    if field.is_binary() {
+        return act_bits(w, from, n, i, f, q, to, m);
+    }
+    act_block(field, w, from, n, i, f, q, to, m)
+}

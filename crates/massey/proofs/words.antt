@@ -1,0 +1,3 @@
+pub mod Shifting
+pub mod Folding
+pub mod Packing
