@@ -251,8 +251,8 @@ fn every_length() -> Outcome {
     Ok(cases)
 }
 
-// Degrees and numbers of terms on both sides of whole words of 64 bits, and of whole rows of sixteen: registers, the same
-// with the last term changed, and zeros up to a last term.
+// Degrees and numbers of terms on both sides of whole words of 64 bits, and of whole rows of sixteen: registers with the
+// last term changed, the same without that term, and zeros up to a last term.
 fn word_boundaries() -> Outcome {
     let mut random = Random::of_seed(39);
     let mut cases = 0;

@@ -1,5 +1,5 @@
 // A block of the action of a polynomial on a period over GF(2), at most 256 places of it, by exclusive or of
-// bytes: of each byte the lowest bit counts. Assumes nothing.
+// bytes: of each byte the lowest bit counts. Assumes a well-formed field, and places as each function says.
 ghost use mathlib.Core.Path.{_≡_};
 ghost use mathlib.Core.List.{_++_};
 ghost use Prim.Native.Nat.{_+_, _≤_, _<_};

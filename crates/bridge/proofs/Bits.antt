@@ -11,7 +11,7 @@
 --   digits-word, digits-monic == the list of as many bits as a word needs, and that it is monic
 --   word-monic       == a word from 2^k on and below 2^(k + 1) has degree k
 --   word-lessX, word-reduced, word-square, word-ends == what code on words shows: h - x, a step of a
---                       division, a square, the end of Euclid's algorithm
+--                       division, a square, the end of the search for a greatest common divisor
 --   word-halved, word-sum == beside an odd word a, the greatest common divisors of a and t·2^i are those of a
 --                       and t; those of a and b are those of b and the exclusive or of both
 --
@@ -347,7 +347,7 @@ word-square h r l m e =
         below-elements (prime 2)
         (subst (λ (q : ℕ). Below q (digits 2 32 h)) (sym (prime-size 2)) (digits-below 2 32 h (omega arith)))
 
--- Euclid's algorithm ends: nothing is left beside a word of degree k
+-- The end: nothing is left beside a word of degree k
 pub word-ends : (k a : ℕ) → k < 64 → 2 ^ k ≤ a → a < 2 ^ suc k → CommonDegree two (bits a) (bits 0) k
 word-ends k a s l h =
     record {

@@ -81,7 +81,7 @@ pub digit-shr : (w k r : ℕ) → digit 2 (w / 2 ^ k) r ≡ digit 2 w (k + r)
 unfolding digit
 digit-shr w k r = ap (λ n. n % 2) (shr-shr w k r)
 
-pub digit-mod : (w d r : ℕ) → r < d → digit 2 (w % 2 ^ d) r ≡ digit 2 w r
+digit-mod : (w d r : ℕ) → r < d → digit 2 (w % 2 ^ d) r ≡ digit 2 w r
 unfolding digit
 digit-mod w d r l =
     let e : d ≡ d - r - 1 + 1 + r = omega arith in
@@ -149,7 +149,7 @@ parity-xor-below (suc d) u v h k =
     halves : bitXor u v / 2 ≡ bitXor (u / 2) (v / 2)
     halves = xor-shr u v 1
 
-pub parity-xor : {u v : ℕ} → u < 2 ^ 64 → v < 2 ^ 64 → ones (bitXor u v) % 2 ≡ (ones u % 2 + ones v % 2) % 2
+parity-xor : {u v : ℕ} → u < 2 ^ 64 → v < 2 ^ 64 → ones (bitXor u v) % 2 ≡ (ones u % 2 + ones v % 2) % 2
 parity-xor {u} {v} = parity-xor-below 64 u v
 
 -- the smaller of two bits is their product
@@ -205,7 +205,7 @@ parity-and-below (suc d) u v s k l e =
         let a : k + suc r ≡ suc k + r = omega arith in
         digit-shr v 1 r ∙ ap (digit 2 v) (omega arith) ∙ e (suc r) (omega arith) ∙ ap (λ i. s i % 2) a
 
-pub parity-and :
+parity-and :
     (u v : ℕ) (s : Sequence) (k : ℕ)
     → u < 2 ^ 64
     → ((r : ℕ) → r < 64 → digit 2 v r ≡ s (k + r) % 2)
@@ -242,7 +242,7 @@ raised-before zero g i l = absurd (omega arith)
 raised-before (suc s) g zero l = refl
 raised-before (suc s) g (suc i) l = raised-before s g i (omega arith)
 
-pub raised-within : (s : ℕ) (g : List ℕ) (i : ℕ) → getD (raised s g) (s + i) 0 ≡ getD g i 0
+raised-within : (s : ℕ) (g : List ℕ) (i : ℕ) → getD (raised s g) (s + i) 0 ≡ getD g i 0
 unfolding raised
 raised-within s g i =
     ap (λ n. getD (replicate s 0 ++ g) (n + i) 0) (sym (length-replicate s 0))
