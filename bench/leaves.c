@@ -90,15 +90,21 @@ static void vectors(uint16_t p) {
     line(what, g / BYTES, h / BYTES, "ns");
 }
 
-// an irreducible polynomial of this degree, so that no common divisor ends the test
-static void irreducibility(uint32_t p, int d) {
-    uint8_t f[33], yes = 0;
-    char what[80];
+// leaves an irreducible polynomial of this degree in f
+static void choose_irreducible(uint32_t p, int d, uint8_t *f) {
+    uint8_t yes = 0;
     do {
         for (int i = 0; i < d; i++) f[i] = below(p);
         f[d] = 1;
         same(rater_is_irreducible(p, f, d + 1, &yes) == 0, "an accepted polynomial");
     } while (!yes);
+}
+
+// of an irreducible polynomial, so that no common divisor ends the test
+static void irreducibility(uint32_t p, int d) {
+    uint8_t f[33], yes = 0;
+    char what[80];
+    choose_irreducible(p, d, f);
     same(c_irreducible_ben_or(p, f, d), "irreducibility");
     volatile bool sink;
     MEASURE(rater_is_irreducible(p, f, d + 1, &yes), sink = c_irreducible_ben_or(p, f, d), 300, a, b)
@@ -125,13 +131,10 @@ static void periods(size_t n) {
 
 // an irreducible polynomial whose order is beyond the limit, so that the walk is as long as it may be
 static void order(uint32_t p, int d) {
-    uint8_t f[33], yes = 0;
+    uint8_t f[33];
     char what[80];
-    do {
-        for (int i = 0; i < d; i++) f[i] = below(p);
-        f[d] = 1;
-        same(rater_is_irreducible(p, f, d + 1, &yes) == 0, "an accepted polynomial");
-    } while (!yes || c_order(p, f, d, 65536) != 0);
+    do choose_irreducible(p, d, f);
+    while (c_order(p, f, d, 65536) != 0);
     same(leaf_order(p, f, d + 1, 65536) == 0, "an order");
     volatile size_t sink;
     MEASURE(sink = leaf_order(p, f, d + 1, 65536), sink = c_order(p, f, d, 65536), 3, a, b)
