@@ -21,9 +21,13 @@ use refusals::numbering::refusal_number;
 const ANSWER: usize = 4097 + 13;
 const HALVES: usize = 8192;
 const WORK: usize = HALVES + 13;
-// the only arrays of the search: the 256 sums of a block, of 16 bits each and over GF(2) of 8, and the files in which they
-// are made
-const SUMS: [(&str, usize); 2] = [("/lent/blocks.rs", 512), ("/action/bits.rs", 256)];
+// the only arrays of the search: the 32 or 256 sums of a block, of 16 bits each, and over GF(2) 256 of 8, and the files in
+// which they are made
+const SUMS: [(&str, usize); 3] = [
+    ("/lent/blocks.rs", 64),
+    ("/lent/blocks.rs", 512),
+    ("/action/bits.rs", 256),
+];
 
 // A period with one factor, and how it is to be rated.
 struct Period {

@@ -1,2 +1,3 @@
 pub mod Maximum
 pub mod Coefficients
+pub mod Linear

@@ -78,10 +78,14 @@ pub fn not_monic(p: u64, factor: &[u8]) -> bool
     factor[factor.len() - 1] != 1
 }
 
-// 12, of a list: reducible. It is asked of a monic factor that 6, 10 and 11 let pass, and holds of no other.
+// 12, of a list: reducible. It is asked of a monic factor that 6, 10 and 11 let pass, and holds of no other,
+// nor of one of degree 1.
 pub fn reducible(p: u64, factor: &[u8]) -> bool
     ensures { λ r. ⌜ r ≡ isReducible p (now (factor .entry)) ⌝ }
 {
+    if factor.len() <= 2 {
+        return false;
+    }
     if not_prime(p) {
         return false;
     }

@@ -51,8 +51,32 @@ fn sum_up(field: GaloisField, sums: &mut [u16], ts: &[u8], i: usize, f: &[u8], s
     }
 }
 
+// Acts as `act_block` does, for as many values as there are sums, which are 0.
+fn act_with(
+    field: GaloisField,
+    sums: &mut [u16],
+    w: &mut [u8],
+    from: usize,
+    n: usize,
+    i: usize,
+    f: &[u8],
+    q: usize,
+    to: usize,
+) -> bool
+    requires { ⌜ WellFormed field ⌝ }
+    requires { ⌜ now sums ≡ replicate (length (now sums)) 0 ⌝ }
+    requires { ⌜ Block (now w) from n i to (length (now sums)) ⌝ }
+    ensures { λ r. ⌜ BlockActed (fieldOf field) (now (w .entry)) from n i (now (f .entry)) q to
+        (length (now (sums .entry))) (now (w .exit)) r ⌝ }
+{
+    let m = sums.len();
+    sum_up(field, sums, &w[from..from + n], i, f, q % n);
+    arith::sums::store(field, sums, &mut w[to..to + m])
+}
+
 // Acts with f and the stride q on the n numbers of w from `from` on as a period, and leaves the m values from
 // the place i on in w from `to` on, and all other bytes as they were. Answers whether these values are all 0.
+// A short block has a short array of sums, which costs less to make.
 pub fn act_block(
     field: GaloisField,
     w: &mut [u8],
@@ -69,7 +93,10 @@ pub fn act_block(
     ensures { λ r. ⌜ BlockActed (fieldOf field) (now (w .entry)) from n i (now (f .entry)) q to m
         (now (w .exit)) r ⌝ }
 {
+    if m <= 32 {
+        let mut sums = [0u16; 32];
+        return act_with(field, &mut sums[0..m], w, from, n, i, f, q, to);
+    }
     let mut sums = [0u16; 256];
-    sum_up(field, &mut sums[0..m], &w[from..from + n], i, f, q % n);
-    arith::sums::store(field, &sums[0..m], &mut w[to..to + m])
+    act_with(field, &mut sums[0..m], w, from, n, i, f, q, to)
 }

@@ -2,3 +2,4 @@ pub mod Convolution
 pub mod Between
 pub mod Made
 pub mod Blocks
+pub mod Scaled
