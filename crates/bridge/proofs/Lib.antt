@@ -33,6 +33,7 @@ pub mod WordLists
 pub mod Coefficients
 pub mod MasseySteps
 pub mod MasseyBits
+pub mod MasseyImages
 pub mod MasseyAnswer
 pub mod MasseyFirst
 pub mod Meters

@@ -1,2 +1,3 @@
+pub mod Aligning
 pub mod Standing
 pub mod Turning

@@ -1,3 +1,3 @@
-pub mod Shifting
-pub mod Folding
+pub mod Moving
 pub mod Packing
+pub mod Searching

@@ -1,9 +1,12 @@
 // The free way over GF(2), on words of bits, by the steps that it takes over any field: a correction is 1,
-// and a sum an exclusive or. Both polynomials stand in 132 words with their leading 1: f in one half of 66
-// and g in the other, with zeros after them. Assumes at most 4,096 terms, whose words stand in 66.
-use crate::step::Recurrence;
-use crate::words::add_shifted;
+// and a sum an exclusive or. Of f and of g, an earlier f, 66 words each have the coefficients at the top, the
+// leading one in bit 4,159, and below them the discrepancies at the terms to come, that at t(n) in bit 4,095
+// − n. So a correction is one sum, of f and of g moved down, and the next one is found by a bit that is 1.
+// Assumes at most 4,096 terms, of which m have the words from a on.
+use crate::words::add_moved;
 use crate::words::bit_at;
+use crate::words::exchange;
+use crate::words::move_word;
 use crate::words::next_one;
 use crate::words::pack;
 use crate::words::unpack;
@@ -11,100 +14,146 @@ use lent::clear;
 use lent::smaller;
 ghost use mathlib.Core.Path.{_≡_};
 ghost use mathlib.Core.List.{List};
-ghost use Prim.Native.Nat.{ℕ, _+_, _/_, _≤_, _<_};
+ghost use Prim.Native.Nat.{ℕ, _+_, _*_, _≤_, _<_};
 ghost use lib.ListN.{length, getD};
 ghost use Rattle.meaning.specs.Field.{prime};
 ghost use Rattle.massey.specs.step.Steps.{RoomFor};
 ghost use Rattle.massey.specs.Shortest.{ShortestRecurrence};
-ghost use Rattle.massey.specs.words.Words.{Spaces, PackedTerms};
-ghost use Rattle.massey.specs.binary.Binary.{WordsHold, WordsReady, Misfits, WordsStepped};
-ghost use Rattle.massey.specs.binary.Binary.{WordsAdvanced, Cancelled, WordsReduced};
+ghost use Rattle.massey.specs.words.Words.{Words, TermsPacked};
+ghost use Rattle.massey.specs.binary.Binary.{reachedWith, changedWith, Aligned, Ready, Hold};
+ghost use Rattle.massey.specs.binary.Binary.{Misfits, Stepped, Advanced, Cancelled, Reducible, Reduced};
 
-// What is known after one term more, t(n) for n terms seen, which f does not fit.
-fn correct(known: Recurrence, w: &mut [u64]) -> Recurrence
-    requires { ⌜ WordsReady (now w) known ⌝ }
-    ensures { λ r. ⌜ ((ts : List ℕ) → WordsHold ts (now (w .entry)) known → Misfits ts known
-        → WordsStepped ts known (now (w .exit)) r) ⌝ }
-{
-    let n = known.seen;
-    let l = known.degree;
-    let x = 66 * known.half;
-    let y = 66 * (1 - known.half);
-    let m = n + 1 - l;
-    if m <= l {
-        add_shifted(w, x, y, l - m, known.earlier / 64 + 1);
-        return known.passed();
-    }
-    add_shifted(w, y, x, m - l, l / 64 + 1);
-    known.changed(1)
+// What is known after the terms seen, beside the words of f and g: how many they are, the degree L of f, and
+// how many coefficients g has. For a correction at t(n) g is moved down by n + 1 − aligned bits.
+pub struct Known {
+    pub seen: usize,
+    pub degree: usize,
+    pub earlier: usize,
+    pub aligned: usize,
 }
 
-// What is known after the terms that f fits, from those seen on, and the next of the m terms t, if there is
-// one.
-fn step(known: Recurrence, m: usize, t: &[u64], w: &mut [u64]) -> Recurrence
-    requires { ⌜ WordsReady (now w) known × (known .seen < m) × (m ≤ 4096) × (length (now t) ≡ 66) ⌝ }
-    ensures { λ r. ⌜ ((ts : List ℕ) → PackedTerms (now (t .entry)) ts → WordsHold ts (now (w .entry)) known
-        → WordsAdvanced ts known m (now (w .exit)) r) ⌝ }
+// The same after the first n terms, where f fits all from those seen on.
+fn reached(known: Known, n: usize) -> Known
+    ensures { λ r. ⌜ r ≡ reachedWith known n ⌝ }
 {
-    let l = known.degree;
-    let x = 66 * known.half;
-    let k = next_one(w, x, l / 64 + 1, t, known.seen - l, m - l);
-    let reached = known.at(k + l);
-    if k == m - l {
-        return reached;
+    Known {
+        seen: n,
+        degree: known.degree,
+        earlier: known.earlier,
+        aligned: known.aligned,
     }
-    correct(reached, w)
 }
 
-// What is known after all terms, for their words t. Leaves f and g in w, which has zeros.
-fn after_all(terms: &[u8], t: &[u64], w: &mut [u64]) -> Recurrence
-    requires { ⌜ (length (now terms) ≤ 4096) × (length (now t) ≡ 66) × PackedTerms (now t) (now terms) ⌝ }
-    requires { ⌜ (length (now w) ≡ 132) × ((j : ℕ) → getD (now w) j 0 ≡ 0) ⌝ }
-    ensures { λ r. ⌜ (r .seen ≡ length (now (terms .entry)))
-        × WordsHold (now (terms .entry)) (now (w .exit)) r ⌝ }
+// The same after a term for which the degree changes, and f becomes g.
+fn changed(known: Known) -> Known
+    requires { ⌜ (known .degree ≤ known .seen) × (known .seen < 4096) ⌝ }
+    ensures { λ r. ⌜ r ≡ changedWith known ⌝ }
 {
-    w[0] = 1;
-    let mut known = Recurrence {
-        seen: 0,
-        degree: 0,
-        earlier: 0,
-        value: 1,
-        half: 0,
-    };
-    // known and the words hold what the model knows after the terms seen
-    while known.seen < terms.len() {
-        known = step(known, terms.len(), t, w);
+    Known {
+        seen: known.seen + 1,
+        degree: known.seen + 1 - known.degree,
+        earlier: known.degree + 1,
+        aligned: known.seen + 1,
+    }
+}
+
+// Moves g down by whole words, until fewer than 64 bits are left for a correction at t(n), for n terms seen.
+fn align(mut known: Known, g: &mut [u64], a: usize) -> Known
+    requires { ⌜ Words (now g) × (a ≤ 65) × (known .aligned ≤ known .seen + 1) × (known .seen ≤ 8192) ⌝ }
+    ensures { λ r. ⌜ Aligned known (now (g .entry)) a r (now (g .exit)) ⌝ }
+{
+    // g is moved by the words that `aligned` tells
+    while known.aligned + 64 <= known.seen + 1 {
+        move_word(g, a);
+        known.aligned = known.aligned + 64;
     }
     known
 }
 
-// For f, the words from x on, and g, of e coefficients, those from y on: leaves f + a·x^s·g in the place of
-// f, for the coefficient a of f at the place of the leading one of x^s·g.
-fn cancel(w: &mut [u64], x: usize, y: usize, e: usize, s: usize)
-    requires { ⌜ (1 ≤ e) × (e + s ≤ 4096) × (x ≤ 66) × (length (now w) ≡ 132) ⌝ }
-    requires { ⌜ Spaces (now w) x y s (e / 64 + 1) ⌝ }
-    ensures { λ _. ⌜ Cancelled (now (w .entry)) x y e s (now (w .exit)) ⌝ }
+// What is known after one term more, t(n) for n terms seen, which f does not fit, where g is aligned.
+fn correct(known: Known, f: &mut [u64], g: &mut [u64], a: usize) -> Known
+    requires { ⌜ Ready known (now f) (now g) a ⌝ }
+    ensures { λ r. ⌜ ((ts : List ℕ) → Hold ts known (now (f .entry)) (now (g .entry)) a → Misfits ts known
+        → Stepped ts known r (now (f .exit)) (now (g .exit)) a) ⌝ }
 {
-    if bit_at(w, x, e - 1 + s) == 0 {
-        return;
+    let n = known.seen;
+    let l = known.degree;
+    let m = n + 1 - l;
+    let k = (n + 1 - known.aligned) as u64;
+    if m <= l {
+        add_moved(f, g, a, k);
+        return reached(known, n + 1);
     }
-    add_shifted(w, x, y, s, e / 64 + 1);
+    exchange(f, g, a, k);
+    changed(known)
+}
+
+// What is known after the terms that f fits, from those seen on, and the next of the m terms, if there is
+// one.
+fn step(known: Known, m: usize, f: &mut [u64], g: &mut [u64], a: usize) -> Known
+    requires { ⌜ (known .seen < m) × (64 * a + m ≤ 4096) ⌝ }
+    requires { ⌜ Words (now f) × Words (now g) ⌝ }
+    requires { ⌜ (known .degree ≤ known .seen) × (known .aligned ≤ known .seen + 1) ⌝ }
+    ensures { λ r. ⌜ ((ts : List ℕ) → Hold ts known (now (f .entry)) (now (g .entry)) a
+        → Advanced ts known m r (now (f .exit)) (now (g .exit)) a) ⌝ }
+{
+    let n = next_one(f, known.seen, m);
+    let at = reached(known, n);
+    if n == m {
+        return at;
+    }
+    let ready = align(at, g, a);
+    correct(ready, f, g, a)
+}
+
+// What is known after all terms, whose bits are in f. Leaves f and g in the words, of which those of g have
+// zeros.
+fn after_all(terms: &[u8], f: &mut [u64], g: &mut [u64], a: usize) -> Known
+    requires { ⌜ (64 * a + length (now terms) ≤ 4096) × TermsPacked (now terms) (now f) ⌝ }
+    requires { ⌜ (length (now g) ≡ 66) × ((j : ℕ) → getD (now g) j 0 ≡ 0) ⌝ }
+    ensures { λ r. ⌜ (r .seen ≡ length (now (terms .entry)))
+        × Hold (now (terms .entry)) r (now (f .exit)) (now (g .exit)) a ⌝ }
+{
+    f[64] = 9223372036854775808;
+    g[64] = 1;
+    let mut known = Known {
+        seen: 0,
+        degree: 0,
+        earlier: 0,
+        aligned: 0,
+    };
+    // known and the words hold what the model knows after the terms seen
+    while known.seen < terms.len() {
+        known = step(known, terms.len(), f, g, a);
+    }
+    known
+}
+
+// Leaves f + c·x^s·g in the place of f, s = 2·L − 1 − n, for the coefficient c of f at the place of the
+// leading one of x^s·g. Answers how g is aligned then.
+fn cancel(known: Known, f: &mut [u64], g: &mut [u64], a: usize) -> Known
+    requires { ⌜ Reducible known (now f) (now g) a ⌝ }
+    ensures { λ r. ⌜ Cancelled known (now (f .entry)) (now (g .entry)) a r (now (f .exit)) (now (g .exit)) ⌝ }
+{
+    if bit_at(f, 4157 + known.degree + known.earlier - known.seen) == 0 {
+        return known;
+    }
+    let ready = align(known, g, a);
+    add_moved(f, g, a, (ready.seen + 1 - ready.aligned) as u64);
+    ready
 }
 
 // Leaves the first of the polynomials that fit in the place of f.
-fn reduce(terms: &[u8], known: Recurrence, w: &mut [u64])
-    requires { ⌜ (length (now terms) ≤ 4096) × (length (now w) ≡ 132) ⌝ }
-    requires { ⌜ (known .seen ≡ length (now terms)) × WordsHold (now terms) (now w) known ⌝ }
-    ensures { λ _. ⌜ WordsReduced (now (terms .entry)) (now (w .exit)) known ⌝ }
+fn reduce(terms: &[u8], mut known: Known, f: &mut [u64], g: &mut [u64], a: usize)
+    requires { ⌜ (64 * a + length (now terms) ≤ 4096) × (known .seen ≡ length (now terms)) ⌝ }
+    requires { ⌜ Hold (now terms) known (now f) (now g) a ⌝ }
+    ensures { λ _. ⌜ Reduced (now (terms .entry)) known (now (f .exit)) ⌝ }
 {
-    let x = 66 * known.half;
-    let y = 66 * (1 - known.half);
     let l = known.degree;
-    let mut s = 2 * l - smaller(2 * l, terms.len());
-    // f is 0 at the places from e + s on, for the degree e of g
-    while s > 0 {
-        s = s - 1;
-        cancel(w, x, y, known.earlier, s);
+    // f is 0 at the places from e + s on, for the degree e of g and s = 2·L − n, n the number seen
+    while known.seen < 2 * l {
+        known = cancel(known, f, g, a);
+        known.seen = known.seen + 1;
     }
 }
 
@@ -114,13 +163,14 @@ pub(crate) fn shortest(terms: &[u8], answer: &mut [u8], work: &mut [u8]) -> usiz
     ensures { λ r. ⌜ ShortestRecurrence (prime 2) (now (terms .entry)) (now (answer .entry))
         (now (work .entry)) r (now (answer .exit)) (now (work .exit)) ⌝ }
 {
-    let mut t = [0u64; 66];
-    let mut w = [0u64; 132];
-    pack(terms, &mut t);
-    let known = after_all(terms, &t, &mut w);
-    reduce(terms, known, &mut w);
+    let mut f = [0u64; 66];
+    let mut g = [0u64; 66];
+    let a = 64 - (terms.len() + 63) / 64;
+    pack(terms, &mut f);
+    let known = after_all(terms, &mut f, &mut g, a);
+    reduce(terms, known, &mut f, &mut g, a);
     let l = known.degree;
-    unpack(&w, 66 * known.half, l + 1, answer);
+    unpack(&f, 4159 - l, l + 1, answer);
     clear(work);
     l
 }

@@ -1,179 +1,120 @@
-// Polynomials and terms over GF(2) as words of 64 bits, the lowest first: bit i is bit i % 64 of word i / 64.
-// The leaves of the free way over GF(2), on slices of words; parts of them are given by their first word.
+// Words of 64 bits, the lowest first: bit i is bit i % 64 of word i / 64. The leaves of the free way over
+// GF(2), on lists of 66 words of which the last is 0; they change the words from a on, and not the last.
 use lent::smaller;
 ghost use mathlib.Core.Path.{_≡_};
-ghost use Prim.Native.Nat.{ℕ, _+_, _*_, _/_, _%_, _≤_, _<_};
+ghost use Prim.Native.Nat.{ℕ, _+_, _*_, _-_, _/_, _%_, _≤_, _<_};
 ghost use lib.ListN.{length, getD};
 ghost use Rattle.meaning.specs.Result.{written};
 ghost use Rattle.bridge.proofs.Monics.{digit};
-ghost use Rattle.massey.specs.words.Words.{ShiftedUp, Window, Spaces, ShiftAdded, Folded, PackedTerms};
-ghost use Rattle.massey.specs.words.Words.{Action, NextOne, bitsAt};
+ghost use Rattle.massey.specs.words.Words.{Window, Words, Moved, Added, Exchanged, NextOne, TermsPacked};
+ghost use Rattle.massey.specs.words.Words.{bitOf, bitsFrom};
 
-// A word of x^k·g, from the two words of g whose bits it has, for k below 64. (No word is shifted by 64.)
-fn shifted_up(lower: u64, upper: u64, k: u64) -> u64
-    requires { ⌜ k < 64 ⌝ }
-    ensures { λ r. ⌜ ShiftedUp lower upper k r ⌝ }
-{
-    (upper << k) ^ ((lower >> 1) >> (63 - k))
-}
-
-// The 64 bits from bit k of a word on, which the next word continues, for k from 1 to 63.
+// The 64 bits from bit k of a word on, which the next word continues, for k below 64. (No word is shifted by
+// 64.)
 fn window(lower: u64, upper: u64, k: u64) -> u64
-    requires { ⌜ (0 < k) × (k < 64) ⌝ }
+    requires { ⌜ k < 64 ⌝ }
     ensures { λ r. ⌜ Window lower upper k r ⌝ }
 {
-    (lower >> k) ^ (upper << (64 - k))
+    (lower >> k) ^ ((upper << 1) << (63 - k))
 }
 
-// For f, the words from x on, and g, the n words from y on and a word after them: leaves f + x^s·g in the
-// place of f, as far as the n + 1 words of x^s·g go, and the other words as they were.
-pub(crate) fn add_shifted(w: &mut [u64], x: usize, y: usize, s: usize, n: usize)
-    requires { ⌜ Spaces (now w) x y s n ⌝ }
-    ensures { λ _. ⌜ ShiftAdded (now (w .entry)) x y s 0 (n + 1) (now (w .exit)) ⌝ }
+// Moves g down by one word.
+pub(crate) fn move_word(g: &mut [u64], a: usize)
+    requires { ⌜ Words (now g) × (a ≤ 65) ⌝ }
+    ensures { λ _. ⌜ Moved (now (g .entry)) a (now (g .exit)) ⌝ }
 {
-    let k = (s % 64) as u64;
-    let to = x + s / 64;
-    // the words from 1 to i of x^s·g are added
-    for i in 0..n {
-        w[to + 1 + i] = w[to + 1 + i] ^ shifted_up(w[y + i], w[y + 1 + i], k);
+    // the words before j are moved
+    for j in a..65 {
+        g[j] = g[j + 1];
     }
-    w[to] = w[to] ^ shifted_up(0, w[y], k);
 }
 
-// The exclusive or of the n words of f from x on, each `and` the 64 terms that it acts on, from place o on,
-// where these are words of t.
-fn folded_whole(w: &[u64], x: usize, n: usize, t: &[u64], o: usize) -> u64
-    requires { ⌜ (x + n ≤ length (now w)) × (o / 64 + n < length (now t)) × (o % 64 ≡ 0) ⌝ }
-    ensures { λ r. ⌜ Folded (now (w .entry)) x n (now (t .entry)) o r ⌝ }
+// Adds g, moved down by k bits, to f, for k below 64.
+pub(crate) fn add_moved(f: &mut [u64], g: &[u64], a: usize, k: u64)
+    requires { ⌜ Words (now f) × Words (now g) × (a ≤ 65) × (k < 64) ⌝ }
+    ensures { λ _. ⌜ Added (now (f .entry)) (now (g .entry)) a k (now (f .exit)) ⌝ }
 {
-    let from = o / 64;
-    // the number of ones is odd where the action of the first i words is 1
-    let mut sum: u64 = 0;
-    for i in 0..n {
-        sum = sum ^ (w[x + i] & t[from + i]);
+    // the words before j are added
+    for j in a..65 {
+        f[j] = f[j] ^ window(g[j], g[j + 1], k);
     }
-    sum
 }
 
-// The same, wherever they are.
-fn folded(w: &[u64], x: usize, n: usize, t: &[u64], o: usize) -> u64
-    requires { ⌜ (x + n ≤ length (now w)) × (o / 64 + n < length (now t)) ⌝ }
-    ensures { λ r. ⌜ Folded (now (w .entry)) x n (now (t .entry)) o r ⌝ }
+// The same, and leaves the former f in the place of g.
+pub(crate) fn exchange(f: &mut [u64], g: &mut [u64], a: usize, k: u64)
+    requires { ⌜ Words (now f) × Words (now g) × (a ≤ 65) × (k < 64) ⌝ }
+    ensures { λ _. ⌜ Exchanged (now (f .entry)) (now (g .entry)) a k (now (f .exit)) (now (g .exit)) ⌝ }
 {
-    let k = (o % 64) as u64;
-    if k == 0 {
-        return folded_whole(w, x, n, t, o);
+    // the words before j are exchanged
+    for j in a..65 {
+        let former = f[j];
+        f[j] = former ^ window(g[j], g[j + 1], k);
+        g[j] = former;
     }
-    let from = o / 64;
-    // the number of ones is odd where the action of the first i words is 1
-    let mut sum: u64 = 0;
-    for i in 0..n {
-        sum = sum ^ (w[x + i] & window(t[from + i], t[from + i + 1], k));
-    }
-    sum
 }
 
-// The action of f, the n words from x on, at place o of the terms.
-fn action(w: &[u64], x: usize, n: usize, t: &[u64], o: usize) -> u32
-    requires { ⌜ (x + n ≤ length (now w)) × (o / 64 + n < length (now t)) ⌝ }
-    ensures { λ r. ⌜ Action (now (w .entry)) x n (now (t .entry)) o r ⌝ }
+// The first number from n on, and before m, whose bit is 1, or m where there is none; the bit of t is bit
+// 4,095 − t of f.
+pub(crate) fn next_one(f: &[u64], n: usize, m: usize) -> usize
+    requires { ⌜ (length (now f) ≡ 66) × (n ≤ m) × (m ≤ 4096) ⌝ }
+    ensures { λ r. ⌜ NextOne (now (f .entry)) n m r ⌝ }
 {
-    u64::count_ones(folded(w, x, n, t, o)) % 2
-}
-
-// The first place from o on, and before `end`, at which that action is not 0, or `end` where there is none.
-fn next_by_words(w: &[u64], x: usize, n: usize, t: &[u64], o: usize, end: usize) -> usize
-    requires { ⌜ (x + n ≤ length (now w)) × (end / 64 + n < length (now t)) × (o ≤ end) ⌝ }
-    ensures { λ r. ⌜ NextOne (now (w .entry)) x n (now (t .entry)) o end r ⌝ }
-{
-    // the action is 0 at the places from o to i − 1
-    let mut i = o;
-    while i < end {
-        if action(w, x, n, t, i) != 0 {
-            return i;
+    let mut t = n;
+    // the bits of the numbers from n to t − 1 are 0
+    while t < m {
+        let rest = f[63 - t / 64] << ((t % 64) as u64);
+        if rest != 0 {
+            return smaller(t + (u64::leading_zeros(rest) as usize), m);
         }
-        i += 1;
+        t = 64 * (t / 64 + 1);
     }
-    end
+    m
 }
 
-// The same. Up to 8 words are told by a number: the compiler then writes out the turns over the words.
-pub(crate) fn next_one(w: &[u64], x: usize, n: usize, t: &[u64], o: usize, end: usize) -> usize
-    requires { ⌜ (x + n ≤ length (now w)) × (end / 64 + n < length (now t)) × (o ≤ end) ⌝ }
-    ensures { λ r. ⌜ NextOne (now (w .entry)) x n (now (t .entry)) o end r ⌝ }
-{
-    if n == 1 {
-        return next_by_words(w, x, 1, t, o, end);
-    }
-    if n == 2 {
-        return next_by_words(w, x, 2, t, o, end);
-    }
-    if n == 3 {
-        return next_by_words(w, x, 3, t, o, end);
-    }
-    if n == 4 {
-        return next_by_words(w, x, 4, t, o, end);
-    }
-    if n == 5 {
-        return next_by_words(w, x, 5, t, o, end);
-    }
-    if n == 6 {
-        return next_by_words(w, x, 6, t, o, end);
-    }
-    if n == 7 {
-        return next_by_words(w, x, 7, t, o, end);
-    }
-    if n == 8 {
-        return next_by_words(w, x, 8, t, o, end);
-    }
-    next_by_words(w, x, n, t, o, end)
-}
-
-// The word of at most 64 terms.
+// The word of 1 to 64 terms, the first in its highest bit.
 fn packed(s: &[u8]) -> u64
-    requires { ⌜ length (now s) ≤ 64 ⌝ }
-    ensures { λ r. ⌜ ((i : ℕ) → digit 2 r i ≡ getD (now (s .entry)) i 0 % 2) ⌝ }
+    requires { ⌜ (0 < length (now s)) × (length (now s) ≤ 64) ⌝ }
+    ensures { λ r. ⌜ ((i : ℕ) → i < 64 → digit 2 r (63 - i) ≡ getD (now (s .entry)) i 0 % 2) ⌝ }
 {
+    let n = s.len();
     let mut w = 0;
-    let mut i = s.len();
-    // w: the word of the terms from i on
-    while 0 < i {
-        i -= 1;
+    // w: the word of the first i terms, the last of them in its lowest bit
+    for i in 0..n {
         w = 2 * w + (s[i] % 2) as u64;
     }
-    w
+    w << ((64 - n) as u64)
 }
 
-// Leaves the words of the terms in t, which has zeros.
-pub(crate) fn pack(terms: &[u8], t: &mut [u64])
-    requires { ⌜ (length (now terms) ≤ 64 * length (now t)) × ((j : ℕ) → getD (now t) j 0 ≡ 0) ⌝ }
-    ensures { λ _. ⌜ PackedTerms (now (t .exit)) (now (terms .entry)) ⌝ }
+// Leaves the bits of the terms in f, which has zeros: that of t(n) is bit 4,095 − n.
+pub(crate) fn pack(terms: &[u8], f: &mut [u64])
+    requires { ⌜ (length (now terms) ≤ 4096) × (length (now f) ≡ 66) × ((j : ℕ) → getD (now f) j 0 ≡ 0) ⌝ }
+    ensures { λ _. ⌜ TermsPacked (now (terms .entry)) (now (f .exit)) ⌝ }
 {
     let m = terms.len();
     let mut i = 0;
-    // the first i words are those of the terms, and the others 0
+    // the first 64·i terms are packed, and the words below them and above are 0
     while 64 * i < m {
-        t[i] = packed(&terms[64 * i..smaller(64 * i + 64, m)]);
+        f[63 - i] = packed(&terms[64 * i..smaller(64 * i + 64, m)]);
         i += 1;
     }
 }
 
-// Bit i of the words from x on.
-pub(crate) fn bit_at(w: &[u64], x: usize, i: usize) -> u8
-    requires { ⌜ x + i / 64 < length (now w) ⌝ }
-    ensures { λ r. ⌜ r ≡ digit 2 (getD (now (w .entry)) (x + i / 64) 0) (i % 64) ⌝ }
+// Bit i.
+pub(crate) fn bit_at(w: &[u64], i: usize) -> u8
+    requires { ⌜ i / 64 < length (now w) ⌝ }
+    ensures { λ r. ⌜ r ≡ bitOf (now (w .entry)) i ⌝ }
 {
     let k = (i % 64) as u64;
-    ((w[x + i / 64] >> k) % 2) as u8
+    ((w[i / 64] >> k) % 2) as u8
 }
 
-// Leaves the first n bits of the words from x on at the front of the answer, and the rest of it as it was.
-pub(crate) fn unpack(w: &[u64], x: usize, n: usize, answer: &mut [u8])
-    requires { ⌜ (x + n / 64 < length (now w)) × (n ≤ length (now answer)) ⌝ }
-    ensures { λ _. ⌜ now (answer .exit) ≡ written (bitsAt (now (w .entry)) x n) (now (answer .entry)) ⌝ }
+// Leaves the n bits from bit o on at the front of the answer, and the rest of it as it was.
+pub(crate) fn unpack(w: &[u64], o: usize, n: usize, answer: &mut [u8])
+    requires { ⌜ (o + n ≤ 4224) × (length (now w) ≡ 66) × (n ≤ length (now answer)) ⌝ }
+    ensures { λ _. ⌜ now (answer .exit) ≡ written (bitsFrom (now (w .entry)) o n) (now (answer .entry)) ⌝ }
 {
     // the first i bits are written
     for i in 0..n {
-        answer[i] = bit_at(w, x, i);
+        answer[i] = bit_at(w, o + i);
     }
 }

@@ -1,115 +1,200 @@
 -- The state of the model over GF(2) in words and numbers, at the start and after each step.
 --
---   words-start      == what stands at the start is the state after no terms
---   words-ready, ready-reached == where a term is left, a step can be taken, also after terms that f fits
---   words-reached, words-misfit == after the terms that f fits, and at the first that it does not
---   words-kept, words-changed == a step: the degree stays; it changes
---   lower-bits       == the coefficients of f are 0 or 1
+--   hold-start       == what stands at the start is the state after no terms
+--   hold-sizes       == the numbers of a state
+--   hold-reached, hold-misfit == after the terms that f fits, and at the first that it does not
+--   hold-aligned, misfit-aligned == g is moved down by whole words
+--   hold-kept, hold-changed == a step: the degree stays; it changes
+--   coefficient-bit, lower-bits == the coefficients of f, which are 0 or 1
 --
 -- Assumes nothing.
 use Prim.Native.Nat.{ℕ, zero, suc, _+_, _-_, _*_, _/_, _%_, _≤_, _<_}
 use mathlib.Core.Path.{_≡_, refl, sym, ap, ap₂, subst, _∙_}
+use mathlib.Core.Logic.{_≢_}
 use mathlib.Core.List.{List, [], _∷_, _++_}
 use native.Mathlib.Numerals.{add-one}
-use native.Mathlib.Decide.{decLt}
+use native.Mathlib.Nat.{mod-lt, mod-mod, div-add-mod'}
+use native.Mathlib.Decide.{decLt, ℕ-discrete}
 use native.Mathlib.Omega.{arith}
-use lib.ListN.{length, getD, set, length-append, List·getD-append, List·getD-eq-default}
+use lib.ListN.{length, getD, set, length-set, length-append, List·getD-append, List·getD-eq-default}
 use lib.Seq.{getD-set-same, getD-set-other}
 use Rattle.meaning.specs.Field.{prime, negative}
 use Rattle.meaning.specs.Sequence.{actAt, known}
-use Rattle.bridge.proofs.Interpretation.{prime-size}
+use Rattle.bridge.proofs.Interpretation.{prime-size, prime-add, prime-mul}
+use Rattle.bridge.proofs.Actions.{actAt-nil, actAt-cons, known-getD}
 use Rattle.bridge.proofs.Monics.{digit}
 use Rattle.bridge.proofs.Bits.{two}
-use Rattle.bridge.proofs.WordLists.{Packed, packed-below, digit-zero, digit-shr}
+use Rattle.bridge.proofs.WordLists.{raised, raised-none, raised-same, digit-below, digit-zero, digit-beyond}
+use Rattle.bridge.proofs.WordLists.{digit-top, digit-shl-low}
 use Rattle.bridge.proofs.MasseyBits.{kept-bit, changed-bit, negative-bit, discrepancy-bits, discrepancy-one}
+use Rattle.bridge.proofs.MasseyImages.{image, marked, image-high, image-between, image-low, image-empty}
+use Rattle.bridge.proofs.MasseyImages.{marked-at, marked-off, image-fits, image-misfits, image-corrected}
 use Rattle.bridge.proofs.MasseySteps.{MasseyState, polynomialOf, discrepancy, correction, correctionAt}
-use Rattle.bridge.proofs.MasseySteps.{length-kept, length-changed, keptState, changedState}
+use Rattle.bridge.proofs.MasseySteps.{kept, changed, length-kept, length-changed, keptState, changedState}
 use Rattle.bridge.proofs.MasseySteps.{masseyStart, masseyAfter, masseyStep, after-zero, after-suc}
 use Rattle.bridge.proofs.MasseySteps.{step-zero, step-kept, step-changed, MasseySizes, massey-sizes}
 use Rattle.arith.specs.Inverse.{inverse}
 use Rattle.arith.proofs.Inverse.{inverse-product}
-use Rattle.massey.specs.declared.step.Recurrence.{Recurrence}
-use Rattle.massey.specs.step.Change.{reachedBy, passedBy, changedDegree}
-use Rattle.massey.specs.step.Change.{changedNumbers}
-use Rattle.massey.specs.words.Words.{PackedTerms, Action, NextOne, ShiftAdded}
-use Rattle.massey.specs.binary.Binary.{WordsStand, WordsHold, WordsReady, Misfits}
-use Rattle.massey.specs.binary.Binary.{WordsStepped}
+use Rattle.massey.specs.declared.binary.Known.{Known}
+use Rattle.massey.specs.words.Words.{bitOf, Words, TermsPacked, NextOne, Added, Exchanged}
+use Rattle.massey.specs.binary.Binary.{start, reachedWith, changedWith, Aligned, Stands}
+use Rattle.massey.specs.binary.Binary.{Hold, Misfits, Stepped}
 use Rattle.massey.proofs.step.Halves.{keptBy, changedBy}
-use Rattle.massey.proofs.words.Shifting.{packed-added, packed-outside}
+use Rattle.massey.proofs.words.Moving.{bit-word, words-beyond}
+use Rattle.massey.proofs.binary.Aligning.{aligned-image}
 
 -- The start: f is 1, and g is 0
-one-bits : (r : ℕ) → digit 2 1 r ≡ getD {A = ℕ} (1 ∷ []) r 0
-unfolding digit
-one-bits zero = refl
-one-bits (suc r) =
-    let e : suc r ≡ 1 + r = omega arith in
-    ap (digit 2 1) e ∙ sym (digit-shr 1 1 r) ∙ digit-zero r
+module _ (ts f g : List ℕ) (p : TermsPacked ts f) (l : length g ≡ 66)
+    (z : (j : ℕ) → getD g j 0 ≡ 0) where
+  abbrev first : List ℕ
+  first = set f 64 9223372036854775808
 
-module _ (w : List ℕ) (l : length w ≡ 132) (z : (j : ℕ) → getD w j 0 ≡ 0) where
-  start-current : Packed (set w 0 1) 0 66 (1 ∷ [])
-  start-current = record { bit = λ j r b c. place j r c }
-    where
-      place :
-          (j r : ℕ)
-          → r < 64
-          → digit 2 (getD (set w 0 1) (0 + j) 0) r ≡ getD {A = ℕ} (1 ∷ []) (64 * j + r) 0
-      place zero r c =
-          let e : r ≡ 64 * 0 + r = omega arith in
-          ap (λ v. digit 2 v r) (getD-set-same w 0 1 0 (omega arith))
-          ∙ one-bits r
-          ∙ ap (λ i. getD {A = ℕ} (1 ∷ []) i 0) e
-      place (suc j) r c =
-          ap (λ v. digit 2 v r)
-          (getD-set-other w 0 (0 + suc j) 1 0 (λ q. omega arith) ∙ z (0 + suc j))
-          ∙ digit-zero r
-          ∙ sym (List·getD-eq-default (1 ∷ []) 0 {n = 64 * suc j + r} (omega arith))
+  abbrev second : List ℕ
+  second = set g 64 1
 
-  start-previous : Packed (set w 0 1) 66 66 []
-  start-previous =
+  first-words : Words first
+  first-words =
       record {
-        bit = λ j r b c.
-            ap (λ v. digit 2 v r) (getD-set-other w 0 (66 + j) 1 0 (λ q. omega arith) ∙ z (66 + j))
-            ∙ digit-zero r;
+        size = length-set f 64 9223372036854775808 ∙ p .size;
+        last = getD-set-other f 64 65 9223372036854775808 0 (λ q. omega arith) ∙ p .above 65 (omega arith);
       }
 
-  pub words-start :
-      (ts : List ℕ)
-      → WordsHold ts (set w 0 1) (record { seen = 0; degree = 0; earlier = 0; value = 1; half = 0 })
+  second-words : Words second
+  second-words =
+      record {
+        size = length-set g 64 1 ∙ l;
+        last = getD-set-other g 64 65 1 0 (λ q. omega arith) ∙ z 65;
+      }
+
+  -- the bits of word 64
+  first-top : (r : ℕ) → r < 64 → bitOf first (4096 + r) ≡ digit 2 9223372036854775808 r
+  first-top r b =
+      bit-word first 64 r b
+      ∙ ap (λ w. digit 2 w r) (getD-set-same f 64 9223372036854775808 0 (omega (arith, p .size)))
+
+  second-top : (r : ℕ) → r < 64 → bitOf second (4096 + r) ≡ digit 2 1 r
+  second-top r b =
+      bit-word second 64 r b ∙ ap (λ w. digit 2 w r) (getD-set-same g 64 1 0 (omega (arith, l)))
+
+  action-one : (k : ℕ) → actAt (prime 2) (1 ∷ []) (known ts) k ≡ getD ts k 0 % 2
+  action-one k =
+      let e : 1 * known ts k ≡ known ts k = omega arith in
+      actAt-cons (prime 2) 1 [] (known ts) k
+      ∙ prime-add 2 _ _
+      ∙ ap₂ (λ a b. (a + b) % 2) (prime-mul 2 1 (known ts k) ∙ ap (λ n. n % 2) e)
+      (actAt-nil (prime 2) (known ts) (suc k))
+      ∙ ap (λ n. n % 2) (omega arith)
+      ∙ mod-mod (known ts k) 2
+      ∙ ap (λ n. n % 2) (known-getD ts k)
+
+  start-current : (i : ℕ) → bitOf first i ≡ image ts (1 ∷ []) 0 i
+  start-current i = elim (decLt i 4096) [
+    | yes b ↦
+        let o = div-add-mod' i 64 in
+        let k = mod-lt i {m = 64} (omega arith) in
+        let e : i ≡ 4095 - (4095 - i) = omega arith in
+        ap (λ w. digit 2 w (i % 64)) (getD-set-other f 64 (i / 64) 9223372036854775808 0 (λ q. omega arith))
+        ∙ ap (bitOf f) e
+        ∙ p .bit (4095 - i) (omega arith)
+        ∙ sym (image-low ts (1 ∷ []) 0 i (omega arith) (omega arith) ∙ action-one (4096 - 1 - i))
+    | no b ↦ elim (decLt i 4160) [
+      | no c ↦
+          words-beyond first-words i (omega arith)
+          ∙ sym
+          (image-high ts (1 ∷ []) 0 i (omega arith)
+          ∙ List·getD-eq-default (1 ∷ []) 0 {n = i - (4160 - 1)} (omega arith))
+      | yes c ↦
+          let e : i ≡ 4096 + (i - 4096) = omega arith in
+          ap (bitOf first) e
+          ∙ first-top (i - 4096) (omega arith)
+          ∙ top (i - 4096) (omega arith) (ℕ-discrete (i - 4096) 63)
+          ∙ ap (image ts (1 ∷ []) 0) (sym e)
+    ]
+  ]
+    where
+      top : (r : ℕ) → r < 64 → Dec (r ≡ 63) → digit 2 9223372036854775808 r ≡ image ts (1 ∷ []) 0 (4096 + r)
+      top r b (yes e) =
+          ap (digit 2 9223372036854775808) e
+          ∙ digit-top 63 (omega arith) (omega arith)
+          ∙ sym (ap (λ r. image ts (1 ∷ []) 0 (4096 + r)) e ∙ image-high ts (1 ∷ []) 0 4159 (omega arith))
+      top r b (no e) =
+          digit-shl-low 1 63 r b (lt-not r b e)
+          ∙ sym (image-between ts (1 ∷ []) 0 (4096 + r) (omega (arith, lt-not r b e)) (omega arith))
+        where
+          lt-not : (r : ℕ) → r < 64 → r ≢ 63 → r < 63
+          lt-not r b e = elim (decLt r 63) [ yes c ↦ c | no c ↦ absurd (e (omega arith)) ]
+
+  start-previous : (i : ℕ) → bitOf second i ≡ marked ts [] 0 i
+  start-previous i = elim (ℕ-discrete i 4096) [
+    | yes e ↦
+        ap (bitOf second) e
+        ∙ second-top 0 (omega arith)
+        ∙ digit-top 0 (omega arith) (omega arith)
+        ∙ sym (marked-at ts [] 0 i e)
+    | no e ↦ zeros e (decLt i 4096) (decLt i 4160) ∙ sym (marked-off ts [] 0 i e ∙ image-empty ts 0 i)
+  ]
+    where
+      positive : (n : ℕ) → n ≢ 0 → 1 ≤ n
+      positive n q = elim (decLt 0 n) [ yes c ↦ c | no c ↦ absurd (q (omega arith)) ]
+
+      zeros : i ≢ 4096 → Dec (i < 4096) → Dec (i < 4160) → bitOf second i ≡ 0
+      zeros e (yes b) _ =
+          let o = div-add-mod' i 64 in
+          ap (λ w. digit 2 w (i % 64)) (getD-set-other g 64 (i / 64) 1 0 (λ q. omega arith) ∙ z (i / 64))
+          ∙ digit-zero (i % 64)
+      zeros e (no b) (no c) = words-beyond second-words i (omega arith)
+      zeros e (no b) (yes c) =
+          let q : i ≡ 4096 + (i - 4096) = omega arith in
+          ap (bitOf second) q
+          ∙ second-top (i - 4096) (omega arith)
+          ∙ digit-beyond {d = 1} (omega arith) (positive (i - 4096) (λ n. e (omega arith)))
+
+  pub hold-start :
+      (a : ℕ)
+      → Hold ts (record { seen = 0; degree = 0; earlier = 0; aligned = 0 }) first second a
   unfolding masseyStart
-  words-start ts =
-      subst
-      (λ x. WordsStand x (set w 0 1)
-      (record { seen = 0; degree = 0; earlier = 0; value = 1; half = 0 }))
+  hold-start a =
+      subst (λ x. Stands ts x (record { seen = 0; degree = 0; earlier = 0; aligned = 0 }) first second a)
       (sym (after-zero (prime 2) (inverse (prime 2)) ts))
       (record {
-        within = omega arith;
         degree = refl;
         earlier = refl;
         one = refl;
-        current = start-current;
-        previous = start-previous;
+        least = omega arith;
+        most = omega arith;
+        first = first-words;
+        second = second-words;
+        current = λ i _. start-current i;
+        previous = λ i _.
+            let e : i ≡ i + 0 = omega arith in start-previous i ∙ ap (marked ts [] 0) e;
       })
 
--- The coefficients
-pub lower-bits :
-    {x : MasseyState} {w : List ℕ} {r : Recurrence}
-    → WordsStand x w r
-    → length (x .lower) ≤ 4096
-    → (i : ℕ)
-    → getD (x .lower) i 0 < 2
-lower-bits {x} h l i = elim (decLt i (length (x .lower))) [
-  | yes b ↦
-      subst (λ c. c < 2) (List·getD-append (x .lower) (1 ∷ []) 0 i b)
-      (packed-below (h .current) i (omega arith))
-  | no b ↦ subst (λ c. c < 2) (sym (List·getD-eq-default (x .lower) 0 (omega arith))) (omega arith)
-]
+-- The coefficients and the numbers
+module _ {ts : List ℕ} {x : MasseyState} {r : Known} {f g : List ℕ} {a : ℕ} (h : Stands ts x r f g a)
+    (b : 64 * a + r .degree ≤ 4159) where
+  pub coefficient-bit : (i : ℕ) → bitOf f (4159 - r .degree + i) ≡ getD (polynomialOf x) i 0
+  coefficient-bit i =
+      let l = length-append (x .lower) (1 ∷ []) in
+      let d = h .degree in
+      h .current (4159 - r .degree + i) (omega arith)
+      ∙ image-high ts (polynomialOf x) (r .seen) (4159 - r .degree + i) (omega arith)
+      ∙ ap (λ j. getD (polynomialOf x) j 0) (omega arith)
 
--- The factor of the correction
-correction-one : correction (prime 2) (inverse (prime 2)) 1 1 ≡ 1
-unfolding correction
-correction-one =
-    ap (negative (prime 2)) (inverse-product two (omega (arith, prime-size 2)) (λ q. omega arith))
-    ∙ negative-bit 1 (omega arith)
+  pub lower-bits : (i : ℕ) → getD (x .lower) i 0 < 2
+  lower-bits i = elim (decLt i (length (x .lower))) [
+    | yes c ↦
+        subst (λ n. n < 2) (coefficient-bit i ∙ List·getD-append (x .lower) (1 ∷ []) 0 i c)
+        (digit-below (getD f ((4159 - r .degree + i) / 64) 0) ((4159 - r .degree + i) % 64))
+    | no c ↦ subst (λ n. n < 2) (sym (List·getD-eq-default (x .lower) 0 (omega arith))) (omega arith)
+  ]
+
+pub hold-sizes :
+    {ts : List ℕ} {r : Known} {f g : List ℕ} {a : ℕ}
+    → Hold ts r f g a
+    → (r .degree ≤ r .seen) × (r .earlier + r .degree ≤ r .seen + 1)
+hold-sizes {ts} {r} h =
+    let z = massey-sizes (prime 2) (inverse (prime 2)) ts (r .seen) in
+    (omega (arith, h .degree), omega (arith, h .degree, h .earlier))
 
 -- Terms that f fits
 after-skip :
@@ -127,216 +212,293 @@ after-skip ts n (suc z) h =
     ∙ step-zero (prime 2) (inverse (prime 2)) ts (n + z)
     (masseyAfter (prime 2) (inverse (prime 2)) ts n) (h z (omega arith))
 
-restamp :
-    {x : MasseyState} {w : List ℕ} {r : Recurrence}
-    → WordsStand x w r
-    → (n : ℕ)
-    → WordsStand x w (reachedBy r n)
-restamp h n =
-    record {
-      within = h .within;
-      degree = h .degree;
-      earlier = h .earlier;
-      one = h .one;
-      current = h .current;
-      previous = h .previous;
-    }
+image-skip :
+    (ts f : List ℕ) (n z : ℕ)
+    → length f ≤ n + 1
+    → n + z ≤ 4096
+    → ((i : ℕ) → i < z → actAt (prime 2) f (known ts) (n + i + 1 - length f) ≡ 0)
+    → (i : ℕ)
+    → image ts f n i ≡ image ts f (n + z) i
+image-skip ts f n zero l m h i = let e : n ≡ n + 0 = omega arith in ap (λ n. image ts f n i) e
+image-skip ts f n (suc z) l m h i =
+    let e : n + z + 1 ≡ n + suc z = omega arith in
+    image-skip ts f n z l (omega arith) (λ i b. h i (omega arith)) i
+    ∙ image-fits ts f (n + z) (omega arith) (omega arith) (h z (omega arith)) i
+    ∙ ap (λ n. image ts f n i) e
 
-module _ {ts t w : List ℕ} {r : Recurrence} (o : WordsReady w r) (q : PackedTerms t ts)
-    (h : WordsHold ts w r) where
-  abbrev lower : List ℕ
-  lower = masseyAfter (prime 2) (inverse (prime 2)) ts (r .seen) .lower
-
-  -- the action of f as a discrepancy
-  told :
-      (i : ℕ) {d : ℕ}
-      → Action w (66 * r .half) (r .degree / 64 + 1) t i d
-      → d ≡ discrepancy (prime 2) ts (i + r .degree) lower
-  told i a =
-      let e : i ≡ i + r .degree - length lower = omega (arith, h .degree) in
-      a 66 (lower ++ (1 ∷ [])) ts (omega (arith, o .numbers .left, o .numbers .degree)) (h .current)
-      (omega (arith, length-append lower (1 ∷ []), h .degree)) q
-      ∙ ap (actAt (prime 2) (lower ++ (1 ∷ [])) (known ts)) e
-      ∙ discrepancy-bits ts (i + r .degree) lower (omega (arith, h .degree))
-
-  module _ {e k : ℕ} (n : NextOne w (66 * r .half) (r .degree / 64 + 1) t (r .seen - r .degree) e k) where
-    skipped :
-        masseyAfter (prime 2) (inverse (prime 2)) ts (k + r .degree)
-        ≡ masseyAfter (prime 2) (inverse (prime 2)) ts (r .seen)
-    skipped =
-        let z : k + r .degree ≡ r .seen + (k + r .degree - r .seen) =
-        omega (arith, n .low, o .numbers .degree) in
-        ap (masseyAfter (prime 2) (inverse (prime 2)) ts) z
-        ∙ after-skip ts (r .seen) (k + r .degree - r .seen)
-        (λ i l.
-        let y : r .seen + i - r .degree + r .degree ≡ r .seen + i = omega (arith, o .numbers .degree) in
-        ap (λ j. discrepancy (prime 2) ts j lower) (sym y)
-        ∙ sym
-        (told (r .seen + i - r .degree)
-        (n .zeros (r .seen + i - r .degree) (omega (arith, o .numbers .degree))
-        (omega (arith, o .numbers .degree)))))
-
-    pub words-reached : {r′ : Recurrence} → r′ ≡ reachedBy r (k + r .degree) → WordsHold ts w r′
-    words-reached {r′} u =
-        subst (WordsHold ts w) (sym u)
-        (subst (λ x. WordsStand x w (reachedBy r (k + r .degree))) (sym skipped)
-        (restamp h (k + r .degree)))
-
-    pub words-misfit : {r′ : Recurrence} → k < e → r′ ≡ reachedBy r (k + r .degree) → Misfits ts r′
-    words-misfit {r′} l u =
-        let (d, y, a) = n .one l in
-        subst (Misfits ts) (sym u)
-        (λ z. y (told k a ∙ ap (λ x. discrepancy (prime 2) ts (k + r .degree) (x .lower)) (sym skipped) ∙ z))
-
--- A step
-module _ (ts : List ℕ) {w : List ℕ} {r : Recurrence} (o : WordsReady w r) (h : WordsHold ts w r)
-    (nonzero : Misfits ts r) where
+module _ {ts : List ℕ} {r : Known} {f g : List ℕ} {a : ℕ} (h : Hold ts r f g a) where
   abbrev x : MasseyState
   x = masseyAfter (prime 2) (inverse (prime 2)) ts (r .seen)
-
-  abbrev f : List ℕ
-  f = x .lower
-
-  abbrev g : List ℕ
-  g = x .previous
 
   sizes : MasseySizes (r .seen) x
   sizes = massey-sizes (prime 2) (inverse (prime 2)) ts (r .seen)
 
+  led : length (polynomialOf x) ≡ length (x .lower) + 1
+  led = length-append (x .lower) (1 ∷ [])
+
+  -- a discrepancy as an action, and as a bit
+  acts :
+      (n : ℕ)
+      → r .seen ≤ n
+      → actAt (prime 2) (polynomialOf x) (known ts) (n + 1 - length (polynomialOf x))
+      ≡ discrepancy (prime 2) ts n (x .lower)
+  acts n l =
+      ap (actAt (prime 2) (polynomialOf x) (known ts)) (omega (arith, led))
+      ∙ discrepancy-bits ts n (x .lower) (omega (arith, sizes))
+
+  told :
+      (n : ℕ)
+      → r .seen ≤ n
+      → 64 * a + n < 4096
+      → bitOf f (4095 - n) ≡ actAt (prime 2) (polynomialOf x) (known ts) (n + 1 - length (polynomialOf x))
+  told n l b =
+      h .current (4095 - n) (omega arith)
+      ∙ image-low ts (polynomialOf x) (r .seen) (4095 - n) (omega (arith, led, sizes)) (omega arith)
+      ∙ ap (actAt (prime 2) (polynomialOf x) (known ts)) (omega arith)
+
+  module _ {n m : ℕ} (b : 64 * a + m ≤ 4096) (k : NextOne f (r .seen) m n) where
+    zero-acts :
+        (i : ℕ)
+        → i < n - r .seen
+        → actAt (prime 2) (polynomialOf x) (known ts) (r .seen + i + 1 - length (polynomialOf x)) ≡ 0
+    zero-acts i l =
+        let c = k .high in
+        sym (told (r .seen + i) (omega arith) (omega arith)) ∙ k .zeros (r .seen + i) (omega arith) (omega arith)
+
+    skipped : masseyAfter (prime 2) (inverse (prime 2)) ts n ≡ x
+    skipped =
+        let e : n ≡ r .seen + (n - r .seen) = omega (arith, k .low) in
+        ap (masseyAfter (prime 2) (inverse (prime 2)) ts) e
+        ∙ after-skip ts (r .seen) (n - r .seen)
+        (λ i l. sym (acts (r .seen + i) (omega arith)) ∙ zero-acts i l)
+
+    pub hold-reached : {r′ : Known} → r′ ≡ reachedWith r n → Hold ts r′ f g a
+    hold-reached {r′} u =
+        subst (λ r. Hold ts r f g a) (sym u)
+        (subst (λ x. Stands ts x (reachedWith r n) f g a) (sym skipped)
+        (record {
+          degree = h .degree;
+          earlier = h .earlier;
+          one = h .one;
+          least = h .least;
+          most = omega (arith, h .most, k .low);
+          first = h .first;
+          second = h .second;
+          current = λ i l.
+              let e : r .seen + (n - r .seen) ≡ n = omega (arith, k .low) in
+              h .current i l
+              ∙ image-skip ts (polynomialOf x) (r .seen) (n - r .seen) (omega (arith, led, sizes))
+              (omega (arith, k .high)) zero-acts i
+              ∙ ap (λ n. image ts (polynomialOf x) n i) e;
+          previous = h .previous;
+        }))
+
+    pub hold-misfit : {r′ : Known} → n < m → r′ ≡ reachedWith r n → Misfits ts r′
+    hold-misfit {r′} l u =
+        let one : 1 ≡ discrepancy (prime 2) ts n (x .lower) =
+        sym (k .one l) ∙ told n (k .low) (omega arith) ∙ acts n (k .low) in
+        subst (Misfits ts) (sym u)
+        (λ z.
+        let none : discrepancy (prime 2) ts n (x .lower) ≡ 0 =
+        ap (λ x. discrepancy (prime 2) ts n (x .lower)) (sym skipped) ∙ z in
+        absurd (omega arith))
+
+-- g is moved down
+module _ (ts : List ℕ) {r r′ : Known} {g g′ : List ℕ} {a : ℕ} (k : Aligned r g a r′ g′) where
+  pub hold-aligned : {f : List ℕ} → Hold ts r f g a → Hold ts r′ f g′ a
+  hold-aligned {f} h =
+      subst (λ r. Hold ts r f g′ a) (sym (k .numbers))
+      (record {
+        degree = h .degree;
+        earlier = h .earlier;
+        one = h .one;
+        least = omega (arith, h .least, k .more);
+        most = k .most;
+        first = h .first;
+        second = k .words;
+        current = h .current;
+        previous = aligned-image (marked ts _ (start r)) (start r) k (h .least) (h .previous);
+      })
+
+  pub misfit-aligned : Misfits ts r → Misfits ts r′
+  misfit-aligned h = subst (Misfits ts) (sym (k .numbers)) h
+
+-- The factor of the correction
+correction-one : correction (prime 2) (inverse (prime 2)) 1 1 ≡ 1
+unfolding correction
+correction-one =
+    ap (negative (prime 2)) (inverse-product two (omega (arith, prime-size 2)) (λ q. omega arith))
+    ∙ negative-bit 1 (omega arith)
+
+-- A step
+module _ (ts : List ℕ) {r : Known} {f g : List ℕ} {a : ℕ} (h : Hold ts r f g a) (nonzero : Misfits ts r)
+    (b : 64 * a + r .seen < 4096) where
+  abbrev now′ : MasseyState
+  now′ = masseyAfter (prime 2) (inverse (prime 2)) ts (r .seen)
+
+  abbrev lower : List ℕ
+  lower = now′ .lower
+
+  abbrev earlier : List ℕ
+  earlier = now′ .previous
+
+  counts : MasseySizes (r .seen) now′
+  counts = massey-sizes (prime 2) (inverse (prime 2)) ts (r .seen)
+
   next : masseyAfter (prime 2) (inverse (prime 2)) ts (r .seen + 1)
-      ≡ masseyStep (prime 2) (inverse (prime 2)) ts (r .seen) x
+      ≡ masseyStep (prime 2) (inverse (prime 2)) ts (r .seen) now′
   next =
       ap (masseyAfter (prime 2) (inverse (prime 2)) ts) (add-one (r .seen))
       ∙ after-suc (prime 2) (inverse (prime 2)) ts (r .seen)
 
-  f-short : length f ≤ 4095
-  f-short = omega (arith, sizes, o .numbers .left)
-
   restate :
-      {y : MasseyState} {w′ : List ℕ} {r′ r″ : Recurrence}
+      {y : MasseyState} {f′ g′ : List ℕ} {r′ r″ : Known}
       → masseyAfter (prime 2) (inverse (prime 2)) ts (r .seen + 1) ≡ y
       → r′ ≡ r″
       → r″ .seen ≡ r .seen + 1
-      → WordsStand y w′ r″
-      → WordsStepped ts r w′ r′
-  restate {y} {w′} {r′} {r″} e u v s =
-      subst (WordsStepped ts r w′) (sym u)
+      → Stands ts y r″ f′ g′ a
+      → Stepped ts r r′ f′ g′ a
+  restate {y} {f′} {g′} {r′} {r″} e u v s =
+      subst (λ r′. Stepped ts r r′ f′ g′ a) (sym u)
       (record {
         seen = v;
         holds =
-            subst (λ z. WordsStand z w′ r″)
+            subst (λ z. Stands ts z r″ f′ g′ a)
             (sym (ap (masseyAfter (prime 2) (inverse (prime 2)) ts) v ∙ e)) s;
       })
 
-  factor : correctionAt (prime 2) (inverse (prime 2)) ts (r .seen) x ≡ 1
+  factor : correctionAt (prime 2) (inverse (prime 2)) ts (r .seen) now′ ≡ 1
   factor =
-      ap₂ (correction (prime 2) (inverse (prime 2))) (discrepancy-one ts (r .seen) f nonzero) (h .one)
+      ap₂ (correction (prime 2) (inverse (prime 2))) (discrepancy-one ts (r .seen) lower nonzero) (h .one)
       ∙ correction-one
 
+  -- the former image of f, as a marked one
+  marked-current : (i : ℕ) → image ts (lower ++ (1 ∷ [])) (r .seen) i ≡ marked ts (lower ++ (1 ∷ [])) (r .seen + 1) i
+  marked-current =
+      let l = length-append lower (1 ∷ []) in
+      image-misfits ts (lower ++ (1 ∷ [])) (r .seen) (omega (arith, counts)) (omega arith)
+      (acts h (r .seen) (omega arith) ∙ discrepancy-one ts (r .seen) lower nonzero)
+
+  -- the words of f after a correction, for the polynomial y that has the bits of x^k·f + x^j·g
+  corrected :
+      {f′ : List ℕ} (y : List ℕ) (j k : ℕ)
+      → Added f g a (r .seen + 1 - r .aligned) f′
+      → length y ≡ k + length (lower ++ (1 ∷ []))
+      → j + length earlier + (r .seen + 1 - start r) ≡ length y
+      → length y ≤ r .seen + 2
+      → j + length earlier ≤ start r + 64
+      → ((i : ℕ) → getD y i 0 ≡ (getD (raised k (lower ++ (1 ∷ []))) i 0 + getD (raised j earlier) i 0) % 2)
+      → (i : ℕ)
+      → 64 * a ≤ i
+      → bitOf f′ i ≡ image ts y (r .seen + 1) i
+  corrected y j k u d m s w e i l =
+      let n = r .seen + 1 in
+      let c = start r in
+      let z : c ≤ n = omega (arith, h .least, h .most) in
+      let q : i + (n - r .aligned) + (r .aligned - c) ≡ i + (n - c) = omega (arith, h .least, h .most) in
+      u .bit i l
+      ∙ ap₂ (λ x y. (x + y) % 2) (h .current i l ∙ marked-current i)
+      (h .previous (i + (n - r .aligned)) (omega arith) ∙ ap (marked ts earlier c) q)
+      ∙ sym
+      (image-corrected ts (lower ++ (1 ∷ [])) earlier y n c (n - c) j k d m (omega arith) (omega arith) w
+      (omega arith) e (omega arith) i)
+
   abbrev m : ℕ
-  m = changedDegree r
+  m = r .seen + 1 - r .degree
 
   kept-state : m ≤ r .degree → masseyAfter (prime 2) (inverse (prime 2)) ts (r .seen + 1)
-      ≡ keptBy (prime 2) 1 (r .degree - m) x
+      ≡ keptBy (prime 2) 1 (r .degree - m) now′
   unfolding keptState
   kept-state l =
-      let s : 2 * length f - suc (r .seen) ≡ r .degree - m = omega (arith, sizes, h .degree) in
+      let s : 2 * length lower - suc (r .seen) ≡ r .degree - m = omega (arith, counts, h .degree) in
       next
-      ∙ step-kept (prime 2) (inverse (prime 2)) ts (r .seen) x nonzero (omega (arith, sizes, h .degree))
-      ∙ ap₂ (λ c s. keptBy (prime 2) c s x) factor s
+      ∙ step-kept (prime 2) (inverse (prime 2)) ts (r .seen) now′ nonzero (omega (arith, counts, h .degree))
+      ∙ ap₂ (λ c s. keptBy (prime 2) c s now′) factor s
 
-  -- f + x^(L−m)·g over f
-  pub words-kept :
-      {w′ : List ℕ} {r′ : Recurrence}
+  -- f + x^(L−m)·g
+  pub hold-kept :
+      {f′ : List ℕ} {r′ : Known}
       → m ≤ r .degree
-      → ShiftAdded w (66 * r .half) (66 * (1 - r .half)) (r .degree - m) 0 (r .earlier / 64 + 1 + 1) w′
-      → r′ ≡ passedBy r
-      → WordsStepped ts r w′ r′
-  words-kept {w′} l u e =
+      → Added f g a (r .seen + 1 - r .aligned) f′
+      → r′ ≡ reachedWith r (r .seen + 1)
+      → Stepped ts r r′ f′ g a
+  hold-kept {f′} l u e =
       let s = r .degree - m in
-      let i : s + length g ≤ length f = omega (arith, sizes, h .degree) in
+      let d = h .degree in
+      let p = h .earlier in
+      let i : s + length earlier ≤ length lower = omega (arith, counts) in
+      let size = length-kept (prime 2) 1 s lower earlier (omega arith) in
+      let n = length-append lower (1 ∷ []) in
+      let o = length-append (kept (prime 2) 1 s lower earlier) (1 ∷ []) in
       restate (kept-state l) e refl
       (record {
-        within = h .within;
-        degree = h .degree ∙ sym (length-kept (prime 2) 1 s f g (omega arith));
-        earlier = h .earlier;
+        degree = d ∙ sym size;
+        earlier = p;
         one = h .one;
+        least = h .least;
+        most = omega (arith, h .most);
+        first = u .words;
+        second = h .second;
         current =
-            packed-added (r .earlier / 64 + 1) u (h .current) (h .previous)
-            (omega (arith, f-short, h .earlier)) (omega (arith, h .earlier))
+            corrected (kept (prime 2) 1 s lower earlier ++ (1 ∷ [])) s 0 u (omega arith)
+            (omega (arith, counts)) (omega (arith, counts)) (omega arith)
             (λ j.
-            kept-bit 1 s f g (lower-bits h (omega (arith, f-short))) i j
-            ∙ ap (λ n. (getD (polynomialOf x) j 0 + n) % 2) (omega arith));
-        previous =
-            packed-outside (r .earlier / 64 + 1) u (h .previous)
-            (λ j b c. omega (arith, f-short, h .earlier, h .within));
+            kept-bit 1 s lower earlier (lower-bits h (omega (arith, counts))) i j
+            ∙ ap₂ (λ x y. (x + y) % 2) (sym (raised-none (lower ++ (1 ∷ [])) j)) (omega arith));
+        previous = h .previous;
       })
 
   changed-state : r .degree < m → masseyAfter (prime 2) (inverse (prime 2)) ts (r .seen + 1)
-      ≡ changedBy (prime 2) 1 (m - r .degree) (discrepancy (prime 2) ts (r .seen) f) x
+      ≡ changedBy (prime 2) 1 (m - r .degree) (discrepancy (prime 2) ts (r .seen) lower) now′
   unfolding changedState
   changed-state l =
-      let s : suc (r .seen) - 2 * length f ≡ m - r .degree = omega (arith, sizes, h .degree) in
+      let s : suc (r .seen) - 2 * length lower ≡ m - r .degree = omega (arith, counts, h .degree) in
       next
-      ∙ step-changed (prime 2) (inverse (prime 2)) ts (r .seen) x nonzero
-      (omega (arith, sizes, h .degree))
-      ∙ ap₂ (λ c s. changedBy (prime 2) c s (discrepancy (prime 2) ts (r .seen) f) x) factor s
+      ∙ step-changed (prime 2) (inverse (prime 2)) ts (r .seen) now′ nonzero
+      (omega (arith, counts, h .degree))
+      ∙ ap₂ (λ c s. changedBy (prime 2) c s (discrepancy (prime 2) ts (r .seen) lower) now′) factor s
 
-  -- x^(m−L)·f + g over g, and the halves change their roles
-  pub words-changed :
-      {w′ : List ℕ} {r′ : Recurrence}
+  -- x^(m−L)·f + g, and the former f becomes g
+  pub hold-changed :
+      {f′ g′ : List ℕ} {r′ : Known}
       → r .degree < m
-      → ShiftAdded w (66 * (1 - r .half)) (66 * r .half) (m - r .degree) 0 (r .degree / 64 + 1 + 1) w′
-      → r′ ≡ changedNumbers r 1
-      → WordsStepped ts r w′ r′
-  words-changed {w′} l u e =
+      → Exchanged f g a (r .seen + 1 - r .aligned) f′ g′
+      → r′ ≡ changedWith r
+      → Stepped ts r r′ f′ g′ a
+  hold-changed {f′} {g′} l u e =
       let s = m - r .degree in
-      let i : length g ≤ s + length f = omega (arith, sizes, h .degree) in
-      let k : 66 * r .half ≡ 66 * (1 - (1 - r .half)) = omega (arith, h .within) in
+      let d = h .degree in
+      let p = h .earlier in
+      let i : length earlier ≤ s + length lower = omega (arith, counts) in
+      let size = length-changed (prime 2) 1 s lower earlier in
+      let n = length-append lower (1 ∷ []) in
+      let o = length-append (changed (prime 2) 1 s lower earlier) (1 ∷ []) in
+      let k = length (changed (prime 2) 1 s lower earlier ++ (1 ∷ [])) - length earlier - (r .seen + 1 - start r) in
       restate (changed-state l) e refl
       (record {
-        within = omega arith;
-        degree = omega (arith, length-changed (prime 2) 1 s f g, h .degree);
-        earlier = omega (arith, length-append f (1 ∷ []), h .degree);
-        one = discrepancy-one ts (r .seen) f nonzero;
+        degree = omega arith;
+        earlier = omega arith;
+        one = discrepancy-one ts (r .seen) lower nonzero;
+        least = omega arith;
+        most = omega arith;
+        first = u .added .words;
+        second = u .words;
         current =
-            packed-added (r .degree / 64 + 1) u (h .previous) (h .current)
-            (omega (arith, f-short, h .degree)) (omega (arith, length-append f (1 ∷ []), h .degree))
+            corrected (changed (prime 2) 1 s lower earlier ++ (1 ∷ [])) k s (u .added) (omega arith)
+            (omega (arith, counts)) (omega (arith, counts)) (omega (arith, counts))
             (λ j.
-            changed-bit 1 s f g (lower-bits h (omega (arith, f-short))) i j
-            ∙ ap (λ n. n % 2) (omega arith));
-        previous =
-            subst (λ a. Packed w′ a 66 (polynomialOf x)) k
-            (packed-outside (r .degree / 64 + 1) u (h .current)
-            (λ j b c. omega (arith, f-short, h .degree, h .within)));
+            changed-bit 1 s lower earlier (lower-bits h (omega (arith, counts))) i j
+            ∙ ap (λ x. (getD (raised s (lower ++ (1 ∷ []))) j 0 + x) % 2)
+            (times-one (getD earlier j 0)
+            ∙ sym (raised-same k earlier j (λ t. omega (arith, counts)))));
+        previous = λ i t.
+            let z : start (changedWith r) ≡ r .seen + 1 = omega (arith, counts) in
+            let q : i ≡ i + (r .seen + 1 - start (changedWith r)) = omega arith in
+            u .bit i t
+            ∙ h .current i t
+            ∙ marked-current i
+            ∙ ap₂ (marked ts (lower ++ (1 ∷ []))) (sym z) q;
       })
-
-pub words-ready :
-    (ts : List ℕ) {w : List ℕ} {r : Recurrence}
-    → length w ≡ 132
-    → r .seen < 4096
-    → WordsHold ts w r
-    → WordsReady w r
-words-ready ts {r = r} b l h =
-    let z = massey-sizes (prime 2) (inverse (prime 2)) ts (r .seen) in
-    record {
-      words = b;
-      numbers =
-          record { left = omega arith; degree = omega (arith, h .degree); half = h .within };
-      earlier = omega (arith, h .degree, h .earlier);
-    }
-
-pub ready-reached :
-    {w : List ℕ} {r r′ : Recurrence} (n : ℕ)
-    → WordsReady w r
-    → r′ ≡ reachedBy r n
-    → r .seen ≤ n
-    → n < 4096
-    → WordsReady w r′
-ready-reached {w} n o u l k =
-    subst (WordsReady w) (sym u)
-    (record {
-      words = o .words;
-      numbers = record { left = k; degree = omega (arith, o .numbers .degree); half = o .numbers .half };
-      earlier = omega (arith, o .earlier);
-    })
+    where
+      times-one : (n : ℕ) → 1 * n ≡ n
+      times-one n = omega arith

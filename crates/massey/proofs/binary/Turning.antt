@@ -1,46 +1,58 @@
 -- The reduction over GF(2): from the highest place down f loses a multiple of x^s·g.
 --
---   WordsTurning ts w r s == what the loop keeps: reduced by s turns more, what stands in the place of f is
---                        the first polynomial that fits
---   words-turning, words-turned == before the first turn, and after the last
---   turn-sizes       == g has a coefficient, and the place of its leading one in x^s·g is one of f
---   words-cancelled  == a turn
---   words-degree, words-shortest == the degree is at most 4,096, and what is to be written
+--   Turning ts r f g a == what the loop keeps, for s = 2·L − n and the n numbers that r has seen: reduced by s
+--                        turns more, what stands in the place of f is the first polynomial that fits
+--   turning-none, turning-end == before the first turn, and after the last
+--   turning-degree   == the degree is at most 4,096
+--   turning-sizes    == g has a coefficient, and the place of its leading one in x^s·g is one of f
+--   turning-reducible, turning-cancelled == a turn can be taken, and is
+--   cancelled-numbers == the terms seen and the degree are as they were
+--   hold-degree, reduced-shortest == the degree is at most 4,096, and what is to be written
 --
 -- Assumes nothing.
-use Prim.Native.Nat.{ℕ, zero, suc, _+_, _-_, _*_, _/_, _%_, _≤_, _<_, min}
-use mathlib.Core.Path.{_≡_, sym, ap, subst, _∙_}
+use Prim.Native.Nat.{ℕ, zero, suc, _+_, _-_, _*_, _/_, _%_, _≤_, _<_}
+use mathlib.Core.Path.{_≡_, sym, ap, ap₂, subst, _∙_}
 use mathlib.Core.List.{List, [], _∷_, _++_}
 use native.Mathlib.Nat as ℕ
+use native.Mathlib.Decide.{decLt}
 use native.Mathlib.Omega.{arith}
-use lib.ListN.{length, getD, length-append, List·getD-append}
+use lib.ListN.{length, getD, length-append, List·getD-append, List·getD-eq-default}
+use lib.Seq.{ext-getD}
 use Rattle.meaning.specs.Field.{prime, negative}
 use Rattle.meaning.specs.Result.{written, cleared}
-use Rattle.bridge.proofs.Monics.{digit}
-use Rattle.bridge.proofs.WordLists.{Packed}
+use Rattle.bridge.proofs.WordLists.{digit-below, raised-none}
 use Rattle.bridge.proofs.MasseyBits.{kept-bit, negative-bit}
+use Rattle.bridge.proofs.MasseyImages.{image, marked, image-high, marked-off, image-upper}
 use Rattle.bridge.proofs.MasseySteps.{MasseyState, masseyAfter, kept, length-kept, massey-sizes}
 use Rattle.bridge.proofs.MasseySteps.{massey-earlier}
 use Rattle.bridge.proofs.MasseyFirst.{reduceAt, reduced, firstLower, masseyFirst, reduced-zero}
 use Rattle.bridge.proofs.MasseyFirst.{reduced-suc}
 use Rattle.arith.specs.Inverse.{inverse}
-use Rattle.massey.specs.declared.step.Recurrence.{Recurrence}
-use Rattle.massey.specs.words.Words.{bitsAt}
+use Rattle.massey.specs.declared.binary.Known.{Known}
+use Rattle.massey.specs.words.Words.{bitOf, bitsFrom, Words, Added}
 use Rattle.massey.specs.Shortest.{ShortestRecurrence}
-use Rattle.massey.specs.binary.Binary.{WordsStand, WordsHold, Cancelled, none, taken, WordsReduced}
-use Rattle.massey.proofs.Reducing.{withLower, after}
-use Rattle.massey.proofs.words.Shifting.{packed-added, packed-outside}
+use Rattle.massey.specs.binary.Binary.{start, reachedWith, alignedWith, Aligned, Stands, Hold}
+use Rattle.massey.specs.binary.Binary.{Cancelled, none, taken, Reducible, Reduced}
+use Rattle.massey.proofs.Reducing.{after}
 use Rattle.massey.proofs.words.Packing.{bits-all}
-use Rattle.massey.proofs.binary.Standing.{lower-bits}
+use Rattle.massey.proofs.binary.Aligning.{aligned-image}
 
-pub record WordsTurning (ts w : List ℕ) (r : Recurrence) (s : ℕ) : Type 0 where
+pub record Turning (ts : List ℕ) (r : Known) (f g : List ℕ) (a : ℕ) : Type 0 where
   pub lower : List ℕ
-  pub stands : WordsStand (withLower lower (after (prime 2) ts)) w r
-  pub rest : reduced (prime 2) (after (prime 2) ts .previous) s lower
+  pub rest : reduced (prime 2) (after (prime 2) ts .previous) (2 * r .degree - r .seen) lower
       ≡ firstLower (prime 2) (length ts) (after (prime 2) ts)
+  pub size : r .degree ≡ length lower
   pub degree : r .degree ≡ length (after (prime 2) ts .lower)
-  pub bound : s ≤ 2 * length (after (prime 2) ts .lower) - length ts
-  pub size : length w ≡ 132
+  pub earlier : r .earlier ≡ length (after (prime 2) ts .previous)
+  pub from : length ts ≤ r .seen
+  pub room : 64 * a + length ts ≤ 4096
+  pub least : start r ≤ r .aligned
+  pub most : r .aligned ≤ r .seen + 1
+  pub first : Words f
+  pub second : Words g
+  pub current : (i : ℕ) → 4096 - length ts ≤ i → bitOf f i ≡ image ts (lower ++ (1 ∷ [])) (length ts) i
+  pub previous : (i : ℕ) → 64 * a ≤ i
+      → bitOf g i ≡ marked ts (after (prime 2) ts .previous) (start r) (i + (r .aligned - start r))
 
 -- a leading 1 is a bit too
 led-bits : (f : List ℕ) → ((i : ℕ) → getD f i 0 < 2) → (i : ℕ) → getD (f ++ (1 ∷ [])) i 0 < 2
@@ -49,175 +61,294 @@ led-bits [] b (suc i) = omega arith
 led-bits (a ∷ f) b zero = b 0
 led-bits (a ∷ f) b (suc i) = led-bits f (λ i. b (suc i)) i
 
+-- the bits that x^s·g is moved down by
+moved : (l e n : ℕ) → 1 ≤ e → l + e ≤ n + 1 → n < 2 * l
+    → 2 * l - 1 - n + e + (n + 1 - (l + e - 1)) ≡ l + 1
+moved l e n a b c = omega arith
+
+-- and how far up it reaches
+reach : (l e n : ℕ) → l + e ≤ n + 1 → 2 * l - 1 - n + e ≤ l + e - 1 + 64
+reach l e n b = omega arith
+
 module _ (ts : List ℕ) where
   abbrev t : MasseyState
   t = after (prime 2) ts
 
-  pub words-turning :
-      {w : List ℕ} {r : Recurrence} {s : ℕ}
-      → length w ≡ 132
-      → WordsHold ts w r
+  pub turning-none :
+      {r : Known} {f g : List ℕ} {a : ℕ}
+      → 64 * a + length ts ≤ 4096
       → r .seen ≡ length ts
-      → s ≡ 2 * r .degree - min (2 * r .degree) (length ts)
-      → WordsTurning ts w r s
-  words-turning {w} {r} {s} l h e q =
-      let held : WordsStand t w r =
-      subst (λ n. WordsStand (masseyAfter (prime 2) (inverse (prime 2)) ts n) w r) e h in
-      let k : s ≡ 2 * length (t .lower) - length ts = omega (arith, held .degree) in
+      → Hold ts r f g a
+      → Turning ts r f g a
+  turning-none {r} {f} {g} {a} b e h =
+      let held : Stands ts t r f g a =
+      subst (λ n. Stands ts (masseyAfter (prime 2) (inverse (prime 2)) ts n) r f g a) e h in
+      let k : 2 * r .degree - r .seen ≡ 2 * length (t .lower) - length ts = omega (arith, held .degree) in
       record {
         lower = t .lower;
-        stands = held;
         rest = ap (λ i. reduced (prime 2) (t .previous) i (t .lower)) k;
+        size = held .degree;
         degree = held .degree;
-        bound = ℕ.le-of-eq k;
-        size = l;
+        earlier = held .earlier;
+        from = ℕ.le-of-eq (sym e);
+        room = b;
+        least = held .least;
+        most = held .most;
+        first = held .first;
+        second = held .second;
+        current = λ i l.
+            held .current i (omega arith) ∙ ap (λ n. image ts (t .lower ++ (1 ∷ [])) n i) e;
+        previous = held .previous;
       }
 
-  pub words-turned :
-      {w : List ℕ} {r : Recurrence} {s : ℕ} → WordsTurning ts w r s → s ≤ 0 → WordsReduced ts w r
-  words-turned {w} {r} {s} h l =
-      let n : 0 ≡ s = omega arith in
+  -- the coefficients of f
+  coefficient :
+      {r : Known} {f g : List ℕ} {a : ℕ} (h : Turning ts r f g a)
+      → r .degree ≤ length ts
+      → (i : ℕ)
+      → bitOf f (4159 - r .degree + i) ≡ getD (h .lower ++ (1 ∷ [])) i 0
+  coefficient {r} h d i =
+      let l = length-append (h .lower) (1 ∷ []) in
+      let s = h .size in
+      let b = h .room in
+      h .current (4159 - r .degree + i) (omega arith)
+      ∙ image-high ts (h .lower ++ (1 ∷ [])) (length ts) (4159 - r .degree + i) (omega arith)
+      ∙ ap (λ j. getD (h .lower ++ (1 ∷ [])) j 0) (omega arith)
+
+  degree-small : {r : Known} {f g : List ℕ} {a : ℕ} → Turning ts r f g a → r .degree ≤ length ts
+  degree-small h = omega (arith, massey-sizes (prime 2) (inverse (prime 2)) ts (length ts), h .degree)
+
+  pub turning-degree : {r : Known} {f g : List ℕ} {a : ℕ} → Turning ts r f g a → r .degree ≤ 4096
+  turning-degree h = omega (arith, degree-small h, h .room)
+
+  pub turning-end :
+      {r : Known} {f g : List ℕ} {a : ℕ} (k : Known)
+      → r .degree ≡ k .degree
+      → Turning ts r f g a
+      → 2 * r .degree ≤ r .seen
+      → Reduced ts k f
+  turning-end {r} {f} k q h l =
+      let n : 0 ≡ 2 * r .degree - r .seen = omega arith in
       let e : h .lower ≡ firstLower (prime 2) (length ts) t =
       sym (reduced-zero (prime 2) (t .previous) (h .lower))
       ∙ ap (λ i. reduced (prime 2) (t .previous) i (h .lower)) n
       ∙ h .rest in
       record {
         size =
-            subst (λ f. length (f ++ (1 ∷ [])) ≡ r .degree + 1) e
-            (omega (arith, length-append (h .lower) (1 ∷ []), h .stands .degree));
-        first = subst (λ f. Packed w (66 * r .half) 66 (f ++ (1 ∷ []))) e (h .stands .current);
+            subst (λ f. length (f ++ (1 ∷ [])) ≡ k .degree + 1) e
+            (omega (arith, length-append (h .lower) (1 ∷ []), h .size));
+        first = λ i _.
+            ap (λ d. bitOf f (4159 - d + i)) (sym q)
+            ∙ coefficient h (degree-small h) i
+            ∙ ap (λ f. getD (f ++ (1 ∷ [])) i 0) e;
       }
 
-  module _ {w : List ℕ} {r : Recurrence} {s : ℕ} (b : length ts ≤ 4096)
-      (h : WordsTurning ts w r (suc s)) where
-    pub turn-sizes : (1 ≤ r .earlier) × (r .earlier + s ≤ r .degree) × (r .degree ≤ 4096)
-    turn-sizes =
+  module _ {r : Known} {f g : List ℕ} {a : ℕ} (h : Turning ts r f g a) (b : r .seen < 2 * r .degree) where
+    pub turning-sizes : (1 ≤ r .earlier) × (r .degree + r .earlier ≤ r .seen + 1) × (r .degree ≤ 4096)
+    turning-sizes =
         let z = massey-sizes (prime 2) (inverse (prime 2)) ts (length ts) in
-        let d = h .stands .earlier in
+        let d = h .earlier in
         let i =
         massey-earlier (prime 2) (inverse (prime 2)) ts (λ g. 0 < length g)
         (λ n.
         omega (arith, length-append (masseyAfter (prime 2) (inverse (prime 2)) ts n .lower) (1 ∷ [])))
         (length ts)
-        (omega (arith, h .bound)) in
-        (omega arith, omega (arith, h .bound, h .degree), omega (arith, h .degree))
+        (omega (arith, h .degree)) in
+        (omega arith, omega (arith, h .degree, h .from), omega (arith, h .degree, h .room))
 
-    abbrev f : List ℕ
-    f = h .lower
+    pub turning-reducible : Reducible r f g a
+    turning-reducible =
+        let z = turning-sizes in
+        record {
+          words = (h .first, h .second);
+          from = omega (arith, h .room);
+          degree = (omega arith, b);
+          earlier = (z .0, z .1);
+          most = h .most;
+        }
 
-    abbrev g : List ℕ
-    g = t .previous
+    abbrev u : List ℕ
+    u = h .lower
 
-    abbrev place : ℕ
-    place = r .earlier - 1 + s
+    abbrev v : List ℕ
+    v = t .previous
 
-    f-short : length f ≤ 4096
-    f-short = omega (arith, turn-sizes, h .stands .degree)
+    abbrev s : ℕ
+    s = 2 * r .degree - 1 - r .seen
+
+    bits : (i : ℕ) → getD u i 0 < 2
+    bits i = elim (decLt i (length u)) [
+      | yes c ↦
+          subst (λ n. n < 2)
+          (coefficient h (degree-small h) i ∙ List·getD-append u (1 ∷ []) 0 i c)
+          (digit-below (getD f ((4159 - r .degree + i) / 64) 0) ((4159 - r .degree + i) % 64))
+      | no c ↦ subst (λ n. n < 2) (sym (List·getD-eq-default u 0 (omega arith))) (omega arith)
+    ]
+
+    fits : s + length v ≤ length u
+    fits = omega (arith, turning-sizes, h .size, h .earlier)
 
     -- the coefficient of f that is to become 0
-    coefficient :
-        digit 2 (getD w (66 * r .half + place / 64) 0) (place % 64) ≡ getD f (length g - 1 + s) 0
-    coefficient =
-        let z = turn-sizes in
-        let d = h .stands .degree in
-        let e = h .stands .earlier in
-        let i : 64 * (place / 64) + place % 64 ≡ length g - 1 + s = omega arith in
-        h .stands .current .bit (place / 64) (place % 64) (omega arith) (omega arith)
-        ∙ ap (λ j. getD (f ++ (1 ∷ [])) j 0) i
-        ∙ List·getD-append f (1 ∷ []) 0 (length g - 1 + s) (omega arith)
+    place : bitOf f (4157 + r .degree + r .earlier - r .seen) ≡ getD u (length v - 1 + s) 0
+    place =
+        let z = turning-sizes in
+        let d = h .size in
+        let e = h .earlier in
+        let i : 4157 + r .degree + r .earlier - r .seen ≡ 4159 - r .degree + (length v - 1 + s) = omega arith in
+        ap (bitOf f) i
+        ∙ coefficient h (degree-small h) (length v - 1 + s)
+        ∙ List·getD-append u (1 ∷ []) 0 (length v - 1 + s) (omega arith)
 
     -- f + c·x^s·g
     turned :
-        {w′ : List ℕ} (c : ℕ)
-        → negative (prime 2) (getD f (length g - 1 + s) 0) ≡ c
-        → length w′ ≡ 132
-        → Packed w′ (66 * r .half) 66 (kept (prime 2) c s f g ++ (1 ∷ []))
-        → Packed w′ (66 * (1 - r .half)) 66 g
-        → WordsTurning ts w′ r s
+        {r′ : Known} {f′ g′ : List ℕ} (c : ℕ)
+        → negative (prime 2) (getD u (length v - 1 + s) 0) ≡ c
+        → r′ ≡ alignedWith r (r′ .aligned)
+        → r .aligned ≤ r′ .aligned
+        → r′ .aligned ≤ r .seen + 1
+        → Words f′
+        → Words g′
+        → ((i : ℕ)
+        → 4096 - length ts ≤ i
+        → bitOf f′ i ≡ image ts (kept (prime 2) c s u v ++ (1 ∷ [])) (length ts) i)
+        → ((i : ℕ) → 64 * a ≤ i → bitOf g′ i ≡ marked ts v (start r) (i + (r′ .aligned - start r)))
+        → Turning ts (reachedWith r′ (r′ .seen + 1)) f′ g′ a
     unfolding reduceAt
-    turned {w′} c e l p q =
-        let i : s ≤ length f = omega (arith, turn-sizes, h .stands .degree) in
+    turned {r′} {f′} {g′} c e q m o x y p w =
+        let k : s ≤ length u = omega (arith, fits) in
+        let d : r′ .degree ≡ r .degree = ap (λ r. r .degree) q in
+        let n : r′ .seen ≡ r .seen = ap (λ r. r .seen) q in
+        let z : r′ .earlier ≡ r .earlier = ap (λ r. r .earlier) q in
+        let j : 2 * r′ .degree - (r′ .seen + 1) ≡ s = omega arith in
+        let i : suc s ≡ 2 * r .degree - r .seen = omega arith in
+        let st : start r ≡ r′ .degree + r′ .earlier - 1 = omega arith in
         record {
-          lower = reduceAt (prime 2) g s f;
-          stands =
-              subst (λ c. WordsStand (withLower (kept (prime 2) c s f g) t) w′ r) (sym e)
-              (record {
-                within = h .stands .within;
-                degree = h .stands .degree ∙ sym (length-kept (prime 2) c s f g i);
-                earlier = h .stands .earlier;
-                one = h .stands .one;
-                current = p;
-                previous = q;
-              });
-          rest = sym (reduced-suc (prime 2) g s f) ∙ h .rest;
-          degree = h .degree;
-          bound = omega (arith, h .bound);
-          size = l;
+          lower = reduceAt (prime 2) v s u;
+          rest =
+              ap (λ i. reduced (prime 2) v i (reduceAt (prime 2) v s u)) j
+              ∙ sym (reduced-suc (prime 2) v s u)
+              ∙ ap (λ i. reduced (prime 2) v i u) i
+              ∙ h .rest;
+          size =
+              d ∙ h .size ∙ sym (length-kept (prime 2) (negative (prime 2) (getD u (length v - 1 + s) 0)) s u v k);
+          degree = d ∙ h .degree;
+          earlier = z ∙ h .earlier;
+          from = omega (arith, h .from);
+          room = h .room;
+          least = omega (arith, h .least);
+          most = omega arith;
+          first = x;
+          second = y;
+          current = λ i l.
+              p i l ∙ ap (λ c. image ts (kept (prime 2) c s u v ++ (1 ∷ [])) (length ts) i) (sym e);
+          previous = λ i l. w i l ∙ ap (λ n. marked ts v n (i + (r′ .aligned - n))) st;
         }
 
-    bits : (i : ℕ) → getD f i 0 < 2
-    bits = lower-bits (h .stands) f-short
+    -- f + 0·x^s·g is f
+    same : kept (prime 2) 0 s u v ++ (1 ∷ []) ≡ u ++ (1 ∷ [])
+    same =
+        ext-getD 0 (kept (prime 2) 0 s u v ++ (1 ∷ [])) (u ++ (1 ∷ []))
+        (length-append (kept (prime 2) 0 s u v) (1 ∷ [])
+        ∙ ap (λ n. n + 1) (length-kept (prime 2) 0 s u v (omega (arith, fits)))
+        ∙ sym (length-append u (1 ∷ [])))
+        (λ i _.
+        kept-bit 0 s u v bits fits i
+        ∙ ap (λ n. n % 2) (omega arith)
+        ∙ ℕ.mod-eq-of-lt (led-bits u bits i))
 
-    fits : s + length g ≤ length f
-    fits = omega (arith, turn-sizes, h .stands .degree, h .stands .earlier)
+    module _ {r′ : Known} {f′ g′ : List ℕ} (k : Aligned r g a r′ g′)
+        (m : Added f g′ a (r .seen + 1 - r′ .aligned) f′) where
+      aligned-previous : (i : ℕ) → 64 * a ≤ i → bitOf g′ i ≡ marked ts v (start r) (i + (r′ .aligned - start r))
+      aligned-previous = aligned-image (marked ts v (start r)) (start r) k (h .least) (h .previous)
 
-    pub words-cancelled :
-        {w′ : List ℕ}
-        → Cancelled w (66 * r .half) (66 * (1 - r .half)) (r .earlier) s w′
-        → length w′ ≡ length w
-        → WordsTurning ts w′ r s
-    words-cancelled {w′} (none z e) l =
-        turned 0 (ap (negative (prime 2)) (sym coefficient ∙ z) ∙ negative-bit 0 (omega arith)) (l ∙ h .size)
-        (subst (λ v. Packed v (66 * r .half) 66 (kept (prime 2) 0 s f g ++ (1 ∷ []))) (sym e)
-        (record { bit = λ j k a c. h .stands .current .bit j k a c ∙ sym (same (64 * j + k)) }))
-        (subst (λ v. Packed v (66 * (1 - r .half)) 66 g) (sym e) (h .stands .previous))
-      where
-        led : (i : ℕ) → getD (f ++ (1 ∷ [])) i 0 < 2
-        led i = led-bits f bits i
+      added-current :
+          (i : ℕ)
+          → 4096 - length ts ≤ i
+          → bitOf f′ i ≡ image ts (kept (prime 2) 1 s u v ++ (1 ∷ [])) (length ts) i
+      added-current i l =
+          let z = turning-sizes in
+          let o = length-append u (1 ∷ []) in
+          let w = length-append (kept (prime 2) 1 s u v) (1 ∷ []) in
+          let size = length-kept (prime 2) 1 s u v (omega (arith, fits)) in
+          let j = i + (r .seen + 1 - r′ .aligned) in
+          let e : j + (r′ .aligned - start r) ≡ i + (r .seen + 1 - start r) =
+          omega (arith, h .least, k .more, k .most) in
+          let y = h .room in
+          let q = h .size in
+          let d = h .earlier in
+          let n = h .from in
+          let x = degree-small h in
+          m .bit i (omega arith)
+          ∙ ap₂ (λ x y. (x + y) % 2) (h .current i l)
+          (aligned-previous j (omega arith)
+          ∙ ap (marked ts v (start r)) e
+          ∙ marked-off ts v (start r) (i + (r .seen + 1 - start r)) (λ q. omega arith))
+          ∙ sym
+          (image-upper ts (u ++ (1 ∷ [])) v (kept (prime 2) 1 s u v ++ (1 ∷ [])) (length ts) (start r)
+          (r .seen + 1 - start r) s 0 (omega arith)
+          (ap (λ n. s + n + (r .seen + 1 - start r)) (sym d)
+          ∙ moved (r .degree) (r .earlier) (r .seen) (z .0) (z .1) b
+          ∙ ap (λ n. n + 1) (q ∙ sym size)
+          ∙ sym w)
+          (omega arith) (omega arith)
+          (subst (λ n. s + n ≤ start r + 64) d (reach (r .degree) (r .earlier) (r .seen) (z .1))) (omega arith)
+          (λ j.
+          kept-bit 1 s u v bits fits j
+          ∙ ap₂ (λ x y. (x + y) % 2) (sym (raised-none (u ++ (1 ∷ [])) j)) (omega arith))
+          i l)
 
-        same : (i : ℕ) → getD (kept (prime 2) 0 s f g ++ (1 ∷ [])) i 0 ≡ getD (f ++ (1 ∷ [])) i 0
-        same i =
-            kept-bit 0 s f g bits fits i
-            ∙ ap (λ n. n % 2) (omega arith)
-            ∙ ℕ.mod-eq-of-lt (led i)
-    words-cancelled {w′} (taken z u) l =
-        let y = turn-sizes in
-        let e = h .stands .earlier in
-        turned 1 (ap (negative (prime 2)) (sym coefficient ∙ z) ∙ negative-bit 1 (omega arith)) (l ∙ h .size)
-        (packed-added (r .earlier / 64 + 1) u (h .stands .current) (h .stands .previous) (omega arith)
-        (omega arith)
-        (λ j.
-        kept-bit 1 s f g bits fits j
-        ∙ ap (λ n. (getD (f ++ (1 ∷ [])) j 0 + n) % 2) (omega arith)))
-        (packed-outside (r .earlier / 64 + 1) u (h .stands .previous)
-        (λ j b c. omega (arith, h .stands .within)))
+    pub turning-cancelled :
+        {r′ : Known} {f′ g′ : List ℕ}
+        → Cancelled r f g a r′ f′ g′
+        → Turning ts (reachedWith r′ (r′ .seen + 1)) f′ g′ a
+    turning-cancelled {r′} {f′} {g′} (none z q x y) =
+        let e : r′ .aligned ≡ r .aligned = ap (λ r. r .aligned) q in
+        turned 0 (ap (negative (prime 2)) (sym place ∙ z) ∙ negative-bit 0 (omega arith))
+        (q ∙ ap (alignedWith r) (sym e)) (omega arith) (omega (arith, h .most))
+        (subst Words (sym x) (h .first)) (subst Words (sym y) (h .second))
+        (λ i l. ap (λ w. bitOf w i) x ∙ h .current i l ∙ ap (λ f. image ts f (length ts) i) (sym same))
+        (λ i l.
+        ap (λ w. bitOf w i) y
+        ∙ h .previous i l
+        ∙ ap (λ n. marked ts v (start r) (i + (n - start r))) (sym e))
+    turning-cancelled {r′} {f′} {g′} (taken z k m) =
+        let y = subst (λ n. Added f g′ a (n + 1 - r′ .aligned) f′) (ap (λ r. r .seen) (k .numbers)) m in
+        turned 1 (ap (negative (prime 2)) (sym place ∙ z) ∙ negative-bit 1 (omega arith)) (k .numbers)
+        (k .more) (k .most) (y .words) (k .words) (added-current k y) (aligned-previous k y)
+
+pub cancelled-numbers :
+    {r r′ : Known} {f g f′ g′ : List ℕ} {a : ℕ}
+    → Cancelled r f g a r′ f′ g′
+    → (r′ .seen ≡ r .seen) × (r′ .degree ≡ r .degree)
+cancelled-numbers (none z q x y) = (ap (λ r. r .seen) q, ap (λ r. r .degree) q)
+cancelled-numbers (taken z k m) = (ap (λ r. r .seen) (k .numbers), ap (λ r. r .degree) (k .numbers))
 
 -- After the last turn
-pub words-degree : (ts : List ℕ) {w : List ℕ} {r : Recurrence}
+pub hold-degree : {ts : List ℕ} {r : Known} {f g : List ℕ} {a : ℕ}
     → length ts ≤ 4096
     → r .seen ≡ length ts
-    → WordsHold ts w r
+    → Hold ts r f g a
     → r .degree ≤ 4096
-words-degree ts {r = r} b e h =
+hold-degree {ts} {r} b e h =
     omega (arith, massey-sizes (prime 2) (inverse (prime 2)) ts (r .seen), h .degree)
 
-pub words-shortest :
-    (ts : List ℕ) {w v answer work answer′ work′ : List ℕ} {r : Recurrence}
+pub reduced-shortest :
+    (ts : List ℕ) {f g w answer work answer′ work′ : List ℕ} {r : Known} {a : ℕ}
     → length ts ≤ 4096
     → r .seen ≡ length ts
-    → WordsHold ts w r
-    → WordsReduced ts v r
-    → answer′ ≡ written (bitsAt v (66 * r .half) (r .degree + 1)) answer
+    → Hold ts r f g a
+    → Reduced ts r w
+    → answer′ ≡ written (bitsFrom w (4159 - r .degree) (r .degree + 1)) answer
     → work′ ≡ cleared work
     → ShortestRecurrence (prime 2) ts answer work (r .degree) answer′ work′
-words-shortest ts {v = v} {answer = answer} {r = r} b e h q u c =
+reduced-shortest ts {w = w} {answer = answer} {r = r} b e h q u c =
     let first = masseyFirst (prime 2) (inverse (prime 2)) ts in
     record {
       degree = h .degree ∙ ap (λ n. length (masseyAfter (prime 2) (inverse (prime 2)) ts n .lower)) e;
       answerBytes =
           u
           ∙ ap (λ f. written f answer)
-          (ap (bitsAt v (66 * r .half)) (sym (q .size))
-          ∙ bits-all first (q .first) (omega (arith, q .size, words-degree ts b e h)));
+          (ap (bitsFrom w (4159 - r .degree)) (sym (q .size))
+          ∙ bits-all w first (4159 - r .degree) (λ i l. q .first i (omega (arith, q .size))));
       workBytes = c;
     }

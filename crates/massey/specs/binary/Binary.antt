@@ -1,67 +1,118 @@
 -- What the contracts of the free way over GF(2) cite: the state of the model in words and numbers.
 --
---   WordsStand x w r  == the state x of the model stands in the words w and the numbers r: f in the half that
---                        r names and g in the other, both with their leading 1 and zeros after them
---   WordsHold ts w r  == what stands there is the state after the terms of ts that r has seen
---   WordsReady w r    == f can be corrected: the words are as many as they are to be, the numbers in range
+--   start r           == how many terms were seen when the former f became g
+--   reachedWith r n, alignedWith r n == n terms are seen, g is aligned to n, and all else is as it was
+--   changedWith r     == one term more is seen, and the degree changed for it
+--   Aligned r g a r′ g′ == g is moved down by whole words, and fewer than 64 bits are left
+--   Stands ts x r f g a == the state x of the model stands in the words of f and g, from word a on, and in
+--                        the numbers r: those of f have its image, and those of g its marked image, moved
+--                        down (bridge's MasseyImages)
+--   Hold ts r f g a   == what stands there is the state after the terms of ts that r has seen
+--   Ready r f g a     == f can be corrected: the numbers are in range, and g is aligned
 --   Misfits ts r      == f does not fit the term after those seen
---   WordsStepped ts r w r′ == one term more is seen, and the state after it stands there
---   WordsAdvanced ts r m w r′ == more terms are seen, at most m, and the state after them stands there
---   Cancelled l x y e s w == w is l, or l with x^s·g added to f, where f has a coefficient at place e − 1 + s
---   WordsReduced ts w r == the first polynomial that fits all terms stands in the place of f, of its degree
+--   Stepped ts r r′ f g a == one term more is seen, and the state after it stands there
+--   Advanced ts r m r′ f g a == more terms are seen, at most m, and the state after them stands there
+--   Reducible r f g a == f can lose a multiple of x^s·g, s = 2·L − 1 − n, for n numbers seen
+--   Cancelled r f g a r′ f′ g′ == nothing is done, where f has no coefficient at the place of the leading one
+--                        of x^s·g; or g is aligned, and added
+--   Reduced ts r f    == the first polynomial that fits all terms stands in the place of f, of its degree
 --
 -- The model is that of `bridge`, with the inverse of `arith`.
-use Prim.Native.Nat.{ℕ, _+_, _-_, _*_, _/_, _%_, _≤_, _<_}
+use Prim.Native.Nat.{ℕ, _+_, _-_, _*_, _≤_, _<_}
 use mathlib.Core.Path.{_≡_}
 use mathlib.Core.Logic.{_≢_}
 use mathlib.Core.List.{List}
 use lib.ListN.{length, getD}
 use Rattle.meaning.specs.Field.{prime}
-use Rattle.bridge.proofs.Monics.{digit}
-use Rattle.bridge.proofs.WordLists.{Packed}
 use Rattle.bridge.proofs.MasseySteps.{MasseyState, masseyAfter, polynomialOf, discrepancy}
 use Rattle.bridge.proofs.MasseyFirst.{masseyFirst}
+use Rattle.bridge.proofs.MasseyImages.{image, marked}
 use Rattle.arith.specs.Inverse.{inverse}
-use Rattle.massey.specs.declared.step.Recurrence.{Recurrence}
-use Rattle.massey.specs.step.Change.{Countable}
-use Rattle.massey.specs.words.Words.{ShiftAdded}
+use Rattle.massey.specs.declared.binary.Known.{Known}
+use Rattle.massey.specs.words.Words.{bitOf, Words, Added}
 
-pub record WordsStand (x : MasseyState) (w : List ℕ) (r : Recurrence) : Type 0 where
-  pub within : r .half ≤ 1
+abbrev pub start : Known → ℕ
+start r = r .degree + r .earlier - 1
+
+abbrev pub reachedWith : Known → ℕ → Known
+reachedWith r n = record { seen = n; degree = r .degree; earlier = r .earlier; aligned = r .aligned }
+
+abbrev pub changedWith : Known → Known
+changedWith r =
+    record {
+      seen = r .seen + 1;
+      degree = r .seen + 1 - r .degree;
+      earlier = r .degree + 1;
+      aligned = r .seen + 1;
+    }
+
+abbrev pub alignedWith : Known → ℕ → Known
+alignedWith r n = record { seen = r .seen; degree = r .degree; earlier = r .earlier; aligned = n }
+
+pub record Aligned (r : Known) (g : List ℕ) (a : ℕ) (r′ : Known) (g′ : List ℕ) : Type 0 where
+  pub numbers : r′ ≡ alignedWith r (r′ .aligned)
+  pub more : r .aligned ≤ r′ .aligned
+  pub most : r′ .aligned ≤ r .seen + 1
+  pub near : r .seen + 1 < r′ .aligned + 64
+  pub words : Words g′
+  pub bit : (i : ℕ) → 64 * a ≤ i → bitOf g′ i ≡ bitOf g (i + (r′ .aligned - r .aligned))
+
+pub record Stands (ts : List ℕ) (x : MasseyState) (r : Known) (f g : List ℕ) (a : ℕ) : Type 0 where
   pub degree : r .degree ≡ length (x .lower)
   pub earlier : r .earlier ≡ length (x .previous)
   pub one : x .value ≡ 1
-  pub current : Packed w (66 * r .half) 66 (polynomialOf x)
-  pub previous : Packed w (66 * (1 - r .half)) 66 (x .previous)
+  pub least : start r ≤ r .aligned
+  pub most : r .aligned ≤ r .seen + 1
+  pub first : Words f
+  pub second : Words g
+  pub current : (i : ℕ) → 64 * a ≤ i → bitOf f i ≡ image ts (polynomialOf x) (r .seen) i
+  pub previous : (i : ℕ) → 64 * a ≤ i
+      → bitOf g i ≡ marked ts (x .previous) (start r) (i + (r .aligned - start r))
 
-abbrev pub WordsHold : List ℕ → List ℕ → Recurrence → Type 0
-WordsHold ts w r = WordsStand (masseyAfter (prime 2) (inverse (prime 2)) ts (r .seen)) w r
+abbrev pub Hold : List ℕ → Known → List ℕ → List ℕ → ℕ → Type 0
+Hold ts r f g a = Stands ts (masseyAfter (prime 2) (inverse (prime 2)) ts (r .seen)) r f g a
 
-pub record WordsReady (w : List ℕ) (r : Recurrence) : Type 0 where
-  pub words : length w ≡ 132
-  pub numbers : Countable r
-  pub earlier : r .earlier + r .degree ≤ r .seen + 1
+pub record Ready (r : Known) (f g : List ℕ) (a : ℕ) : Type 0 where
+  pub words : Words f × Words g
+  pub left : 64 * a + r .seen < 4096
+  pub degree : r .degree ≤ r .seen
+  pub most : r .aligned ≤ r .seen + 1
+  pub near : r .seen + 1 < r .aligned + 64
 
-pub record WordsStepped (ts : List ℕ) (r : Recurrence) (w : List ℕ) (r′ : Recurrence) : Type 0 where
-  pub seen : r′ .seen ≡ r .seen + 1
-  pub holds : WordsHold ts w r′
-
-abbrev pub Misfits : List ℕ → Recurrence → Type 0
+abbrev pub Misfits : List ℕ → Known → Type 0
 Misfits ts r =
     discrepancy (prime 2) ts (r .seen) (masseyAfter (prime 2) (inverse (prime 2)) ts (r .seen) .lower) ≢ 0
 
-pub record WordsAdvanced (ts : List ℕ) (r : Recurrence) (m : ℕ) (w : List ℕ) (r′ : Recurrence) : Type 0 where
+pub record Stepped (ts : List ℕ) (r r′ : Known) (f g : List ℕ) (a : ℕ) : Type 0 where
+  pub seen : r′ .seen ≡ r .seen + 1
+  pub holds : Hold ts r′ f g a
+
+pub record Advanced (ts : List ℕ) (r : Known) (m : ℕ) (r′ : Known) (f g : List ℕ) (a : ℕ) : Type 0 where
   pub more : r .seen < r′ .seen
   pub most : r′ .seen ≤ m
-  pub holds : WordsHold ts w r′
+  pub holds : Hold ts r′ f g a
 
-pub data Cancelled (l : List ℕ) (x y e s : ℕ) (w : List ℕ) : Type 0 where
-  none : digit 2 (getD l (x + (e - 1 + s) / 64) 0) ((e - 1 + s) % 64) ≡ 0 → w ≡ l → Cancelled l x y e s w
+pub record Reducible (r : Known) (f g : List ℕ) (a : ℕ) : Type 0 where
+  pub words : Words f × Words g
+  pub from : a ≤ 65
+  pub degree : (r .degree ≤ 4096) × (r .seen < 2 * r .degree)
+  pub earlier : (1 ≤ r .earlier) × (r .degree + r .earlier ≤ r .seen + 1)
+  pub most : r .aligned ≤ r .seen + 1
+
+pub data Cancelled (r : Known) (f g : List ℕ) (a : ℕ) (r′ : Known) (f′ g′ : List ℕ) : Type 0 where
+  none :
+      bitOf f (4157 + r .degree + r .earlier - r .seen) ≡ 0
+      → r′ ≡ r
+      → f′ ≡ f
+      → g′ ≡ g
+      → Cancelled r f g a r′ f′ g′
   taken :
-      digit 2 (getD l (x + (e - 1 + s) / 64) 0) ((e - 1 + s) % 64) ≡ 1
-      → ShiftAdded l x y s 0 (e / 64 + 1 + 1) w
-      → Cancelled l x y e s w
+      bitOf f (4157 + r .degree + r .earlier - r .seen) ≡ 1
+      → Aligned r g a r′ g′
+      → Added f g′ a (r′ .seen + 1 - r′ .aligned) f′
+      → Cancelled r f g a r′ f′ g′
 
-pub record WordsReduced (ts w : List ℕ) (r : Recurrence) : Type 0 where
+pub record Reduced (ts : List ℕ) (r : Known) (f : List ℕ) : Type 0 where
   pub size : length (masseyFirst (prime 2) (inverse (prime 2)) ts) ≡ r .degree + 1
-  pub first : Packed w (66 * r .half) 66 (masseyFirst (prime 2) (inverse (prime 2)) ts)
+  pub first : (i : ℕ) → i ≤ r .degree
+      → bitOf f (4159 - r .degree + i) ≡ getD (masseyFirst (prime 2) (inverse (prime 2)) ts) i 0

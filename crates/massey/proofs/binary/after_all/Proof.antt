@@ -1,59 +1,58 @@
--- `binary::after_all` meets its contract. The invariant: what is known holds after the terms seen. The
--- measure is the number of terms that are left. Assumes nothing.
+-- `binary::after_all` meets its contract. The invariant: what is known holds after the terms seen. The measure
+-- is the number of terms that are left. Assumes nothing.
 use Prim.Native.Nat.{_-_, _≤_}
-use mathlib.Core.Path.{_≡_}
 use lib.ListN.{length}
 use denote.Ref.{now}
-use Rattle.massey.specs.binary.Binary.{WordsHold}
-use Rattle.massey.proofs.binary.Standing.{words-start, words-ready}
-use native.Mathlib.Omega.{arith}
+use Rattle.massey.specs.binary.Binary.{Hold}
+use Rattle.massey.proofs.binary.Standing.{hold-start, hold-sizes}
 use borrow.Author.Needs.{needs}
+use native.Mathlib.Omega.{arith}
 use Rattle.massey.proofs.binary.after_all.Statement.{statement}
 use Rattle.massey.proofs.binary.after_all.Tie as tie
 
 abbrev Inv-loop : tie.InvT-loop
-Inv-loop terms t w₀ known₀ w known =
-    (length w ≡ 132) × (known .seen ≤ length terms) × WordsHold terms w known
+Inv-loop terms f₀ g₀ a known₀ f g known = (known .seen ≤ length terms) × Hold terms known f g a
 
 abbrev μ-loop : tie.MeasureT-loop
-μ-loop terms t w₀ known₀ w known = length terms - known .seen
+μ-loop terms f₀ g₀ a known₀ f g known = length terms - known .seen
 
-slice-write-w : tie.Need-slice-write-w Inv-loop μ-loop
-slice-write-w c = search needs
+slice-write-f : tie.Need-slice-write-f Inv-loop μ-loop
+slice-write-f c = omega (arith, c .before .before .before .pre .0 .1 .size)
+
+slice-write-g : tie.Need-slice-write-g Inv-loop μ-loop
+slice-write-g c = search needs
 
 loop-holds : tie.Need-loop-holds Inv-loop μ-loop
 loop-holds c =
-    let b = c .before .before .before in
-    let p = b .pre .1 in
-    (search needs, omega arith, words-start (now (b .args .w)) (p .0) (p .1) (now (b .args .terms)))
+    let s = c .before .before .before in
+    let a = s .args in
+    (omega arith, hold-start (now (a .terms)) (now (a .f)) (now (a .g)) (s .pre .0 .1) (s .pre .1 .0) (s .pre .1 .1) (a .a))
 
 step-requires : tie.Need-step-requires Inv-loop μ-loop
 step-requires c κs =
-    let l = c .before .before .before in
-    let b = l .before .before .before .before in
-    let i = l .loop .inv in
-    let t = b .pre .0 in
-    (words-ready (now (b .args .terms)) (i .0) (omega arith) (i .2), omega arith, t .0, t .1)
+    let l = c .before .before .before .before .loop in
+    let z = hold-sizes (l .inv .1) in
+    let h = l .inv .1 in
+    ((omega arith, omega arith), ((h .first, h .second), (omega arith, h .most)))
 
 loop-less : tie.Need-loop-less Inv-loop μ-loop
 loop-less c =
-    let l = c .before .before .before .before .before .before in
-    let b = l .before .before .before .before in
-    let s = c .before .before .step .ensures (now (b .args .terms)) (b .pre .0 .2) (l .loop .inv .2) in
+    let s = c .before .before .before .before .step .ensures (now (c .before .before .before .before .before .before .before .before .before .before .before .before .before .args .terms)) (c .before .before .before .before .before .before .before .before .before .loop .inv .1) in
     omega (arith, s .more, s .most)
 
 loop-again : tie.Need-loop-again Inv-loop μ-loop
 loop-again c =
-    let l = c .before .before .before .before .before .before in
-    let b = l .before .before .before .before in
-    let s = c .before .before .step .ensures (now (b .args .terms)) (b .pre .0 .2) (l .loop .inv .2) in
-    (omega arith, s .most, s .holds)
+    let s = c .before .before .before .before .step .ensures (now (c .before .before .before .before .before .before .before .before .before .before .before .before .before .args .terms)) (c .before .before .before .before .before .before .before .before .before .loop .inv .1) in
+    (s .most, s .holds)
 
 same-length : tie.Need-same-length Inv-loop μ-loop
-same-length c = omega arith
+same-length c = omega (arith, c .before .before .loop .inv .1 .first .size, c .before .before .before .before .before .before .pre .0 .1 .size)
+
+same-length-2 : tie.Need-same-length-2 Inv-loop μ-loop
+same-length-2 c = omega (arith, c .before .before .loop .inv .1 .second .size)
 
 returns : tie.Need-returns Inv-loop μ-loop
-returns c = (omega arith, c .before .before .loop .inv .2)
+returns c = (omega arith, c .before .before .loop .inv .1)
 
 pub after-all-spec : {M : Type 1} → statement M
 after-all-spec =
@@ -61,10 +60,12 @@ after-all-spec =
     (tie.spec
     Inv-loop
     μ-loop
-    slice-write-w
+    slice-write-f
+    slice-write-g
     loop-holds
     step-requires
     loop-less
     loop-again
     same-length
+    same-length-2
     returns)

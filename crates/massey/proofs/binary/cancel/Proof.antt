@@ -1,6 +1,6 @@
 -- `binary::cancel` meets its contract. Assumes nothing.
-use mathlib.Core.Path.{refl, sym, _∙_}
 use Prim.Native.Nat.{_+_, _-_, _/_, _%_}
+use mathlib.Core.Path.{refl, sym, ap, _∙_}
 use lib.ListN.{getD}
 use denote.Ref.{now}
 use Rattle.bridge.proofs.WordLists.{digit-below, one-bit}
@@ -10,11 +10,14 @@ use borrow.Author.Needs.{needs}
 use Rattle.massey.proofs.binary.cancel.Statement.{statement}
 use Rattle.massey.proofs.binary.cancel.Tie as tie
 
-sub-bit-at : tie.Need-sub-bit-at
-sub-bit-at c = search needs
-
 add-bit-at : tie.Need-add-bit-at
 add-bit-at c = search needs
+
+add-bit-at-2 : tie.Need-add-bit-at-2
+add-bit-at-2 c = search needs
+
+sub-bit-at : tie.Need-sub-bit-at
+sub-bit-at c = search needs
 
 bit-at-requires : tie.Need-bit-at-requires
 bit-at-requires c κs = search needs
@@ -23,36 +26,56 @@ same-length : tie.Need-same-length
 same-length c = search needs
 
 returns : tie.Need-returns
-returns c = none (sym (c .before .bit-at .ensures) ∙ c .if1 .taken) refl
+returns c = none (sym (c .before .bit-at .ensures) ∙ c .if1 .taken) refl refl refl
 
-add-add-shifted : tie.Need-add-add-shifted
-add-add-shifted c = search needs
+align-requires : tie.Need-align-requires
+align-requires c κs = search needs
 
-add-shifted-requires : tie.Need-add-shifted-requires
-add-shifted-requires c κs = search needs
+add-add-moved : tie.Need-add-add-moved
+add-add-moved c =
+    let k = c .before .before .before .before .before .align .ensures in
+    omega (arith, ap (λ r. r .seen) (k .numbers))
+
+sub-add-moved : tie.Need-sub-add-moved
+sub-add-moved c =
+    let k = c .before .before .before .before .before .before .align .ensures in
+    omega (arith, ap (λ r. r .seen) (k .numbers), k .most)
+
+add-moved-requires : tie.Need-add-moved-requires
+add-moved-requires c κs =
+    let k = c .before .before .before .before .before .before .align .ensures in
+    let p = c .before .before .before .before .before .before .before .before .before .before .before .before .before .before .before .before .pre in
+    (p .words .0, k .words, p .from, omega (arith, ap (λ r. r .seen) (k .numbers), k .most, k .near))
 
 same-length-2 : tie.Need-same-length-2
 same-length-2 c = search needs
 
+same-length-3 : tie.Need-same-length-3
+same-length-3 c = search needs
+
 returns-2 : tie.Need-returns-2
 returns-2 c =
-    let i = c .before .before .before .before in
-    let b = i .before .before .before .before in
-    let a = b .args in
-    let e = i .before .bit-at .ensures in
-    let l = digit-below (getD (now (a .w)) (a .x + (a .e - 1 + a .s) / 64) 0) ((a .e - 1 + a .s) % 64) in
-    taken (sym e ∙ one-bit _ (omega arith) (i .if1 .left)) (c .before .before .add-shifted .ensures)
+    let k = c .before .before .before .before .before .before .before .before .before .align .ensures in
+    let r = c .before .before .before .before .before .before .before .before .before .before .before .before .before .before .before .before .before .before .before .args .known in
+    let i = 4157 + r .degree + r .earlier - r .seen in
+    let l = digit-below (getD (now (c .before .before .before .before .before .before .before .before .before .before .before .before .before .before .before .before .before .before .before .args .f)) (i / 64) 0) (i % 64) in
+    let e = c .before .before .before .before .before .before .before .before .before .before .before .before .bit-at .ensures in
+    taken (sym e ∙ one-bit _ (omega arith) (c .before .before .before .before .before .before .before .before .before .before .before .if1 .left)) k (c .before .before .add-moved .ensures)
 
 pub cancel-spec : {M : Type 1} → statement M
 cancel-spec =
     tie.close
     (tie.spec
-    sub-bit-at
     add-bit-at
+    add-bit-at-2
+    sub-bit-at
     bit-at-requires
     same-length
     returns
-    add-add-shifted
-    add-shifted-requires
+    align-requires
+    add-add-moved
+    sub-add-moved
+    add-moved-requires
     same-length-2
+    same-length-3
     returns-2)

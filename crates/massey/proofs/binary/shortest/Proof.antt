@@ -1,9 +1,11 @@
 -- `binary::shortest` meets its contract: the first polynomial that fits is written. Assumes nothing.
+use Prim.Native.Nat.{_+_, _≤_}
 use mathlib.Core.Path.{refl}
-use Prim.Native.Nat.{_≤_}
+use lib.ListN.{length}
+use native.Mathlib.Nat.{div-add-mod', mod-lt}
 use denote.Ref.{now}
 use Rattle.bridge.proofs.Coefficients.{getD-zeros}
-use Rattle.massey.proofs.binary.Turning.{words-degree, words-shortest}
+use Rattle.massey.proofs.binary.Turning.{hold-degree, reduced-shortest}
 use native.Mathlib.Omega.{arith}
 use borrow.Author.Needs.{needs}
 use Rattle.massey.proofs.binary.shortest.Statement.{statement}
@@ -11,15 +13,20 @@ use Rattle.massey.proofs.binary.shortest.Tie as tie
 
 degree-bound : (a : tie.After-after-all) → a .after-all .result .degree ≤ 4096
 degree-bound a =
-    let b = a .before .before .before .before .before .before .before .before .before in
-    words-degree (now (b .args .terms)) (b .pre .0 .terms) (a .after-all .ensures .0)
-    (a .after-all .ensures .1)
+    let s = a .before .before .before .before .before .before .before .before .before in
+    hold-degree (s .pre .0 .terms) (a .after-all .ensures .0) (a .after-all .ensures .1)
+
+add-a : tie.Need-add-a
+add-a c = search needs
+
+sub-a : tie.Need-sub-a
+sub-a c = search needs
 
 slice-aggregate-pack : tie.Need-slice-aggregate-pack
 slice-aggregate-pack c = search needs
 
 pack-requires : tie.Need-pack-requires
-pack-requires c κs = (omega arith, getD-zeros 66)
+pack-requires c κs = (c .before .before .before .before .pre .0 .terms, refl, getD-zeros 66)
 
 slice-aggregate-after-all : tie.Need-slice-aggregate-after-all
 slice-aggregate-after-all c = search needs
@@ -29,31 +36,40 @@ slice-aggregate-after-all-2 c = search needs
 
 after-all-requires : tie.Need-after-all-requires
 after-all-requires c κs =
-    let b = c .before .before .before .before .before .before .before .before in
-    ((b .pre .0 .terms, omega arith, c .before .before .before .pack .ensures), (refl, getD-zeros 132))
+    let s = c .before .before .before .before .before .before .before .before in
+    let m = length (now (s .args .terms)) + 63 in
+    let e = div-add-mod' m 64 in
+    let k = mod-lt m {m = 64} (omega arith) in
+    ((omega arith, c .before .before .before .pack .ensures), (refl, getD-zeros 66))
 
 slice-aggregate-reduce : tie.Need-slice-aggregate-reduce
 slice-aggregate-reduce c = search needs
 
+slice-aggregate-reduce-2 : tie.Need-slice-aggregate-reduce-2
+slice-aggregate-reduce-2 c = search needs
+
 reduce-requires : tie.Need-reduce-requires
-reduce-requires c κs = search needs
+reduce-requires c κs =
+    let s = c .before .before .before .before .before .before .before .before .before .before .before .before .before in
+    let m = length (now (s .args .terms)) + 63 in
+    let e = div-add-mod' m 64 in
+    let k = mod-lt m {m = 64} (omega arith) in
+    let a = c .before .before .before .before .after-all .ensures in
+    ((omega arith, a .0), a .1)
 
 slice-aggregate-unpack : tie.Need-slice-aggregate-unpack
 slice-aggregate-unpack c = search needs
 
-mul-unpack : tie.Need-mul-unpack
-mul-unpack c = search needs
+sub-unpack : tie.Need-sub-unpack
+sub-unpack c = omega (arith, degree-bound (c .before .before .before .before .before .before .before .before))
 
 add-unpack : tie.Need-add-unpack
-add-unpack c = omega (arith, degree-bound (c .before .before .before .before .before .before))
+add-unpack c = omega (arith, degree-bound (c .before .before .before .before .before .before .before .before))
 
 unpack-requires : tie.Need-unpack-requires
 unpack-requires c κs =
-    let a = c .before .before .before .before .before .before .before in
-    let l = degree-bound a in
-    let h = a .after-all .ensures .1 .within in
-    let b = a .before .before .before .before .before .before .before .before .before in
-    (omega arith, omega (arith, b .pre .1))
+    let l = degree-bound (c .before .before .before .before .before .before .before .before .before) in
+    (omega arith, omega arith, omega (arith, c .before .before .before .before .before .before .before .before .before .before .before .before .before .before .before .before .before .before .pre .1))
 
 clear-requires : tie.Need-clear-requires
 clear-requires c κs = search needs
@@ -66,26 +82,27 @@ same-length-2 c = search needs
 
 returns : tie.Need-returns
 returns c =
-    let u = c .before .before .before .before .before .before in
-    let r = u .before .before .before .before .before in
-    let a = r .before .before .before in
-    let b = a .before .before .before .before .before .before .before .before .before in
-    words-shortest (now (b .args .terms)) (b .pre .0 .terms) (a .after-all .ensures .0)
-    (a .after-all .ensures .1) (r .reduce .ensures) (u .unpack .ensures) (c .before .before .clear .ensures)
+    let a = c .before .before .before .before .before .before .before .before .before .before .before .before .before .before .before .before .after-all .ensures in
+    let s = c .before .before .before .before .before .before .before .before .before .before .before .before .before .before .before .before .before .before .before .before .before .before .before .before .before in
+    reduced-shortest (now (s .args .terms)) (s .pre .0 .terms) (a .0) (a .1) (c .before .before .before .before .before .before .before .before .before .before .before .reduce .ensures)
+    (c .before .before .before .before .before .before .unpack .ensures) (c .before .before .clear .ensures)
 
 pub shortest-spec : {M : Type 1} → statement M
 shortest-spec =
     tie.close
     (tie.spec
+    add-a
+    sub-a
     slice-aggregate-pack
     pack-requires
     slice-aggregate-after-all
     slice-aggregate-after-all-2
     after-all-requires
     slice-aggregate-reduce
+    slice-aggregate-reduce-2
     reduce-requires
     slice-aggregate-unpack
-    mul-unpack
+    sub-unpack
     add-unpack
     unpack-requires
     clear-requires

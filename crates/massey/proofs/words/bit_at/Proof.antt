@@ -5,9 +5,6 @@ use borrow.Author.Needs.{needs}
 use Rattle.massey.proofs.words.bit_at.Statement.{statement}
 use Rattle.massey.proofs.words.bit_at.Tie as tie
 
-add-result : tie.Need-add-result
-add-result c = search needs
-
 mul-result : tie.Need-mul-result
 mul-result c = search needs
 
@@ -26,5 +23,4 @@ returns c = refl
 
 pub bit-at-spec : {M : Type 1} → statement M
 bit-at-spec =
-    tie.close
-    (tie.spec add-result mul-result shared-slice-read-result shr-result cast-result returns)
+    tie.close (tie.spec mul-result shared-slice-read-result shr-result cast-result returns)

@@ -1,93 +1,85 @@
--- `words::next_one` meets its contract: that of `next_by_words`, for the number of words told. Assumes
--- nothing.
-use Prim.Native.Nat.{ℕ}
-use mathlib.Core.Path.{_≡_, sym, subst}
-use mathlib.Core.List.{List}
-use Rattle.massey.specs.words.Words.{NextOne}
+-- `words::next_one` meets its contract. The invariant: the bits of the numbers from n to t − 1 are 0. The
+-- measure is how far t is from past the words. Assumes nothing.
+use Prim.Native.Nat.{_-_, _≤_}
+use lib.Count.{leading-le}
+use denote.Ref.{now}
+use Rattle.massey.proofs.words.Searching.{restOf, Searching, searching-none, searching-more, searching-found, searching-end}
 use borrow.Author.Needs.{needs}
+use native.Mathlib.Omega.{arith}
 use Rattle.massey.proofs.words.next_one.Statement.{statement}
 use Rattle.massey.proofs.words.next_one.Tie as tie
 
-told :
-    {w t : List ℕ} {x n k o e r : ℕ}
-    → n ≡ k
-    → NextOne w x k t o e r
-    → NextOne w x n t o e r
-told {w} {t} {x} {o = o} {e} {r} q = subst (λ n. NextOne w x n t o e r) (sym q)
+abbrev Inv-loop : tie.InvT-loop
+Inv-loop f n m t₀ t = (t ≤ 4096) × Searching f n t
 
-next-by-words-requires : tie.Need-next-by-words-requires
-next-by-words-requires c κs = search needs
+abbrev μ-loop : tie.MeasureT-loop
+μ-loop f n m t₀ t = 4096 - t
 
-returns : tie.Need-returns
-returns c = told (c .before .if1 .taken) (c .next-by-words .ensures)
+loop-holds : tie.Need-loop-holds Inv-loop μ-loop
+loop-holds c = (omega arith, searching-none _ _)
 
-next-by-words-requires-2 : tie.Need-next-by-words-requires-2
-next-by-words-requires-2 c κs = search needs
+sub-rest : tie.Need-sub-rest Inv-loop μ-loop
+sub-rest c = search needs
 
-returns-2 : tie.Need-returns-2
-returns-2 c = told (c .before .if2 .taken) (c .next-by-words2 .ensures)
+mul-rest : tie.Need-mul-rest Inv-loop μ-loop
+mul-rest c = search needs
 
-next-by-words-requires-3 : tie.Need-next-by-words-requires-3
-next-by-words-requires-3 c κs = search needs
+shared-slice-read-rest : tie.Need-shared-slice-read-rest Inv-loop μ-loop
+shared-slice-read-rest c = search needs
 
-returns-3 : tie.Need-returns-3
-returns-3 c = told (c .before .if3 .taken) (c .next-by-words3 .ensures)
+shl-rest : tie.Need-shl-rest Inv-loop μ-loop
+shl-rest c = search needs
 
-next-by-words-requires-4 : tie.Need-next-by-words-requires-4
-next-by-words-requires-4 c κs = search needs
+cast-smaller : tie.Need-cast-smaller Inv-loop μ-loop
+cast-smaller c =
+    let l = c .before .before .before in
+    omega (arith, leading-le 64 (restOf (now (l .before .before .args .f)) (l .loop .t)))
 
-returns-4 : tie.Need-returns-4
-returns-4 c = told (c .before .if4 .taken) (c .next-by-words4 .ensures)
+add-smaller : tie.Need-add-smaller Inv-loop μ-loop
+add-smaller c =
+    let l = c .before .before .before in
+    omega (arith, leading-le 64 (restOf (now (l .before .before .args .f)) (l .loop .t)))
 
-next-by-words-requires-5 : tie.Need-next-by-words-requires-5
-next-by-words-requires-5 c κs = search needs
+smaller-requires : tie.Need-smaller-requires Inv-loop μ-loop
+smaller-requires c κs = search needs
 
-returns-5 : tie.Need-returns-5
-returns-5 c = told (c .before .if5 .taken) (c .next-by-words5 .ensures)
+returns : tie.Need-returns Inv-loop μ-loop
+returns c =
+    let l = c .before .before .before .before .loop in
+    searching-found (l .inv .1) (omega arith) (c .before .if1 .taken) _ (omega arith) (c .smaller .ensures)
 
-next-by-words-requires-6 : tie.Need-next-by-words-requires-6
-next-by-words-requires-6 c κs = search needs
+add-t : tie.Need-add-t Inv-loop μ-loop
+add-t c = search needs
 
-returns-6 : tie.Need-returns-6
-returns-6 c = told (c .before .if6 .taken) (c .next-by-words6 .ensures)
+mul-t : tie.Need-mul-t Inv-loop μ-loop
+mul-t c = search needs
 
-next-by-words-requires-7 : tie.Need-next-by-words-requires-7
-next-by-words-requires-7 c κs = search needs
+loop-less : tie.Need-loop-less Inv-loop μ-loop
+loop-less c = search needs
 
-returns-7 : tie.Need-returns-7
-returns-7 c = told (c .before .if7 .taken) (c .next-by-words7 .ensures)
+loop-again : tie.Need-loop-again Inv-loop μ-loop
+loop-again c = (omega arith, searching-more (c .before .before .before .loop .inv .1) (omega arith) (c .if1 .left))
 
-next-by-words-requires-8 : tie.Need-next-by-words-requires-8
-next-by-words-requires-8 c κs = search needs
-
-returns-8 : tie.Need-returns-8
-returns-8 c = told (c .before .if8 .taken) (c .next-by-words8 .ensures)
-
-next-by-words-requires-9 : tie.Need-next-by-words-requires-9
-next-by-words-requires-9 c κs = search needs
-
-returns-9 : tie.Need-returns-9
-returns-9 c = search needs
+returns-2 : tie.Need-returns-2 Inv-loop μ-loop
+returns-2 c = searching-end (c .before .loop .inv .1) (omega arith) (omega arith)
 
 pub next-one-spec : {M : Type 1} → statement M
 next-one-spec =
     tie.close
     (tie.spec
-    next-by-words-requires
+    Inv-loop
+    μ-loop
+    loop-holds
+    sub-rest
+    mul-rest
+    shared-slice-read-rest
+    shl-rest
+    cast-smaller
+    add-smaller
+    smaller-requires
     returns
-    next-by-words-requires-2
-    returns-2
-    next-by-words-requires-3
-    returns-3
-    next-by-words-requires-4
-    returns-4
-    next-by-words-requires-5
-    returns-5
-    next-by-words-requires-6
-    returns-6
-    next-by-words-requires-7
-    returns-7
-    next-by-words-requires-8
-    returns-8
-    next-by-words-requires-9
-    returns-9)
+    add-t
+    mul-t
+    loop-less
+    loop-again
+    returns-2)

@@ -1,25 +1,24 @@
--- `words::pack` meets its contract. The invariant: the first i words are those of the terms, and the others
--- 0. The measure is what is left of the terms. Assumes nothing.
+-- `words::pack` meets its contract. The invariant: the first 64·i terms are packed. The measure is what is left
+-- of the terms. Assumes nothing.
 use Prim.Native.Nat.{_+_, _-_, _*_}
-use mathlib.Core.Path.{_≡_, _∙_}
-use lib.ListN.{length, length-set}
+use lib.ListN.{length}
 use Rattle.massey.proofs.words.Packing.{Packing, packing-none, packing-more, packing-end}
-use native.Mathlib.Omega.{arith}
 use borrow.Author.Needs.{needs}
+use native.Mathlib.Omega.{arith}
 use Rattle.massey.proofs.words.pack.Statement.{statement}
 use Rattle.massey.proofs.words.pack.Tie as tie
 
 abbrev Inv-loop : tie.InvT-loop
-Inv-loop terms t₀ m i₀ t i = (length t ≡ length t₀) × Packing terms t i
+Inv-loop terms f₀ m i₀ f i = Packing terms f i
 
 abbrev μ-loop : tie.MeasureT-loop
-μ-loop terms t₀ m i₀ t i = length terms + 64 - 64 * i
+μ-loop terms f₀ m i₀ f i = length terms + 64 - 64 * i
 
 loop-holds : tie.Need-loop-holds Inv-loop μ-loop
-loop-holds c = (omega arith, packing-none _ _ (c .before .before .pre .1))
+loop-holds c = packing-none _ _ (c .before .before .pre .1) (c .before .before .pre .2)
 
 mul-loop : tie.Need-mul-loop Inv-loop μ-loop
-mul-loop c = omega (arith, c .loop .inv .1 .most)
+mul-loop c = omega (arith, c .loop .inv .most)
 
 mul-packed : tie.Need-mul-packed Inv-loop μ-loop
 mul-packed c = search needs
@@ -45,11 +44,14 @@ part-packed-end c = search needs
 packed-requires : tie.Need-packed-requires Inv-loop μ-loop
 packed-requires c κs = search needs
 
-mul-t : tie.Need-mul-t Inv-loop μ-loop
-mul-t c = search needs
+sub-f : tie.Need-sub-f Inv-loop μ-loop
+sub-f c = omega arith
 
-slice-write-t : tie.Need-slice-write-t Inv-loop μ-loop
-slice-write-t c = search needs
+mul-f : tie.Need-mul-f Inv-loop μ-loop
+mul-f c = search needs
+
+slice-write-f : tie.Need-slice-write-f Inv-loop μ-loop
+slice-write-f c = omega (arith, c .before .before .before .before .loop .inv .size)
 
 add-i : tie.Need-add-i Inv-loop μ-loop
 add-i c = search needs
@@ -60,20 +62,15 @@ loop-less c = search needs
 loop-again : tie.Need-loop-again Inv-loop μ-loop
 loop-again c =
     let l = c .before .before .before .before .loop in
-    let e = c .before .before .smaller .ensures in (
-      length-set (l .t) (l .i) (c .packed .result) ∙ l .inv .0,
-      packing-more (l .inv .1) (c .packed .result) (c .before .before .smaller .result - 64 * l .i)
-          (omega arith)
-          (omega arith)
-          (omega arith)
-          (c .packed .ensures),
-    )
+    let e = c .before .before .smaller .ensures in
+    packing-more (l .inv) (c .packed .result) (c .before .before .smaller .result - 64 * l .i) (omega arith)
+    (omega arith) (omega arith) (c .packed .ensures)
 
 same-length : tie.Need-same-length Inv-loop μ-loop
 same-length c = search needs
 
 returns : tie.Need-returns Inv-loop μ-loop
-returns c = packing-end (c .before .loop .inv .1) (omega arith)
+returns c = packing-end (c .before .loop .inv) (omega arith)
 
 pub pack-spec : {M : Type 1} → statement M
 pack-spec =
@@ -91,8 +88,9 @@ pack-spec =
     part-packed-start
     part-packed-end
     packed-requires
-    mul-t
-    slice-write-t
+    sub-f
+    mul-f
+    slice-write-f
     add-i
     loop-less
     loop-again

@@ -1,29 +1,23 @@
--- `words::packed` meets its contract. The invariant: w is the word of the terms from i on. The measure is i.
--- Assumes nothing.
-use Prim.Native.Nat.{_+_, _%_}
-use mathlib.Core.Path.{_≡_, ap, _∙_}
-use lib.ListN.{getD}
-use denote.Ref.{now}
-use Rattle.massey.proofs.words.Packing.{PackingWord, packed-none, packed-fits, packed-more}
-use native.Mathlib.Omega.{arith}
+-- `words::packed` meets its contract. The invariant: w is the word of the first i terms. The measure is the
+-- number of those left. Assumes nothing.
+use Prim.Native.Nat.{_-_, _≤_}
+use Rattle.massey.proofs.words.Packing.{PackingWord, packed-none, packed-more, packed-fits, packed-end}
 use borrow.Author.Needs.{needs}
+use native.Mathlib.Omega.{arith}
 use Rattle.massey.proofs.words.packed.Statement.{statement}
 use Rattle.massey.proofs.words.packed.Tie as tie
 
 abbrev Inv-loop : tie.InvT-loop
-Inv-loop s w₀ i₀ w i = PackingWord s w i
+Inv-loop s n w₀ i₀ w i = (i ≤ n) × PackingWord s w i
 
 abbrev μ-loop : tie.MeasureT-loop
-μ-loop s w₀ i₀ w i = i
+μ-loop s n w₀ i₀ w i = n - i
 
 loop-holds : tie.Need-loop-holds Inv-loop μ-loop
-loop-holds c = packed-none _
-
-sub-i : tie.Need-sub-i Inv-loop μ-loop
-sub-i c = search needs
+loop-holds c = (omega arith, packed-none _)
 
 mul-w : tie.Need-mul-w Inv-loop μ-loop
-mul-w c = omega (arith, packed-fits (c .before .loop .inv) (omega arith) (c .before .before .pre))
+mul-w c = omega (arith, packed-fits (c .before .loop .inv .1) (omega arith))
 
 shared-slice-read-w : tie.Need-shared-slice-read-w Inv-loop μ-loop
 shared-slice-read-w c = search needs
@@ -32,20 +26,25 @@ cast-w : tie.Need-cast-w Inv-loop μ-loop
 cast-w c = search needs
 
 add-w : tie.Need-add-w Inv-loop μ-loop
-add-w c =
-    omega (arith, packed-fits (c .before .before .loop .inv) (omega arith) (c .before .before .before .pre))
+add-w c = omega (arith, packed-fits (c .before .before .loop .inv .1) (omega arith))
+
+add-i : tie.Need-add-i Inv-loop μ-loop
+add-i c = search needs
 
 loop-less : tie.Need-loop-less Inv-loop μ-loop
 loop-less c = search needs
 
 loop-again : tie.Need-loop-again Inv-loop μ-loop
-loop-again c = packed-more (c .before .before .loop .inv) (omega arith)
+loop-again c = (omega arith, packed-more (c .before .before .loop .inv .1))
+
+sub-result : tie.Need-sub-result Inv-loop μ-loop
+sub-result c = search needs
+
+shl-result : tie.Need-shl-result Inv-loop μ-loop
+shl-result c = search needs
 
 returns : tie.Need-returns Inv-loop μ-loop
-returns c i =
-    let s = now (c .before .before .args .s) in
-    let e : c .before .loop .i + i ≡ i = omega arith in
-    c .before .loop .inv .bit i ∙ ap (λ j. getD s j 0 % 2) e
+returns c = packed-end (c .before .loop .inv .1) (omega arith) (omega arith)
 
 pub packed-spec : {M : Type 1} → statement M
 packed-spec =
@@ -54,11 +53,13 @@ packed-spec =
     Inv-loop
     μ-loop
     loop-holds
-    sub-i
     mul-w
     shared-slice-read-w
     cast-w
     add-w
+    add-i
     loop-less
     loop-again
+    sub-result
+    shl-result
     returns)

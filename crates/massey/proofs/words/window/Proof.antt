@@ -1,5 +1,5 @@
 -- `words::window` meets its contract. Assumes nothing.
-use Rattle.massey.proofs.words.Shifting.{window-bits}
+use Rattle.massey.proofs.words.Moving.{window-bits}
 use native.Mathlib.Omega.{arith}
 use borrow.Author.Needs.{needs}
 use Rattle.massey.proofs.words.window.Statement.{statement}
@@ -15,9 +15,7 @@ shl-result : tie.Need-shl-result
 shl-result c = search needs
 
 returns : tie.Need-returns
-returns c =
-    let a = c .args in
-    window-bits (a .lower) (a .upper) (a .k) (omega arith) (omega arith) (omega arith)
+returns c = window-bits (c .args .lower) (c .args .upper) (c .args .k) (omega arith) (omega arith)
 
 pub window-spec : {M : Type 1} → statement M
 window-spec = tie.close (tie.spec shr-result sub-result shl-result returns)
