@@ -8,7 +8,9 @@
 --   image-high, image-between, image-low == the three parts
 --   image-empty       == that of no coefficients is 0
 --   image-fits, image-misfits == the image before a term, by the one after it
---   image-sum         == the image of x^b·f + x^a·g is the sum of that of f and that of g, moved down
+--   act-sum           == a sum of polynomials acts as the sum of their actions
+--   image-upper, image-sum == the image of x^b·f + x^a·g is the sum of that of f and that of g, moved down:
+--                        from the bit of the last term on, and everywhere, where the two last terms meet
 --   image-corrected   == so it is with marked images
 --
 -- Assumes nothing.
@@ -163,7 +165,7 @@ act-sum :
     → ((i : ℕ) → getD h i 0 ≡ (getD f i 0 + getD g i 0) % 2)
     → actAt (prime 2) h s k ≡ (actAt (prime 2) f s k + actAt (prime 2) g s k) % 2
 act-sum zero [] [] [] s k a b c e =
-    actAt-nil (prime 2) s k ∙ sym (ap₂ (λ x y. (x + y) % 2) (actAt-nil (prime 2) s k) (actAt-nil (prime 2) s k))
+    let z = actAt-nil (prime 2) s k in z ∙ sym (ap₂ (λ x y. (x + y) % 2) z z)
 act-sum zero (_ ∷ f) g h s k a b c e = absurd (omega arith)
 act-sum zero [] (_ ∷ g) h s k a b c e = absurd (omega arith)
 act-sum zero [] [] (_ ∷ h) s k a b c e = absurd (omega arith)
@@ -238,7 +240,10 @@ module _ (ts f g h : List ℕ) (n c s a b : ℕ) (degree : length h ≡ b + leng
 
   -- from the bit of the last term on, whatever the shift
   pub image-upper : (i : ℕ) → 4096 - n ≤ i → image ts h n i ≡ (image ts f n i + image ts g c (i + s)) % 2
-  image-upper i l = elim (decLt i (4160 - length h)) [ no d ↦ sum-high i (omega arith) | yes d ↦ sum-between i d l ]
+  image-upper i l = elim (decLt i (4160 - length h)) [
+    | no d ↦ sum-high i (omega arith)
+    | yes d ↦ sum-between i d l
+  ]
 
   pub image-sum : n ≡ c + s → (i : ℕ) → image ts h n i ≡ (image ts f n i + image ts g c (i + s)) % 2
   image-sum e i = elim (decLt i (4096 - n)) [

@@ -1,8 +1,8 @@
 // The free way over GF(2), on words of bits, by the steps that it takes over any field: a correction is 1,
 // and a sum an exclusive or. Of f and of g, an earlier f, 66 words each have the coefficients at the top, the
 // leading one in bit 4,159, and below them the discrepancies at the terms to come, that at t(n) in bit 4,095
-// − n. So a correction is one sum, of f and of g moved down, and the next one is found by a bit that is 1.
-// Assumes at most 4,096 terms, of which m have the words from a on.
+// − n. So a correction is one sum, of f and of g moved down, and the next term that f does not fit is the
+// next bit that is 1. Assumes at most 4,096 terms; a is the first word that has the bit of one of them.
 use crate::words::add_moved;
 use crate::words::bit_at;
 use crate::words::exchange;
@@ -23,8 +23,9 @@ ghost use Rattle.massey.specs.words.Words.{Words, TermsPacked};
 ghost use Rattle.massey.specs.binary.Binary.{reachedWith, changedWith, Aligned, Ready, Hold};
 ghost use Rattle.massey.specs.binary.Binary.{Misfits, Stepped, Advanced, Cancelled, Reducible, Reduced};
 
-// What is known after the terms seen, beside the words of f and g: how many they are, the degree L of f, and
-// how many coefficients g has. For a correction at t(n) g is moved down by n + 1 − aligned bits.
+// What is known after the terms seen, beside the words of f and g: how many they are, the degree L of f, how
+// many coefficients g has, and to what g is aligned: for a correction at t(n) it is moved down by
+// n + 1 − aligned bits.
 pub struct Known {
     pub seen: usize,
     pub degree: usize,
@@ -32,7 +33,7 @@ pub struct Known {
     pub aligned: usize,
 }
 
-// The same after the first n terms, where f fits all from those seen on.
+// What is known after the first n terms, where f fits all from those seen on.
 fn reached(known: Known, n: usize) -> Known
     ensures { λ r. ⌜ r ≡ reachedWith known n ⌝ }
 {
@@ -44,7 +45,7 @@ fn reached(known: Known, n: usize) -> Known
     }
 }
 
-// The same after a term for which the degree changes, and f becomes g.
+// What is known after a term for which the degree changes, and f becomes g.
 fn changed(known: Known) -> Known
     requires { ⌜ (known .degree ≤ known .seen) × (known .seen < 4096) ⌝ }
     ensures { λ r. ⌜ r ≡ changedWith known ⌝ }
@@ -70,7 +71,9 @@ fn align(mut known: Known, g: &mut [u64], a: usize) -> Known
     known
 }
 
-// What is known after one term more, t(n) for n terms seen, which f does not fit, where g is aligned.
+// What is known after one term more, t(n) for n terms seen, which f does not fit. With m = n + 1 − L, the
+// degree where it changes: f becomes f + x^(L−m)·g where m is at most L, and where not x^(m−L)·f + g, and the
+// former f becomes g. Both are f and g moved down.
 fn correct(known: Known, f: &mut [u64], g: &mut [u64], a: usize) -> Known
     requires { ⌜ Ready known (now f) (now g) a ⌝ }
     ensures { λ r. ⌜ ((ts : List ℕ) → Hold ts known (now (f .entry)) (now (g .entry)) a → Misfits ts known
@@ -106,8 +109,8 @@ fn step(known: Known, m: usize, f: &mut [u64], g: &mut [u64], a: usize) -> Known
     correct(ready, f, g, a)
 }
 
-// What is known after all terms, whose bits are in f. Leaves f and g in the words, of which those of g have
-// zeros.
+// What is known after all terms, whose bits are in f, for g with zeros. At the start f is 1 and g is 0, with
+// a discrepancy of 1 before the first term. Leaves the words of both.
 fn after_all(terms: &[u8], f: &mut [u64], g: &mut [u64], a: usize) -> Known
     requires { ⌜ (64 * a + length (now terms) ≤ 4096) × TermsPacked (now terms) (now f) ⌝ }
     requires { ⌜ (length (now g) ≡ 66) × ((j : ℕ) → getD (now g) j 0 ≡ 0) ⌝ }
@@ -129,8 +132,8 @@ fn after_all(terms: &[u8], f: &mut [u64], g: &mut [u64], a: usize) -> Known
     known
 }
 
-// Leaves f + c·x^s·g in the place of f, s = 2·L − 1 − n, for the coefficient c of f at the place of the
-// leading one of x^s·g. Answers how g is aligned then.
+// Leaves f + c·x^s·g in the place of f, s = 2·L − 1 − n for n terms seen, for the coefficient c of f at the
+// place of the leading one of x^s·g: as a correction at t(n) would. Answers what is known, g being aligned.
 fn cancel(known: Known, f: &mut [u64], g: &mut [u64], a: usize) -> Known
     requires { ⌜ Reducible known (now f) (now g) a ⌝ }
     ensures { λ r. ⌜ Cancelled known (now (f .entry)) (now (g .entry)) a r (now (f .exit)) (now (g .exit)) ⌝ }

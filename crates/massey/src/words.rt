@@ -1,13 +1,14 @@
 // Words of 64 bits, the lowest first: bit i is bit i % 64 of word i / 64. The leaves of the free way over
-// GF(2), on lists of 66 words of which the last is 0; they change the words from a on, and not the last.
+// GF(2), on lists of 66 words. Those that move and add change the words from a on, but not the last, which is
+// 0.
 use lent::smaller;
 ghost use mathlib.Core.Path.{_≡_};
 ghost use Prim.Native.Nat.{ℕ, _+_, _*_, _-_, _/_, _%_, _≤_, _<_};
 ghost use lib.ListN.{length, getD};
 ghost use Rattle.meaning.specs.Result.{written};
 ghost use Rattle.bridge.proofs.Monics.{digit};
-ghost use Rattle.massey.specs.words.Words.{Window, Words, Moved, Added, Exchanged, NextOne, TermsPacked};
-ghost use Rattle.massey.specs.words.Words.{bitOf, bitsFrom};
+ghost use Rattle.massey.specs.words.Words.{bitOf, bitsFrom, Window, Words, Moved, Added, Exchanged};
+ghost use Rattle.massey.specs.words.Words.{NextOne, TermsPacked};
 
 // The 64 bits from bit k of a word on, which the next word continues, for k below 64. (No word is shifted by
 // 64.)
@@ -53,14 +54,14 @@ pub(crate) fn exchange(f: &mut [u64], g: &mut [u64], a: usize, k: u64)
     }
 }
 
-// The first number from n on, and before m, whose bit is 1, or m where there is none; the bit of t is bit
+// The first t from n on, and before m, whose bit is 1, or m where there is none. The bit of t is bit
 // 4,095 − t of f.
 pub(crate) fn next_one(f: &[u64], n: usize, m: usize) -> usize
     requires { ⌜ (length (now f) ≡ 66) × (n ≤ m) × (m ≤ 4096) ⌝ }
     ensures { λ r. ⌜ NextOne (now (f .entry)) n m r ⌝ }
 {
     let mut t = n;
-    // the bits of the numbers from n to t − 1 are 0
+    // the bits from that of n to that of t − 1 are 0
     while t < m {
         let rest = f[63 - t / 64] << ((t % 64) as u64);
         if rest != 0 {

@@ -263,7 +263,8 @@ module _ {ts : List ℕ} {r : Known} {f g : List ℕ} {a : ℕ} (h : Hold ts r f
         → actAt (prime 2) (polynomialOf x) (known ts) (r .seen + i + 1 - length (polynomialOf x)) ≡ 0
     zero-acts i l =
         let c = k .high in
-        sym (told (r .seen + i) (omega arith) (omega arith)) ∙ k .zeros (r .seen + i) (omega arith) (omega arith)
+        let n = r .seen + i in
+        sym (told n (omega arith) (omega arith)) ∙ k .zeros n (omega arith) (omega arith)
 
     skipped : masseyAfter (prime 2) (inverse (prime 2)) ts n ≡ x
     skipped =
@@ -373,7 +374,9 @@ module _ (ts : List ℕ) {r : Known} {f g : List ℕ} {a : ℕ} (h : Hold ts r f
       ∙ correction-one
 
   -- the former image of f, as a marked one
-  marked-current : (i : ℕ) → image ts (lower ++ (1 ∷ [])) (r .seen) i ≡ marked ts (lower ++ (1 ∷ [])) (r .seen + 1) i
+  marked-current :
+      (i : ℕ)
+      → image ts (lower ++ (1 ∷ [])) (r .seen) i ≡ marked ts (lower ++ (1 ∷ [])) (r .seen + 1) i
   marked-current =
       let l = length-append lower (1 ∷ []) in
       image-misfits ts (lower ++ (1 ∷ [])) (r .seen) (omega (arith, counts)) (omega arith)
@@ -473,7 +476,8 @@ module _ (ts : List ℕ) {r : Known} {f g : List ℕ} {a : ℕ} (h : Hold ts r f
       let size = length-changed (prime 2) 1 s lower earlier in
       let n = length-append lower (1 ∷ []) in
       let o = length-append (changed (prime 2) 1 s lower earlier) (1 ∷ []) in
-      let k = length (changed (prime 2) 1 s lower earlier ++ (1 ∷ [])) - length earlier - (r .seen + 1 - start r) in
+      let y = changed (prime 2) 1 s lower earlier ++ (1 ∷ []) in
+      let k = length y - length earlier - (r .seen + 1 - start r) in
       restate (changed-state l) e refl
       (record {
         degree = omega arith;

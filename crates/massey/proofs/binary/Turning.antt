@@ -1,6 +1,6 @@
 -- The reduction over GF(2): from the highest place down f loses a multiple of x^s·g.
 --
---   Turning ts r f g a == what the loop keeps, for s = 2·L − n and the n numbers that r has seen: reduced by s
+--   Turning ts r f g a == what the loop keeps, for s = 2·L − n and the n terms that r has seen: reduced by s
 --                        turns more, what stands in the place of f is the first polynomial that fits
 --   turning-none, turning-end == before the first turn, and after the last
 --   turning-degree   == the degree is at most 4,096
@@ -194,7 +194,8 @@ module _ (ts : List ℕ) where
         let z = turning-sizes in
         let d = h .size in
         let e = h .earlier in
-        let i : 4157 + r .degree + r .earlier - r .seen ≡ 4159 - r .degree + (length v - 1 + s) = omega arith in
+        let i : 4157 + r .degree + r .earlier - r .seen ≡ 4159 - r .degree + (length v - 1 + s) =
+        omega arith in
         ap (bitOf f) i
         ∙ coefficient h (degree-small h) (length v - 1 + s)
         ∙ List·getD-append u (1 ∷ []) 0 (length v - 1 + s) (omega arith)
@@ -230,7 +231,9 @@ module _ (ts : List ℕ) where
               ∙ ap (λ i. reduced (prime 2) v i u) i
               ∙ h .rest;
           size =
-              d ∙ h .size ∙ sym (length-kept (prime 2) (negative (prime 2) (getD u (length v - 1 + s) 0)) s u v k);
+              d
+              ∙ h .size
+              ∙ sym (length-kept (prime 2) (negative (prime 2) (getD u (length v - 1 + s) 0)) s u v k);
           degree = d ∙ h .degree;
           earlier = z ∙ h .earlier;
           from = omega (arith, h .from);
@@ -258,7 +261,10 @@ module _ (ts : List ℕ) where
 
     module _ {r′ : Known} {f′ g′ : List ℕ} (k : Aligned r g a r′ g′)
         (m : Added f g′ a (r .seen + 1 - r′ .aligned) f′) where
-      aligned-previous : (i : ℕ) → 64 * a ≤ i → bitOf g′ i ≡ marked ts v (start r) (i + (r′ .aligned - start r))
+      aligned-previous :
+          (i : ℕ)
+          → 64 * a ≤ i
+          → bitOf g′ i ≡ marked ts v (start r) (i + (r′ .aligned - start r))
       aligned-previous = aligned-image (marked ts v (start r)) (start r) k (h .least) (h .previous)
 
       added-current :
@@ -291,7 +297,8 @@ module _ (ts : List ℕ) where
           ∙ ap (λ n. n + 1) (q ∙ sym size)
           ∙ sym w)
           (omega arith) (omega arith)
-          (subst (λ n. s + n ≤ start r + 64) d (reach (r .degree) (r .earlier) (r .seen) (z .1))) (omega arith)
+          (subst (λ n. s + n ≤ start r + 64) d (reach (r .degree) (r .earlier) (r .seen) (z .1)))
+          (omega arith)
           (λ j.
           kept-bit 1 s u v bits fits j
           ∙ ap₂ (λ x y. (x + y) % 2) (sym (raised-none (u ++ (1 ∷ [])) j)) (omega arith))

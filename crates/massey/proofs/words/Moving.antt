@@ -86,9 +86,19 @@ pub record Moving (g : List ℕ) (a j : ℕ) (w : List ℕ) : Type 0 where
 
 module _ (g : List ℕ) (a : ℕ) where
   pub moving-none : Moving g a a g
-  moving-none = record { size = refl; from = omega arith; done = λ i l m. absurd (omega arith); rest = λ i _. refl }
+  moving-none =
+      record {
+        size = refl;
+        from = omega arith;
+        done = λ i l m. absurd (omega arith);
+        rest = λ i _. refl;
+      }
 
-  pub moving-more : {j : ℕ} {w : List ℕ} → j < length g → Moving g a j w → Moving g a (j + 1) (set w j (getD w (j + 1) 0))
+  pub moving-more :
+      {j : ℕ} {w : List ℕ}
+      → j < length g
+      → Moving g a j w
+      → Moving g a (j + 1) (set w j (getD w (j + 1) 0))
   moving-more {j} {w} b h =
       record {
         size = length-set w j _ ∙ h .size;

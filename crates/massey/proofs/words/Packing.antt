@@ -132,7 +132,11 @@ module _ {ts f : List ℕ} {i : ℕ} (h : Packing ts f i) where
         above = λ j l. getD-set-other f (63 - i) j v 0 (λ q. omega arith) ∙ h .above j l;
       }
     where
-      place : (n : ℕ) → n < 64 * (i + 1) → Dec (n < 64 * i) → bitOf (set f (63 - i) v) (4095 - n) ≡ getD ts n 0 % 2
+      place :
+          (n : ℕ)
+          → n < 64 * (i + 1)
+          → Dec (n < 64 * i)
+          → bitOf (set f (63 - i) v) (4095 - n) ≡ getD ts n 0 % 2
       place n l (yes k) =
           let o = div-add-mod' (4095 - n) 64 in
           let u = mod-lt (4095 - n) {m = 64} (omega arith) in

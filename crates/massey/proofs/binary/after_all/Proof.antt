@@ -1,5 +1,5 @@
--- `binary::after_all` meets its contract. The invariant: what is known holds after the terms seen. The measure
--- is the number of terms that are left. Assumes nothing.
+-- `binary::after_all` meets its contract. The invariant: what is known holds after the terms seen. The
+-- measure is the number of terms that are left. Assumes nothing.
 use Prim.Native.Nat.{_-_, _≤_}
 use lib.ListN.{length}
 use denote.Ref.{now}
@@ -26,7 +26,10 @@ loop-holds : tie.Need-loop-holds Inv-loop μ-loop
 loop-holds c =
     let s = c .before .before .before in
     let a = s .args in
-    (omega arith, hold-start (now (a .terms)) (now (a .f)) (now (a .g)) (s .pre .0 .1) (s .pre .1 .0) (s .pre .1 .1) (a .a))
+    let p = s .pre in (
+      omega arith,
+      hold-start (now (a .terms)) (now (a .f)) (now (a .g)) (p .0 .1) (p .1 .0) (p .1 .1) (a .a),
+    )
 
 step-requires : tie.Need-step-requires Inv-loop μ-loop
 step-requires c κs =
@@ -37,16 +40,22 @@ step-requires c κs =
 
 loop-less : tie.Need-loop-less Inv-loop μ-loop
 loop-less c =
-    let s = c .before .before .before .before .step .ensures (now (c .before .before .before .before .before .before .before .before .before .before .before .before .before .args .terms)) (c .before .before .before .before .before .before .before .before .before .loop .inv .1) in
+    let k = c .before .before .before .before in
+    let l = k .before .before .before .before .before in
+    let s = k .step .ensures (now (l .before .before .before .before .args .terms)) (l .loop .inv .1) in
     omega (arith, s .more, s .most)
 
 loop-again : tie.Need-loop-again Inv-loop μ-loop
 loop-again c =
-    let s = c .before .before .before .before .step .ensures (now (c .before .before .before .before .before .before .before .before .before .before .before .before .before .args .terms)) (c .before .before .before .before .before .before .before .before .before .loop .inv .1) in
+    let k = c .before .before .before .before in
+    let l = k .before .before .before .before .before in
+    let s = k .step .ensures (now (l .before .before .before .before .args .terms)) (l .loop .inv .1) in
     (s .most, s .holds)
 
 same-length : tie.Need-same-length Inv-loop μ-loop
-same-length c = omega (arith, c .before .before .loop .inv .1 .first .size, c .before .before .before .before .before .before .pre .0 .1 .size)
+same-length c =
+    let l = c .before .before in
+    omega (arith, l .loop .inv .1 .first .size, l .before .before .before .before .pre .0 .1 .size)
 
 same-length-2 : tie.Need-same-length-2 Inv-loop μ-loop
 same-length-2 c = omega (arith, c .before .before .loop .inv .1 .second .size)

@@ -1,7 +1,8 @@
 -- `binary::align` meets its contract. The invariant: g is moved down by the bits between the two numbers. The
 -- measure is the number of bits left. Assumes nothing.
 use Prim.Native.Nat.{_+_, _-_}
-use Rattle.massey.proofs.binary.Aligning.{Aligning, aligning-seen, aligning-none, aligning-more, aligning-end}
+use Rattle.massey.proofs.binary.Aligning.{Aligning, aligning-seen, aligning-none, aligning-more}
+use Rattle.massey.proofs.binary.Aligning.{aligning-end}
 use native.Mathlib.Omega.{arith}
 use borrow.Author.Needs.{needs}
 use Rattle.massey.proofs.binary.align.Statement.{statement}
@@ -35,7 +36,9 @@ loop-less c =
 
 loop-again : tie.Need-loop-again Inv-loop μ-loop
 loop-again c =
-    aligning-more (c .before .before .before .before .before .before .before .before .loop .inv) (c .before .before .before .before .before .if1 .taken) (c .before .before .before .move-word .ensures)
+    let m = c .before .before .before in
+    let i = m .before .before in
+    aligning-more (i .before .before .before .loop .inv) (i .if1 .taken) (m .move-word .ensures)
 
 same-length : tie.Need-same-length Inv-loop μ-loop
 same-length c = search needs

@@ -43,8 +43,9 @@ sub-add-moved c =
 
 add-moved-requires : tie.Need-add-moved-requires
 add-moved-requires c κs =
-    let k = c .before .before .before .before .before .before .align .ensures in
-    let p = c .before .before .before .before .before .before .before .before .before .before .before .before .before .before .before .before .pre in
+    let a = c .before .before .before .before .before .before in
+    let k = a .align .ensures in
+    let p = a .before .before .before .before .before .before .before .before .before .before .pre in
     (p .words .0, k .words, p .from, omega (arith, ap (λ r. r .seen) (k .numbers), k .most, k .near))
 
 same-length-2 : tie.Need-same-length-2
@@ -55,12 +56,15 @@ same-length-3 c = search needs
 
 returns-2 : tie.Need-returns-2
 returns-2 c =
-    let k = c .before .before .before .before .before .before .before .before .before .align .ensures in
-    let r = c .before .before .before .before .before .before .before .before .before .before .before .before .before .before .before .before .before .before .before .args .known in
-    let i = 4157 + r .degree + r .earlier - r .seen in
-    let l = digit-below (getD (now (c .before .before .before .before .before .before .before .before .before .before .before .before .before .before .before .before .before .before .before .args .f)) (i / 64) 0) (i % 64) in
-    let e = c .before .before .before .before .before .before .before .before .before .before .before .before .bit-at .ensures in
-    taken (sym e ∙ one-bit _ (omega arith) (c .before .before .before .before .before .before .before .before .before .before .before .if1 .left)) k (c .before .before .add-moved .ensures)
+    let m = c .before .before in
+    let a = m .before .before .before .before .before .before .before in
+    let i = a .before .before in
+    let s = i .before .before .before .before .before .before .before .before in
+    let r = s .args .known in
+    let j = 4157 + r .degree + r .earlier - r .seen in
+    let l = digit-below (getD (now (s .args .f)) (j / 64) 0) (j % 64) in
+    let e = i .before .bit-at .ensures in
+    taken (sym e ∙ one-bit _ (omega arith) (i .if1 .left)) (a .align .ensures) (m .add-moved .ensures)
 
 pub cancel-spec : {M : Type 1} → statement M
 cancel-spec =

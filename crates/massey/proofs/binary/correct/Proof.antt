@@ -34,8 +34,9 @@ same-length-2 c = search needs
 
 returns : tie.Need-returns
 returns c ts h q =
-    let i = c .before .before .before .before .before .before in
-    hold-kept ts h q (omega arith) (i .if1 .taken) (c .before .before .before .add-moved .ensures) (c .reached .ensures)
+    let m = c .before .before .before in
+    let i = m .before .before .before in
+    hold-kept ts h q (omega arith) (i .if1 .taken) (m .add-moved .ensures) (c .reached .ensures)
 
 exchange-requires : tie.Need-exchange-requires
 exchange-requires c κs = search needs
@@ -51,8 +52,9 @@ same-length-4 c = search needs
 
 returns-2 : tie.Need-returns-2
 returns-2 c ts h q =
-    let i = c .before .before .before .before .before .before .before .before in
-    hold-changed ts h q (omega arith) (i .if1 .left) (c .before .before .before .before .before .exchange .ensures) (c .changed .ensures)
+    let m = c .before .before .before .before .before in
+    let i = m .before .before .before in
+    hold-changed ts h q (omega arith) (i .if1 .left) (m .exchange .ensures) (c .changed .ensures)
 
 pub correct-spec : {M : Type 1} → statement M
 correct-spec =

@@ -1,10 +1,10 @@
--- `binary::reduce` meets its contract. The invariant: reduced by s turns more, what stands in the place of f is
--- the first polynomial that fits. The measure is s. Assumes nothing.
+-- `binary::reduce` meets its contract. The invariant: reduced by s turns more, what stands in the place of f
+-- is the first polynomial that fits. The measure is s. Assumes nothing.
 use Prim.Native.Nat.{_-_, _*_}
 use mathlib.Core.Path.{_≡_, refl, _∙_}
 use denote.Ref.{now}
-use Rattle.massey.proofs.binary.Turning.{Turning, turning-none, turning-degree, turning-end, turning-reducible, turning-cancelled}
-use Rattle.massey.proofs.binary.Turning.{cancelled-numbers}
+use Rattle.massey.proofs.binary.Turning.{Turning, turning-none, turning-degree, turning-end}
+use Rattle.massey.proofs.binary.Turning.{turning-reducible, turning-cancelled, cancelled-numbers}
 use native.Mathlib.Omega.{arith}
 use Rattle.massey.proofs.binary.reduce.Statement.{statement}
 use Rattle.massey.proofs.binary.reduce.Tie as tie
@@ -28,25 +28,32 @@ cancel-requires c κs = turning-reducible _ (c .before .before .before .before .
 
 add-known : tie.Need-add-known Inv-loop μ-loop
 add-known c =
-    let l = c .before .before .before .before .before .before .before .before .before .before .loop in
-    omega (arith, cancelled-numbers (c .before .before .before .before .before .cancel .ensures), l .inv .0, turning-degree _ (l .inv .1))
+    let k = c .before .before .before .before .before in
+    let l = k .before .before .before .before .before .loop in
+    omega (arith, cancelled-numbers (k .cancel .ensures), l .inv .0, turning-degree _ (l .inv .1))
 
 loop-less : tie.Need-loop-less Inv-loop μ-loop
 loop-less c =
-    let l = c .before .before .before .before .before .before .before .before .before .before .loop in
-    omega (arith, cancelled-numbers (c .before .before .before .before .before .cancel .ensures), l .inv .0)
+    let k = c .before .before .before .before .before in
+    let l = k .before .before .before .before .before .loop in
+    omega (arith, cancelled-numbers (k .cancel .ensures), l .inv .0)
 
 loop-again : tie.Need-loop-again Inv-loop μ-loop
 loop-again c =
-    let l = c .before .before .before .before .before .before .before .before .before .before .loop in
-    let k = c .before .before .before .before .before .cancel .ensures in
-    (cancelled-numbers k .1 ∙ l .inv .0, turning-cancelled _ (l .inv .1) (omega (arith, l .inv .0)) k)
+    let k = c .before .before .before .before .before in
+    let l = k .before .before .before .before .before .loop in
+    let e = k .cancel .ensures in
+    (cancelled-numbers e .1 ∙ l .inv .0, turning-cancelled _ (l .inv .1) (omega (arith, l .inv .0)) e)
 
 same-length : tie.Need-same-length Inv-loop μ-loop
-same-length c = omega (arith, c .before .before .loop .inv .1 .first .size, c .before .before .before .before .before .before .pre .1 .first .size)
+same-length c =
+    let l = c .before .before in
+    omega (arith, l .loop .inv .1 .first .size, l .before .before .before .before .pre .1 .first .size)
 
 same-length-2 : tie.Need-same-length-2 Inv-loop μ-loop
-same-length-2 c = omega (arith, c .before .before .loop .inv .1 .second .size, c .before .before .before .before .before .before .pre .1 .second .size)
+same-length-2 c =
+    let l = c .before .before in
+    omega (arith, l .loop .inv .1 .second .size, l .before .before .before .before .pre .1 .second .size)
 
 returns : tie.Need-returns Inv-loop μ-loop
 returns c =

@@ -50,12 +50,12 @@ slice-aggregate-reduce-2 c = search needs
 
 reduce-requires : tie.Need-reduce-requires
 reduce-requires c κs =
-    let s = c .before .before .before .before .before .before .before .before .before .before .before .before .before in
+    let a = c .before .before .before .before in
+    let s = a .before .before .before .before .before .before .before .before .before in
     let m = length (now (s .args .terms)) + 63 in
     let e = div-add-mod' m 64 in
     let k = mod-lt m {m = 64} (omega arith) in
-    let a = c .before .before .before .before .after-all .ensures in
-    ((omega arith, a .0), a .1)
+    ((omega arith, a .after-all .ensures .0), a .after-all .ensures .1)
 
 slice-aggregate-unpack : tie.Need-slice-aggregate-unpack
 slice-aggregate-unpack c = search needs
@@ -68,8 +68,10 @@ add-unpack c = omega (arith, degree-bound (c .before .before .before .before .be
 
 unpack-requires : tie.Need-unpack-requires
 unpack-requires c κs =
-    let l = degree-bound (c .before .before .before .before .before .before .before .before .before) in
-    (omega arith, omega arith, omega (arith, c .before .before .before .before .before .before .before .before .before .before .before .before .before .before .before .before .before .before .pre .1))
+    let a = c .before .before .before .before .before .before .before .before .before in
+    let s = a .before .before .before .before .before .before .before .before .before in
+    let l = degree-bound a in
+    (omega arith, omega arith, omega (arith, s .pre .1))
 
 clear-requires : tie.Need-clear-requires
 clear-requires c κs = search needs
@@ -82,10 +84,13 @@ same-length-2 c = search needs
 
 returns : tie.Need-returns
 returns c =
-    let a = c .before .before .before .before .before .before .before .before .before .before .before .before .before .before .before .before .after-all .ensures in
-    let s = c .before .before .before .before .before .before .before .before .before .before .before .before .before .before .before .before .before .before .before .before .before .before .before .before .before in
-    reduced-shortest (now (s .args .terms)) (s .pre .0 .terms) (a .0) (a .1) (c .before .before .before .before .before .before .before .before .before .before .before .reduce .ensures)
-    (c .before .before .before .before .before .before .unpack .ensures) (c .before .before .clear .ensures)
+    let u = c .before .before .before .before .before .before in
+    let r = u .before .before .before .before .before in
+    let a = r .before .before .before .before .before in
+    let s = a .before .before .before .before .before .before .before .before .before in
+    let e = a .after-all .ensures in
+    reduced-shortest (now (s .args .terms)) (s .pre .0 .terms) (e .0) (e .1) (r .reduce .ensures)
+    (u .unpack .ensures) (c .before .before .clear .ensures)
 
 pub shortest-spec : {M : Type 1} → statement M
 shortest-spec =

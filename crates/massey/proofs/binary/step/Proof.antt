@@ -29,25 +29,30 @@ returns c ts h =
 
 align-requires : tie.Need-align-requires
 align-requires c κs =
-    let n = c .before .before .before .next-one .ensures in
-    let u = c .before .before .reached .ensures in
+    let k = c .before .before in
+    let n = k .before .next-one .ensures in
+    let u = k .reached .ensures in
     let e = ap (λ r. r .seen) u in
     let d = ap (λ r. r .aligned) u in
-    (c .before .before .before .before .before .before .before .pre .1 .0 .1, omega arith, omega (arith, n .low), omega (arith, n .high))
+    let p = k .before .before .before .before .before .pre in
+    (p .1 .0 .1, omega arith, omega (arith, n .low), omega (arith, n .high))
 
 correct-requires : tie.Need-correct-requires
 correct-requires c κs =
-    let n = c .before .before .before .before .before .before .before .before .next-one .ensures in
-    let u = c .before .before .before .before .before .before .before .reached .ensures in
-    let k = c .before .before .before .before .align .ensures in
+    let a = c .before .before .before .before in
+    let i = a .before .before in
+    let k = a .align .ensures in
+    let n = i .before .before .next-one .ensures in
+    let u = i .before .reached .ensures in
     let e = ap (λ r. r .seen) (k .numbers) ∙ ap (λ r. r .seen) u in
     let d = ap (λ r. r .degree) (k .numbers) ∙ ap (λ r. r .degree) u in
     let v = ap (λ r. r .seen) u in
-    let l = lt-of-le-ne (n .high) (c .before .before .before .before .before .before .if1 .left) in
+    let l = lt-of-le-ne (n .high) (i .if1 .left) in
+    let p = i .before .before .before .before .before .before .pre in
     record {
-      words = (c .before .before .before .before .before .before .before .before .before .before .before .before .pre .1 .0 .0, k .words);
-      left = omega arith;
-      degree = omega (arith, n .low);
+      words = (p .1 .0 .0, k .words);
+      left = omega (arith, p .0 .1, l);
+      degree = omega (arith, p .1 .1 .0, n .low);
       most = omega (arith, k .most);
       near = omega (arith, k .near);
     }
@@ -60,14 +65,17 @@ same-length-3 c = search needs
 
 returns-2 : tie.Need-returns-2
 returns-2 c ts h =
-    let n = c .before .before .before .before .before .before .before .before .before .before .before .before .before .next-one .ensures in
-    let u = c .before .before .before .before .before .before .before .before .before .before .before .before .reached .ensures in
-    let k = c .before .before .before .before .before .before .before .before .before .align .ensures in
-    let l = lt-of-le-ne (n .high) (c .before .before .before .before .before .before .before .before .before .before .before .if1 .left) in
-    let p = c .before .before .before .before .before .before .before .before .before .before .before .before .before .before .before .before .before .pre .0 .1 in
+    let o = c .before .before .before .before in
+    let a = o .before .before .before .before .before in
+    let i = a .before .before in
+    let k = a .align .ensures in
+    let n = i .before .before .next-one .ensures in
+    let u = i .before .reached .ensures in
+    let l = lt-of-le-ne (n .high) (i .if1 .left) in
+    let p = i .before .before .before .before .before .before .pre .0 .1 in
     let e = ap (λ r. r .seen) (k .numbers) ∙ ap (λ r. r .seen) u in
     let s =
-    c .before .before .before .before .correct .ensures ts (hold-aligned ts k (hold-reached h p n u))
+    o .correct .ensures ts (hold-aligned ts k (hold-reached h p n u))
     (misfit-aligned ts k (hold-misfit h p n l u)) in
     record {
       more = omega (arith, s .seen, n .low);

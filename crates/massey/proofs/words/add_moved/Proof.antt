@@ -1,5 +1,5 @@
--- `words::add_moved` meets its contract. The invariant: the words before j are added. The measure is the number
--- of those left. Assumes nothing.
+-- `words::add_moved` meets its contract. The invariant: the words before j are added. The measure is the
+-- number of those left. Assumes nothing.
 use Prim.Native.Nat.{_-_, _≤_}
 use Rattle.massey.proofs.words.Moving.{Adding, adding-none, adding-more, adding-end}
 use borrow.Author.Needs.{needs}
@@ -53,13 +53,18 @@ loop-less : tie.Need-loop-less Inv-loop μ-loop
 loop-less c = search needs
 
 loop-again : tie.Need-loop-again Inv-loop μ-loop
-loop-again c = (omega arith, adding-more _ _ _ _ _ (omega arith) (omega arith) (c .before .before .before .before .before .loop .inv .1) (c .window .ensures))
+loop-again c =
+    let l = c .before .before .before .before .before .loop in
+    (omega arith, adding-more _ _ _ _ _ (omega arith) (omega arith) (l .inv .1) (c .window .ensures))
 
 same-length : tie.Need-same-length Inv-loop μ-loop
 same-length c = search needs
 
 returns : tie.Need-returns Inv-loop μ-loop
-returns c = adding-end _ _ _ _ (c .before .before .before .before .pre .0) (c .before .before .before .before .pre .1) (omega arith) (c .before .loop .inv .0) (c .before .loop .inv .1)
+returns c =
+    let l = c .before .loop in
+    let p = c .before .before .before .before .pre in
+    adding-end _ _ _ _ (p .0) (p .1) (omega arith) (l .inv .0) (l .inv .1)
 
 pub add-moved-spec : {M : Type 1} → statement M
 add-moved-spec =

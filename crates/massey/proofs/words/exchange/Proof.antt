@@ -59,7 +59,11 @@ loop-less : tie.Need-loop-less Inv-loop μ-loop
 loop-less c = search needs
 
 loop-again : tie.Need-loop-again Inv-loop μ-loop
-loop-again c = (omega arith, exchanging-more _ _ _ _ _ (omega arith) (omega arith) (omega arith) (c .before .before .before .before .before .loop .inv .1) (c .window .ensures))
+loop-again c =
+    let l = c .before .before .before .before .before .loop in (
+      omega arith,
+      exchanging-more _ _ _ _ _ (omega arith) (omega arith) (omega arith) (l .inv .1) (c .window .ensures),
+    )
 
 same-length : tie.Need-same-length Inv-loop μ-loop
 same-length c = search needs
@@ -68,7 +72,10 @@ same-length-2 : tie.Need-same-length-2 Inv-loop μ-loop
 same-length-2 c = search needs
 
 returns : tie.Need-returns Inv-loop μ-loop
-returns c = exchanging-end _ _ _ _ (c .before .before .before .before .pre .0) (c .before .before .before .before .pre .1) (omega arith) (c .before .loop .inv .0) (c .before .loop .inv .1)
+returns c =
+    let l = c .before .loop in
+    let p = c .before .before .before .before .pre in
+    exchanging-end _ _ _ _ (p .0) (p .1) (omega arith) (l .inv .0) (l .inv .1)
 
 pub exchange-spec : {M : Type 1} → statement M
 exchange-spec =

@@ -1,5 +1,5 @@
--- `words::move_word` meets its contract. The invariant: the words before j are moved. The measure is the number
--- of those left. Assumes nothing.
+-- `words::move_word` meets its contract. The invariant: the words before j are moved. The measure is the
+-- number of those left. Assumes nothing.
 use Prim.Native.Nat.{_-_, _≤_}
 use Rattle.massey.proofs.words.Moving.{Moving, moving-none, moving-more, moving-end}
 use borrow.Author.Needs.{needs}
@@ -44,7 +44,9 @@ same-length : tie.Need-same-length Inv-loop μ-loop
 same-length c = search needs
 
 returns : tie.Need-returns Inv-loop μ-loop
-returns c = moving-end _ _ (c .before .before .pre .0) (omega arith) (c .before .loop .inv .0) (c .before .loop .inv .1)
+returns c =
+    let l = c .before .loop in
+    moving-end _ _ (c .before .before .pre .0) (omega arith) (l .inv .0) (l .inv .1)
 
 pub move-word-spec : {M : Type 1} → statement M
 move-word-spec =

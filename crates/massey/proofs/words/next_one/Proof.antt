@@ -3,7 +3,8 @@
 use Prim.Native.Nat.{_-_, _≤_}
 use lib.Count.{leading-le}
 use denote.Ref.{now}
-use Rattle.massey.proofs.words.Searching.{restOf, Searching, searching-none, searching-more, searching-found, searching-end}
+use Rattle.massey.proofs.words.Searching.{restOf, Searching, searching-none, searching-more}
+use Rattle.massey.proofs.words.Searching.{searching-found, searching-end}
 use borrow.Author.Needs.{needs}
 use native.Mathlib.Omega.{arith}
 use Rattle.massey.proofs.words.next_one.Statement.{statement}
@@ -58,7 +59,9 @@ loop-less : tie.Need-loop-less Inv-loop μ-loop
 loop-less c = search needs
 
 loop-again : tie.Need-loop-again Inv-loop μ-loop
-loop-again c = (omega arith, searching-more (c .before .before .before .loop .inv .1) (omega arith) (c .if1 .left))
+loop-again c =
+    let l = c .before .before .before .loop in
+    (omega arith, searching-more (l .inv .1) (omega arith) (c .if1 .left))
 
 returns-2 : tie.Need-returns-2 Inv-loop μ-loop
 returns-2 c = searching-end (c .before .loop .inv .1) (omega arith) (omega arith)

@@ -1,5 +1,5 @@
--- `words::pack` meets its contract. The invariant: the first 64·i terms are packed. The measure is what is left
--- of the terms. Assumes nothing.
+-- `words::pack` meets its contract. The invariant: the first 64·i terms are packed. The measure is what is
+-- left of the terms. Assumes nothing.
 use Prim.Native.Nat.{_+_, _-_, _*_}
 use lib.ListN.{length}
 use Rattle.massey.proofs.words.Packing.{Packing, packing-none, packing-more, packing-end}
