@@ -390,9 +390,9 @@ def group_of(j):
 # Reasons that the sources of both sides show; a pair without one is in the table alone.
 WIDE = ('mostly the sums of products: C best has its numbers in 16 bits, multiplies eight at a time and adds up pairs of '
         'products in the same step, without widening; and its inverses stand in a table')
-COPIES = ('both work on words. C best has eight copies of the terms, each shifted by a term more than the one before, so that '
-          'it reads the words from any term on unaligned, and the rater makes each of two words by shifts; and C best packs '
-          '16 terms at a time by movemask and unpacks eight at a time, the rater one by one')
+COPIES = ('both work on words. C best adds up a discrepancy where it needs it, from as many words as f has, and the rater '
+          'corrects all that are to come with f, which are more words as long as f is short; and C best packs 16 terms at a '
+          'time by movemask and unpacks eight at a time, the rater one by one')
 PACKED = 'C best has 64 coefficients of GF(2) in a word, and the rater one in a byte'
 SHARED = ('C best lets one half of the factors act once for the other half, over fields other than GF(2) by their product '
           'where that is quicker; in the rater each factor acts anew for each other, as often as the digits of its upper '

@@ -6,12 +6,12 @@
 --   marked ts g n i   == the same, but bit 4,096 − n is 1: that of the last of the n terms, which g did not
 --                        fit
 --   image-high, image-between, image-low == the three parts
+--   marked-at, marked-off == the marked bit, and the others
 --   image-empty       == that of no coefficients is 0
 --   image-fits, image-misfits == the image before a term, by the one after it
---   act-sum           == a sum of polynomials acts as the sum of their actions
---   image-upper, image-sum == the image of x^b·f + x^a·g is the sum of that of f and that of g, moved down:
---                        from the bit of the last term on, and everywhere, where the two last terms meet
---   image-corrected   == so it is with marked images
+--   image-upper       == the image of x^b·f + x^a·g is the sum of that of f and that of g, moved down: from
+--                        the bit of the last term on
+--   image-corrected   == and everywhere, of marked images whose marks meet
 --
 -- Assumes nothing.
 use Prim.Native.Nat.{ℕ, zero, suc, _+_, _*_, _-_, _%_, _≤_, _<_}
@@ -30,7 +30,6 @@ use Rattle.meaning.specs.Sequence.{Sequence, actAt, known}
 use Rattle.bridge.proofs.Searches.{T-true, T-false}
 use Rattle.bridge.proofs.Interpretation.{prime-add, prime-mul, mod-mul-mod}
 use Rattle.bridge.proofs.Actions.{actAt-nil, actAt-cons}
-use Rattle.bridge.proofs.Bits.{two}
 use Rattle.bridge.proofs.WordLists.{raised, raised-before, raised-at, length-raised, act-raised}
 
 unfoldable pub image : List ℕ → List ℕ → ℕ → ℕ → ℕ
@@ -115,7 +114,7 @@ module _ (ts f : List ℕ) (n : ℕ) (l : length f ≤ n + 1) (m : n < 4096) whe
     ]
   ]
 
-  pub image-term : image ts f n (4095 - n) ≡ actAt (prime 2) f (known ts) (n + 1 - length f)
+  image-term : image ts f n (4095 - n) ≡ actAt (prime 2) f (known ts) (n + 1 - length f)
   image-term =
       image-low ts f n (4095 - n) (omega arith) (omega arith)
       ∙ ap (actAt (prime 2) f (known ts)) (omega arith)
@@ -245,7 +244,7 @@ module _ (ts f g h : List ℕ) (n c s a b : ℕ) (degree : length h ≡ b + leng
     | yes d ↦ sum-between i d l
   ]
 
-  pub image-sum : n ≡ c + s → (i : ℕ) → image ts h n i ≡ (image ts f n i + image ts g c (i + s)) % 2
+  image-sum : n ≡ c + s → (i : ℕ) → image ts h n i ≡ (image ts f n i + image ts g c (i + s)) % 2
   image-sum e i = elim (decLt i (4096 - n)) [
     | no d ↦ image-upper i (omega arith)
     | yes d ↦

@@ -22,7 +22,7 @@ use lib.Bits.{bitXor, xor-step, xor-shr, shifted-even}
 use lib.Pow.{pow-add, pow-mono, shl-shr, shr-shr, field, mod-mod-pow}
 use lib.Arith.{digits-mod}
 use native.Mathlib.Nat.{mod-lt, div-eq-of-lt, pow-suc, le-div-iff-mul-le}
-use native.Mathlib.Nat.{mul-assoc, zero-div, div-one, div-lt-iff-lt-mul}
+use native.Mathlib.Nat.{mul-assoc, zero-div, div-lt-iff-lt-mul}
 use native.Mathlib.Decide.{decLt}
 use native.Mathlib.Omega.{arith}
 use Rattle.meaning.specs.Field.{prime}
@@ -42,10 +42,6 @@ digit-below w r = mod-lt (w / 2 ^ r) (omega arith)
 pub digit-zero : (r : ℕ) → digit 2 0 r ≡ 0
 unfolding digit
 digit-zero r = ap (λ n. n % 2) (zero-div (2 ^ r))
-
-digit-first : (n : ℕ) → digit 2 n 0 ≡ n % 2
-unfolding digit
-digit-first n = ap (λ n. n % 2) (div-one n)
 
 pub digit-beyond : {w d r : ℕ} → w < 2 ^ d → d ≤ r → digit 2 w r ≡ 0
 unfolding digit

@@ -1,8 +1,10 @@
 // The free way over GF(2), on words of bits, by the steps that it takes over any field: a correction is 1,
-// and a sum an exclusive or. Of f and of g, an earlier f, 66 words each have the coefficients at the top, the
-// leading one in bit 4,159, and below them the discrepancies at the terms to come, that at t(n) in bit 4,095
-// − n. So a correction is one sum, of f and of g moved down, and the next term that f does not fit is the
-// next bit that is 1. Assumes at most 4,096 terms; a is the first word that has the bit of one of them.
+// and a sum an exclusive or. The 66 words of f have its coefficients at the top, the leading one in bit 4,159,
+// and below them its discrepancies at the terms to come, that at t(n) in bit 4,095 − n. Those of g, an earlier
+// f, have what f had when it became g, also the 1 of the term that it did not fit, moved down by whole words.
+// So a correction is one sum, of f and of g moved down until the bits of the two terms meet, and the next term
+// that f does not fit is the next bit that is 1. Assumes at most 4,096 terms; a is the first word that has the
+// bit of one of them.
 use crate::words::add_moved;
 use crate::words::bit_at;
 use crate::words::exchange;
@@ -11,7 +13,6 @@ use crate::words::next_one;
 use crate::words::pack;
 use crate::words::unpack;
 use lent::clear;
-use lent::smaller;
 ghost use mathlib.Core.Path.{_≡_};
 ghost use mathlib.Core.List.{List};
 ghost use Prim.Native.Nat.{ℕ, _+_, _*_, _≤_, _<_};
@@ -19,14 +20,14 @@ ghost use lib.ListN.{length, getD};
 ghost use Rattle.meaning.specs.Field.{prime};
 ghost use Rattle.massey.specs.step.Steps.{RoomFor};
 ghost use Rattle.massey.specs.Shortest.{ShortestRecurrence};
-ghost use Rattle.massey.specs.words.Words.{Words, TermsPacked};
-ghost use Rattle.massey.specs.binary.Binary.{reachedWith, changedWith, Aligned, Ready, Hold};
-ghost use Rattle.massey.specs.binary.Binary.{Misfits, Stepped, Advanced, Cancelled, Reducible, Reduced};
+ghost use Rattle.massey.specs.words.Words.{Room, TermsPacked};
+ghost use Rattle.massey.specs.binary.Binary.{reachedWith, changedWith, Aligned, WordsReady, WordsHold};
+ghost use Rattle.massey.specs.binary.Binary.{Misfits, WordsStepped, WordsAdvanced, Cancelled, Reducible, WordsReduced};
 
 // What is known after the terms seen, beside the words of f and g: how many they are, the degree L of f, how
 // many coefficients g has, and to what g is aligned: for a correction at t(n) it is moved down by
 // n + 1 − aligned bits.
-pub struct Known {
+pub struct Progress {
     pub seen: usize,
     pub degree: usize,
     pub earlier: usize,
@@ -34,10 +35,10 @@ pub struct Known {
 }
 
 // What is known after the first n terms, where f fits all from those seen on.
-fn reached(known: Known, n: usize) -> Known
+fn reached(known: Progress, n: usize) -> Progress
     ensures { λ r. ⌜ r ≡ reachedWith known n ⌝ }
 {
-    Known {
+    Progress {
         seen: n,
         degree: known.degree,
         earlier: known.earlier,
@@ -46,11 +47,11 @@ fn reached(known: Known, n: usize) -> Known
 }
 
 // What is known after a term for which the degree changes, and f becomes g.
-fn changed(known: Known) -> Known
+fn changed(known: Progress) -> Progress
     requires { ⌜ (known .degree ≤ known .seen) × (known .seen < 4096) ⌝ }
     ensures { λ r. ⌜ r ≡ changedWith known ⌝ }
 {
-    Known {
+    Progress {
         seen: known.seen + 1,
         degree: known.seen + 1 - known.degree,
         earlier: known.degree + 1,
@@ -59,8 +60,8 @@ fn changed(known: Known) -> Known
 }
 
 // Moves g down by whole words, until fewer than 64 bits are left for a correction at t(n), for n terms seen.
-fn align(mut known: Known, g: &mut [u64], a: usize) -> Known
-    requires { ⌜ Words (now g) × (a ≤ 65) × (known .aligned ≤ known .seen + 1) × (known .seen ≤ 8192) ⌝ }
+fn align(mut known: Progress, g: &mut [u64], a: usize) -> Progress
+    requires { ⌜ Room (now g) × (a ≤ 65) × (known .aligned ≤ known .seen + 1) × (known .seen ≤ 8192) ⌝ }
     ensures { λ r. ⌜ Aligned known (now (g .entry)) a r (now (g .exit)) ⌝ }
 {
     // g is moved by the words that `aligned` tells
@@ -74,10 +75,10 @@ fn align(mut known: Known, g: &mut [u64], a: usize) -> Known
 // What is known after one term more, t(n) for n terms seen, which f does not fit. With m = n + 1 − L, the
 // degree where it changes: f becomes f + x^(L−m)·g where m is at most L, and where not x^(m−L)·f + g, and the
 // former f becomes g. Both are f and g moved down.
-fn correct(known: Known, f: &mut [u64], g: &mut [u64], a: usize) -> Known
-    requires { ⌜ Ready known (now f) (now g) a ⌝ }
-    ensures { λ r. ⌜ ((ts : List ℕ) → Hold ts known (now (f .entry)) (now (g .entry)) a → Misfits ts known
-        → Stepped ts known r (now (f .exit)) (now (g .exit)) a) ⌝ }
+fn correct(known: Progress, f: &mut [u64], g: &mut [u64], a: usize) -> Progress
+    requires { ⌜ WordsReady known (now f) (now g) a ⌝ }
+    ensures { λ r. ⌜ ((ts : List ℕ) → WordsHold ts known (now (f .entry)) (now (g .entry)) a → Misfits ts known
+        → WordsStepped ts known r (now (f .exit)) (now (g .exit)) a) ⌝ }
 {
     let n = known.seen;
     let l = known.degree;
@@ -93,12 +94,12 @@ fn correct(known: Known, f: &mut [u64], g: &mut [u64], a: usize) -> Known
 
 // What is known after the terms that f fits, from those seen on, and the next of the m terms, if there is
 // one.
-fn step(known: Known, m: usize, f: &mut [u64], g: &mut [u64], a: usize) -> Known
+fn step(known: Progress, m: usize, f: &mut [u64], g: &mut [u64], a: usize) -> Progress
     requires { ⌜ (known .seen < m) × (64 * a + m ≤ 4096) ⌝ }
-    requires { ⌜ Words (now f) × Words (now g) ⌝ }
+    requires { ⌜ Room (now f) × Room (now g) ⌝ }
     requires { ⌜ (known .degree ≤ known .seen) × (known .aligned ≤ known .seen + 1) ⌝ }
-    ensures { λ r. ⌜ ((ts : List ℕ) → Hold ts known (now (f .entry)) (now (g .entry)) a
-        → Advanced ts known m r (now (f .exit)) (now (g .exit)) a) ⌝ }
+    ensures { λ r. ⌜ ((ts : List ℕ) → WordsHold ts known (now (f .entry)) (now (g .entry)) a
+        → WordsAdvanced ts known m r (now (f .exit)) (now (g .exit)) a) ⌝ }
 {
     let n = next_one(f, known.seen, m);
     let at = reached(known, n);
@@ -111,15 +112,15 @@ fn step(known: Known, m: usize, f: &mut [u64], g: &mut [u64], a: usize) -> Known
 
 // What is known after all terms, whose bits are in f, for g with zeros. At the start f is 1 and g is 0, with
 // a discrepancy of 1 before the first term. Leaves the words of both.
-fn after_all(terms: &[u8], f: &mut [u64], g: &mut [u64], a: usize) -> Known
+fn after_all(terms: &[u8], f: &mut [u64], g: &mut [u64], a: usize) -> Progress
     requires { ⌜ (64 * a + length (now terms) ≤ 4096) × TermsPacked (now terms) (now f) ⌝ }
     requires { ⌜ (length (now g) ≡ 66) × ((j : ℕ) → getD (now g) j 0 ≡ 0) ⌝ }
     ensures { λ r. ⌜ (r .seen ≡ length (now (terms .entry)))
-        × Hold (now (terms .entry)) r (now (f .exit)) (now (g .exit)) a ⌝ }
+        × WordsHold (now (terms .entry)) r (now (f .exit)) (now (g .exit)) a ⌝ }
 {
     f[64] = 9223372036854775808;
     g[64] = 1;
-    let mut known = Known {
+    let mut known = Progress {
         seen: 0,
         degree: 0,
         earlier: 0,
@@ -132,9 +133,10 @@ fn after_all(terms: &[u8], f: &mut [u64], g: &mut [u64], a: usize) -> Known
     known
 }
 
-// Leaves f + c·x^s·g in the place of f, s = 2·L − 1 − n for n terms seen, for the coefficient c of f at the
-// place of the leading one of x^s·g: as a correction at t(n) would. Answers what is known, g being aligned.
-fn cancel(known: Known, f: &mut [u64], g: &mut [u64], a: usize) -> Known
+// A turn of the reduction, which counts on from the terms as if f did not fit any after them: for n so counted
+// leaves f + c·x^s·g in the place of f, s = 2·L − 1 − n, for the coefficient c of f at the place of the leading
+// one of x^s·g. Where c is not 0 g is aligned, as for a correction at t(n).
+fn cancel(known: Progress, f: &mut [u64], g: &mut [u64], a: usize) -> Progress
     requires { ⌜ Reducible known (now f) (now g) a ⌝ }
     ensures { λ r. ⌜ Cancelled known (now (f .entry)) (now (g .entry)) a r (now (f .exit)) (now (g .exit)) ⌝ }
 {
@@ -147,13 +149,14 @@ fn cancel(known: Known, f: &mut [u64], g: &mut [u64], a: usize) -> Known
 }
 
 // Leaves the first of the polynomials that fit in the place of f.
-fn reduce(terms: &[u8], mut known: Known, f: &mut [u64], g: &mut [u64], a: usize)
+fn reduce(terms: &[u8], mut known: Progress, f: &mut [u64], g: &mut [u64], a: usize)
     requires { ⌜ (64 * a + length (now terms) ≤ 4096) × (known .seen ≡ length (now terms)) ⌝ }
-    requires { ⌜ Hold (now terms) known (now f) (now g) a ⌝ }
-    ensures { λ _. ⌜ Reduced (now (terms .entry)) known (now (f .exit)) ⌝ }
+    requires { ⌜ WordsHold (now terms) known (now f) (now g) a ⌝ }
+    ensures { λ _. ⌜ WordsReduced (now (terms .entry)) known (now (f .exit)) ⌝ }
 {
     let l = known.degree;
-    // f is 0 at the places from e + s on, for the degree e of g and s = 2·L − n, n the number seen
+    // f is 0 at the places from e + s to e + w − 1, for the degree e of g, s = 2·L − n for n counted so far and
+    // w = 2·L − m for m terms
     while known.seen < 2 * l {
         known = cancel(known, f, g, a);
         known.seen = known.seen + 1;

@@ -7,7 +7,7 @@ ghost use Prim.Native.Nat.{ℕ, _+_, _*_, _-_, _/_, _%_, _≤_, _<_};
 ghost use lib.ListN.{length, getD};
 ghost use Rattle.meaning.specs.Result.{written};
 ghost use Rattle.bridge.proofs.Monics.{digit};
-ghost use Rattle.massey.specs.words.Words.{bitOf, bitsFrom, Window, Words, Moved, Added, Exchanged};
+ghost use Rattle.massey.specs.words.Words.{bitOf, bitsFrom, Window, Room, Moved, Added, Exchanged};
 ghost use Rattle.massey.specs.words.Words.{NextOne, TermsPacked};
 
 // The 64 bits from bit k of a word on, which the next word continues, for k below 64. (No word is shifted by
@@ -21,7 +21,7 @@ fn window(lower: u64, upper: u64, k: u64) -> u64
 
 // Moves g down by one word.
 pub(crate) fn move_word(g: &mut [u64], a: usize)
-    requires { ⌜ Words (now g) × (a ≤ 65) ⌝ }
+    requires { ⌜ Room (now g) × (a ≤ 65) ⌝ }
     ensures { λ _. ⌜ Moved (now (g .entry)) a (now (g .exit)) ⌝ }
 {
     // the words before j are moved
@@ -32,7 +32,7 @@ pub(crate) fn move_word(g: &mut [u64], a: usize)
 
 // Adds g, moved down by k bits, to f, for k below 64.
 pub(crate) fn add_moved(f: &mut [u64], g: &[u64], a: usize, k: u64)
-    requires { ⌜ Words (now f) × Words (now g) × (a ≤ 65) × (k < 64) ⌝ }
+    requires { ⌜ Room (now f) × Room (now g) × (a ≤ 65) × (k < 64) ⌝ }
     ensures { λ _. ⌜ Added (now (f .entry)) (now (g .entry)) a k (now (f .exit)) ⌝ }
 {
     // the words before j are added
@@ -43,7 +43,7 @@ pub(crate) fn add_moved(f: &mut [u64], g: &[u64], a: usize, k: u64)
 
 // The same, and leaves the former f in the place of g.
 pub(crate) fn exchange(f: &mut [u64], g: &mut [u64], a: usize, k: u64)
-    requires { ⌜ Words (now f) × Words (now g) × (a ≤ 65) × (k < 64) ⌝ }
+    requires { ⌜ Room (now f) × Room (now g) × (a ≤ 65) × (k < 64) ⌝ }
     ensures { λ _. ⌜ Exchanged (now (f .entry)) (now (g .entry)) a k (now (f .exit)) (now (g .exit)) ⌝ }
 {
     // the words before j are exchanged

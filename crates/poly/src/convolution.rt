@@ -25,8 +25,7 @@ fn scale(field: GaloisField, c: u8, w: &mut [u8], at: usize, to: usize, m: usize
     }
 }
 
-// Leaves c0·w(k) + c1·w(k − q) + … for the m places k from `at` on in the m places from `to` on, which do not
-// begin before them, and all others as they were.
+// What `convolve` leaves, for any coefficients, block by block.
 fn convolve_blocks(
     field: GaloisField,
     f: &[u8],
@@ -52,7 +51,8 @@ fn convolve_blocks(
     }
 }
 
-// The same. A few places with one coefficient need no sums.
+// Leaves c0·w(k) + c1·w(k − q) + … for the m places k from `at` on in the m places from `to` on, which do not
+// begin before them, and all others as they were. A few places with one coefficient need no sums.
 pub fn convolve(
     field: GaloisField,
     f: &[u8],

@@ -10,19 +10,19 @@ use Prim.Native.Nat.{ℕ, _+_, _-_, _*_, _≤_, _<_}
 use mathlib.Core.Path.{_≡_, refl, ap, _∙_}
 use mathlib.Core.List.{List}
 use native.Mathlib.Omega.{arith}
-use Rattle.massey.specs.declared.binary.Known.{Known}
-use Rattle.massey.specs.words.Words.{bitOf, Words, Moved}
+use Rattle.massey.specs.declared.binary.Progress.{Progress}
+use Rattle.massey.specs.words.Words.{bitOf, Room, Moved}
 use Rattle.massey.specs.binary.Binary.{alignedWith, Aligned}
 
-pub record Aligning (r : Known) (g : List ℕ) (a : ℕ) (r′ : Known) (g′ : List ℕ) : Type 0 where
+pub record Aligning (r : Progress) (g : List ℕ) (a : ℕ) (r′ : Progress) (g′ : List ℕ) : Type 0 where
   pub numbers : r′ ≡ alignedWith r (r′ .aligned)
   pub more : r .aligned ≤ r′ .aligned
   pub most : r′ .aligned ≤ r .seen + 1
-  pub words : Words g′
+  pub words : Room g′
   pub bit : (i : ℕ) → 64 * a ≤ i → bitOf g′ i ≡ bitOf g (i + (r′ .aligned - r .aligned))
 
 pub aligning-none :
-    (r : Known) (g : List ℕ) (a : ℕ) → Words g → r .aligned ≤ r .seen + 1 → Aligning r g a r g
+    (r : Progress) (g : List ℕ) (a : ℕ) → Room g → r .aligned ≤ r .seen + 1 → Aligning r g a r g
 aligning-none r g a w l =
     record {
       numbers = refl;
@@ -32,7 +32,7 @@ aligning-none r g a w l =
       bit = λ i _. let e : i ≡ i + (r .aligned - r .aligned) = omega arith in ap (bitOf g) e;
     }
 
-module _ {r : Known} {g : List ℕ} {a : ℕ} {r′ : Known} {g′ : List ℕ} (h : Aligning r g a r′ g′) where
+module _ {r : Progress} {g : List ℕ} {a : ℕ} {r′ : Progress} {g′ : List ℕ} (h : Aligning r g a r′ g′) where
   pub aligning-seen : r′ .seen ≡ r .seen
   aligning-seen = ap (λ r. r .seen) (h .numbers)
 
@@ -66,7 +66,7 @@ module _ {r : Known} {g : List ℕ} {a : ℕ} {r′ : Known} {g′ : List ℕ} (
 
 -- the bits of g stay those of an image h, moved down from c on
 pub aligned-image :
-    {r r′ : Known} {g g′ : List ℕ} {a : ℕ} (h : ℕ → ℕ) (c : ℕ)
+    {r r′ : Progress} {g g′ : List ℕ} {a : ℕ} (h : ℕ → ℕ) (c : ℕ)
     → Aligned r g a r′ g′
     → c ≤ r .aligned
     → ((i : ℕ) → 64 * a ≤ i → bitOf g i ≡ h (i + (r .aligned - c)))

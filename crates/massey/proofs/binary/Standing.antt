@@ -1,11 +1,11 @@
--- The state of the model over GF(2) in words and numbers, at the start and after each step.
+-- The state of the model over GF(2) in words and numbers, at the changedAt and after each step.
 --
---   hold-start       == what stands at the start is the state after no terms
+--   hold-start       == what stands at the changedAt is the state after no terms
 --   hold-sizes       == the numbers of a state
 --   hold-reached, hold-misfit == after the terms that f fits, and at the first that it does not
 --   hold-aligned, misfit-aligned == g is moved down by whole words
 --   hold-kept, hold-changed == a step: the degree stays; it changes
---   coefficient-bit, lower-bits == the coefficients of f, which are 0 or 1
+--   coefficient-bit, lower-bits == the coefficients in an image, which are 0 or 1
 --
 -- Assumes nothing.
 use Prim.Native.Nat.{ℕ, zero, suc, _+_, _-_, _*_, _/_, _%_, _≤_, _<_}
@@ -18,6 +18,7 @@ use native.Mathlib.Decide.{decLt, ℕ-discrete}
 use native.Mathlib.Omega.{arith}
 use lib.ListN.{length, getD, set, length-set, length-append, List·getD-append, List·getD-eq-default}
 use lib.Seq.{getD-set-same, getD-set-other}
+use lib.Arith.{lt-of-le-ne}
 use Rattle.meaning.specs.Field.{prime, negative}
 use Rattle.meaning.specs.Sequence.{actAt, known}
 use Rattle.bridge.proofs.Interpretation.{prime-size, prime-add, prime-mul}
@@ -35,15 +36,15 @@ use Rattle.bridge.proofs.MasseySteps.{masseyStart, masseyAfter, masseyStep, aft
 use Rattle.bridge.proofs.MasseySteps.{step-zero, step-kept, step-changed, MasseySizes, massey-sizes}
 use Rattle.arith.specs.Inverse.{inverse}
 use Rattle.arith.proofs.Inverse.{inverse-product}
-use Rattle.massey.specs.declared.binary.Known.{Known}
-use Rattle.massey.specs.words.Words.{bitOf, Words, TermsPacked, NextOne, Added, Exchanged}
-use Rattle.massey.specs.binary.Binary.{start, reachedWith, changedWith, Aligned, Stands}
-use Rattle.massey.specs.binary.Binary.{Hold, Misfits, Stepped}
+use Rattle.massey.specs.declared.binary.Progress.{Progress}
+use Rattle.massey.specs.words.Words.{bitOf, Room, TermsPacked, NextOne, Added, Exchanged}
+use Rattle.massey.specs.binary.Binary.{changedAt, reachedWith, changedWith, Aligned, WordsStand}
+use Rattle.massey.specs.binary.Binary.{WordsHold, Misfits, WordsStepped}
 use Rattle.massey.proofs.step.Halves.{keptBy, changedBy}
 use Rattle.massey.proofs.words.Moving.{bit-word, words-beyond}
 use Rattle.massey.proofs.binary.Aligning.{aligned-image}
 
--- The start: f is 1, and g is 0
+-- The changedAt: f is 1, and g is 0
 module _ (ts f g : List ℕ) (p : TermsPacked ts f) (l : length g ≡ 66)
     (z : (j : ℕ) → getD g j 0 ≡ 0) where
   abbrev first : List ℕ
@@ -52,14 +53,14 @@ module _ (ts f g : List ℕ) (p : TermsPacked ts f) (l : length g ≡ 66)
   abbrev second : List ℕ
   second = set g 64 1
 
-  first-words : Words first
+  first-words : Room first
   first-words =
       record {
         size = length-set f 64 9223372036854775808 ∙ p .size;
         last = getD-set-other f 64 65 9223372036854775808 0 (λ q. omega arith) ∙ p .above 65 (omega arith);
       }
 
-  second-words : Words second
+  second-words : Room second
   second-words =
       record {
         size = length-set g 64 1 ∙ l;
@@ -118,11 +119,9 @@ module _ (ts f g : List ℕ) (p : TermsPacked ts f) (l : length g ≡ 66)
           ∙ digit-top 63 (omega arith) (omega arith)
           ∙ sym (ap (λ r. image ts (1 ∷ []) 0 (4096 + r)) e ∙ image-high ts (1 ∷ []) 0 4159 (omega arith))
       top r b (no e) =
-          digit-shl-low 1 63 r b (lt-not r b e)
-          ∙ sym (image-between ts (1 ∷ []) 0 (4096 + r) (omega (arith, lt-not r b e)) (omega arith))
-        where
-          lt-not : (r : ℕ) → r < 64 → r ≢ 63 → r < 63
-          lt-not r b e = elim (decLt r 63) [ yes c ↦ c | no c ↦ absurd (e (omega arith)) ]
+          let l = lt-of-le-ne {k = 63} (omega arith) e in
+          digit-shl-low 1 63 r b l
+          ∙ sym (image-between ts (1 ∷ []) 0 (4096 + r) (omega arith) (omega arith))
 
   start-previous : (i : ℕ) → bitOf second i ≡ marked ts [] 0 i
   start-previous i = elim (ℕ-discrete i 4096) [
@@ -134,9 +133,6 @@ module _ (ts f g : List ℕ) (p : TermsPacked ts f) (l : length g ≡ 66)
     | no e ↦ zeros e (decLt i 4096) (decLt i 4160) ∙ sym (marked-off ts [] 0 i e ∙ image-empty ts 0 i)
   ]
     where
-      positive : (n : ℕ) → n ≢ 0 → 1 ≤ n
-      positive n q = elim (decLt 0 n) [ yes c ↦ c | no c ↦ absurd (q (omega arith)) ]
-
       zeros : i ≢ 4096 → Dec (i < 4096) → Dec (i < 4160) → bitOf second i ≡ 0
       zeros e (yes b) _ =
           let o = div-add-mod' i 64 in
@@ -147,14 +143,14 @@ module _ (ts f g : List ℕ) (p : TermsPacked ts f) (l : length g ≡ 66)
           let q : i ≡ 4096 + (i - 4096) = omega arith in
           ap (bitOf second) q
           ∙ second-top (i - 4096) (omega arith)
-          ∙ digit-beyond {d = 1} (omega arith) (positive (i - 4096) (λ n. e (omega arith)))
+          ∙ digit-beyond {d = 1} (omega arith) (lt-of-le-ne {k = i - 4096} (omega arith) (λ n. e (omega arith)))
 
   pub hold-start :
       (a : ℕ)
-      → Hold ts (record { seen = 0; degree = 0; earlier = 0; aligned = 0 }) first second a
+      → WordsHold ts (record { seen = 0; degree = 0; earlier = 0; aligned = 0 }) first second a
   unfolding masseyStart
   hold-start a =
-      subst (λ x. Stands ts x (record { seen = 0; degree = 0; earlier = 0; aligned = 0 }) first second a)
+      subst (λ x. WordsStand ts x (record { seen = 0; degree = 0; earlier = 0; aligned = 0 }) first second a)
       (sym (after-zero (prime 2) (inverse (prime 2)) ts))
       (record {
         degree = refl;
@@ -169,28 +165,29 @@ module _ (ts f g : List ℕ) (p : TermsPacked ts f) (l : length g ≡ 66)
             let e : i ≡ i + 0 = omega arith in start-previous i ∙ ap (marked ts [] 0) e;
       })
 
--- The coefficients and the numbers
-module _ {ts : List ℕ} {x : MasseyState} {r : Known} {f g : List ℕ} {a : ℕ} (h : Stands ts x r f g a)
-    (b : 64 * a + r .degree ≤ 4159) where
-  pub coefficient-bit : (i : ℕ) → bitOf f (4159 - r .degree + i) ≡ getD (polynomialOf x) i 0
+-- The coefficients of an image
+module _ (ts w lower : List ℕ) (n o : ℕ) (b : o + length lower ≤ 4159)
+    (h : (i : ℕ) → o ≤ i → bitOf w i ≡ image ts (lower ++ (1 ∷ [])) n i) where
+  pub coefficient-bit : (i : ℕ) → bitOf w (4159 - length lower + i) ≡ getD (lower ++ (1 ∷ [])) i 0
   coefficient-bit i =
-      let l = length-append (x .lower) (1 ∷ []) in
-      let d = h .degree in
-      h .current (4159 - r .degree + i) (omega arith)
-      ∙ image-high ts (polynomialOf x) (r .seen) (4159 - r .degree + i) (omega arith)
-      ∙ ap (λ j. getD (polynomialOf x) j 0) (omega arith)
+      let l = length-append lower (1 ∷ []) in
+      let k = 4159 - length lower + i in
+      h k (omega arith)
+      ∙ image-high ts (lower ++ (1 ∷ [])) n k (omega arith)
+      ∙ ap (λ j. getD (lower ++ (1 ∷ [])) j 0) (omega arith)
 
-  pub lower-bits : (i : ℕ) → getD (x .lower) i 0 < 2
-  lower-bits i = elim (decLt i (length (x .lower))) [
+  pub lower-bits : (i : ℕ) → getD lower i 0 < 2
+  lower-bits i = elim (decLt i (length lower)) [
     | yes c ↦
-        subst (λ n. n < 2) (coefficient-bit i ∙ List·getD-append (x .lower) (1 ∷ []) 0 i c)
-        (digit-below (getD f ((4159 - r .degree + i) / 64) 0) ((4159 - r .degree + i) % 64))
-    | no c ↦ subst (λ n. n < 2) (sym (List·getD-eq-default (x .lower) 0 (omega arith))) (omega arith)
+        let k = 4159 - length lower + i in
+        subst (λ n. n < 2) (coefficient-bit i ∙ List·getD-append lower (1 ∷ []) 0 i c)
+        (digit-below (getD w (k / 64) 0) (k % 64))
+    | no c ↦ subst (λ n. n < 2) (sym (List·getD-eq-default lower 0 (omega arith))) (omega arith)
   ]
 
 pub hold-sizes :
-    {ts : List ℕ} {r : Known} {f g : List ℕ} {a : ℕ}
-    → Hold ts r f g a
+    {ts : List ℕ} {r : Progress} {f g : List ℕ} {a : ℕ}
+    → WordsHold ts r f g a
     → (r .degree ≤ r .seen) × (r .earlier + r .degree ≤ r .seen + 1)
 hold-sizes {ts} {r} h =
     let z = massey-sizes (prime 2) (inverse (prime 2)) ts (r .seen) in
@@ -226,7 +223,7 @@ image-skip ts f n (suc z) l m h i =
     ∙ image-fits ts f (n + z) (omega arith) (omega arith) (h z (omega arith)) i
     ∙ ap (λ n. image ts f n i) e
 
-module _ {ts : List ℕ} {r : Known} {f g : List ℕ} {a : ℕ} (h : Hold ts r f g a) where
+module _ {ts : List ℕ} {r : Progress} {f g : List ℕ} {a : ℕ} (h : WordsHold ts r f g a) where
   abbrev x : MasseyState
   x = masseyAfter (prime 2) (inverse (prime 2)) ts (r .seen)
 
@@ -273,10 +270,10 @@ module _ {ts : List ℕ} {r : Known} {f g : List ℕ} {a : ℕ} (h : Hold ts r f
         ∙ after-skip ts (r .seen) (n - r .seen)
         (λ i l. sym (acts (r .seen + i) (omega arith)) ∙ zero-acts i l)
 
-    pub hold-reached : {r′ : Known} → r′ ≡ reachedWith r n → Hold ts r′ f g a
+    pub hold-reached : {r′ : Progress} → r′ ≡ reachedWith r n → WordsHold ts r′ f g a
     hold-reached {r′} u =
-        subst (λ r. Hold ts r f g a) (sym u)
-        (subst (λ x. Stands ts x (reachedWith r n) f g a) (sym skipped)
+        subst (λ r. WordsHold ts r f g a) (sym u)
+        (subst (λ x. WordsStand ts x (reachedWith r n) f g a) (sym skipped)
         (record {
           degree = h .degree;
           earlier = h .earlier;
@@ -294,7 +291,7 @@ module _ {ts : List ℕ} {r : Known} {f g : List ℕ} {a : ℕ} (h : Hold ts r f
           previous = h .previous;
         }))
 
-    pub hold-misfit : {r′ : Known} → n < m → r′ ≡ reachedWith r n → Misfits ts r′
+    pub hold-misfit : {r′ : Progress} → n < m → r′ ≡ reachedWith r n → Misfits ts r′
     hold-misfit {r′} l u =
         let one : 1 ≡ discrepancy (prime 2) ts n (x .lower) =
         sym (k .one l) ∙ told n (k .low) (omega arith) ∙ acts n (k .low) in
@@ -305,10 +302,10 @@ module _ {ts : List ℕ} {r : Known} {f g : List ℕ} {a : ℕ} (h : Hold ts r f
         absurd (omega arith))
 
 -- g is moved down
-module _ (ts : List ℕ) {r r′ : Known} {g g′ : List ℕ} {a : ℕ} (k : Aligned r g a r′ g′) where
-  pub hold-aligned : {f : List ℕ} → Hold ts r f g a → Hold ts r′ f g′ a
+module _ (ts : List ℕ) {r r′ : Progress} {g g′ : List ℕ} {a : ℕ} (k : Aligned r g a r′ g′) where
+  pub hold-aligned : {f : List ℕ} → WordsHold ts r f g a → WordsHold ts r′ f g′ a
   hold-aligned {f} h =
-      subst (λ r. Hold ts r f g′ a) (sym (k .numbers))
+      subst (λ r. WordsHold ts r f g′ a) (sym (k .numbers))
       (record {
         degree = h .degree;
         earlier = h .earlier;
@@ -318,7 +315,7 @@ module _ (ts : List ℕ) {r r′ : Known} {g g′ : List ℕ} {a : ℕ} (k : Ali
         first = h .first;
         second = k .words;
         current = h .current;
-        previous = aligned-image (marked ts _ (start r)) (start r) k (h .least) (h .previous);
+        previous = aligned-image (marked ts _ (changedAt r)) (changedAt r) k (h .least) (h .previous);
       })
 
   pub misfit-aligned : Misfits ts r → Misfits ts r′
@@ -332,7 +329,7 @@ correction-one =
     ∙ negative-bit 1 (omega arith)
 
 -- A step
-module _ (ts : List ℕ) {r : Known} {f g : List ℕ} {a : ℕ} (h : Hold ts r f g a) (nonzero : Misfits ts r)
+module _ (ts : List ℕ) {r : Progress} {f g : List ℕ} {a : ℕ} (h : WordsHold ts r f g a) (nonzero : Misfits ts r)
     (b : 64 * a + r .seen < 4096) where
   abbrev now′ : MasseyState
   now′ = masseyAfter (prime 2) (inverse (prime 2)) ts (r .seen)
@@ -353,18 +350,18 @@ module _ (ts : List ℕ) {r : Known} {f g : List ℕ} {a : ℕ} (h : Hold ts r f
       ∙ after-suc (prime 2) (inverse (prime 2)) ts (r .seen)
 
   restate :
-      {y : MasseyState} {f′ g′ : List ℕ} {r′ r″ : Known}
+      {y : MasseyState} {f′ g′ : List ℕ} {r′ r″ : Progress}
       → masseyAfter (prime 2) (inverse (prime 2)) ts (r .seen + 1) ≡ y
       → r′ ≡ r″
       → r″ .seen ≡ r .seen + 1
-      → Stands ts y r″ f′ g′ a
-      → Stepped ts r r′ f′ g′ a
+      → WordsStand ts y r″ f′ g′ a
+      → WordsStepped ts r r′ f′ g′ a
   restate {y} {f′} {g′} {r′} {r″} e u v s =
-      subst (λ r′. Stepped ts r r′ f′ g′ a) (sym u)
+      subst (λ r′. WordsStepped ts r r′ f′ g′ a) (sym u)
       (record {
         seen = v;
         holds =
-            subst (λ z. Stands ts z r″ f′ g′ a)
+            subst (λ z. WordsStand ts z r″ f′ g′ a)
             (sym (ap (masseyAfter (prime 2) (inverse (prime 2)) ts) v ∙ e)) s;
       })
 
@@ -372,6 +369,9 @@ module _ (ts : List ℕ) {r : Known} {f g : List ℕ} {a : ℕ} (h : Hold ts r f
   factor =
       ap₂ (correction (prime 2) (inverse (prime 2))) (discrepancy-one ts (r .seen) lower nonzero) (h .one)
       ∙ correction-one
+
+  bits : (i : ℕ) → getD lower i 0 < 2
+  bits = lower-bits ts f lower (r .seen) (64 * a) (omega (arith, counts)) (h .current)
 
   -- the former image of f, as a marked one
   marked-current :
@@ -387,16 +387,16 @@ module _ (ts : List ℕ) {r : Known} {f g : List ℕ} {a : ℕ} (h : Hold ts r f
       {f′ : List ℕ} (y : List ℕ) (j k : ℕ)
       → Added f g a (r .seen + 1 - r .aligned) f′
       → length y ≡ k + length (lower ++ (1 ∷ []))
-      → j + length earlier + (r .seen + 1 - start r) ≡ length y
+      → j + length earlier + (r .seen + 1 - changedAt r) ≡ length y
       → length y ≤ r .seen + 2
-      → j + length earlier ≤ start r + 64
+      → j + length earlier ≤ changedAt r + 64
       → ((i : ℕ) → getD y i 0 ≡ (getD (raised k (lower ++ (1 ∷ []))) i 0 + getD (raised j earlier) i 0) % 2)
       → (i : ℕ)
       → 64 * a ≤ i
       → bitOf f′ i ≡ image ts y (r .seen + 1) i
   corrected y j k u d m s w e i l =
       let n = r .seen + 1 in
-      let c = start r in
+      let c = changedAt r in
       let z : c ≤ n = omega (arith, h .least, h .most) in
       let q : i + (n - r .aligned) + (r .aligned - c) ≡ i + (n - c) = omega (arith, h .least, h .most) in
       u .bit i l
@@ -420,11 +420,11 @@ module _ (ts : List ℕ) {r : Known} {f g : List ℕ} {a : ℕ} (h : Hold ts r f
 
   -- f + x^(L−m)·g
   pub hold-kept :
-      {f′ : List ℕ} {r′ : Known}
+      {f′ : List ℕ} {r′ : Progress}
       → m ≤ r .degree
       → Added f g a (r .seen + 1 - r .aligned) f′
       → r′ ≡ reachedWith r (r .seen + 1)
-      → Stepped ts r r′ f′ g a
+      → WordsStepped ts r r′ f′ g a
   hold-kept {f′} l u e =
       let s = r .degree - m in
       let d = h .degree in
@@ -446,7 +446,7 @@ module _ (ts : List ℕ) {r : Known} {f g : List ℕ} {a : ℕ} (h : Hold ts r f
             corrected (kept (prime 2) 1 s lower earlier ++ (1 ∷ [])) s 0 u (omega arith)
             (omega (arith, counts)) (omega (arith, counts)) (omega arith)
             (λ j.
-            kept-bit 1 s lower earlier (lower-bits h (omega (arith, counts))) i j
+            kept-bit 1 s lower earlier bits i j
             ∙ ap₂ (λ x y. (x + y) % 2) (sym (raised-none (lower ++ (1 ∷ [])) j)) (omega arith));
         previous = h .previous;
       })
@@ -463,11 +463,11 @@ module _ (ts : List ℕ) {r : Known} {f g : List ℕ} {a : ℕ} (h : Hold ts r f
 
   -- x^(m−L)·f + g, and the former f becomes g
   pub hold-changed :
-      {f′ g′ : List ℕ} {r′ : Known}
+      {f′ g′ : List ℕ} {r′ : Progress}
       → r .degree < m
       → Exchanged f g a (r .seen + 1 - r .aligned) f′ g′
       → r′ ≡ changedWith r
-      → Stepped ts r r′ f′ g′ a
+      → WordsStepped ts r r′ f′ g′ a
   hold-changed {f′} {g′} l u e =
       let s = m - r .degree in
       let d = h .degree in
@@ -477,7 +477,7 @@ module _ (ts : List ℕ) {r : Known} {f g : List ℕ} {a : ℕ} (h : Hold ts r f
       let n = length-append lower (1 ∷ []) in
       let o = length-append (changed (prime 2) 1 s lower earlier) (1 ∷ []) in
       let y = changed (prime 2) 1 s lower earlier ++ (1 ∷ []) in
-      let k = length y - length earlier - (r .seen + 1 - start r) in
+      let k = length y - length earlier - (r .seen + 1 - changedAt r) in
       restate (changed-state l) e refl
       (record {
         degree = omega arith;
@@ -491,13 +491,13 @@ module _ (ts : List ℕ) {r : Known} {f g : List ℕ} {a : ℕ} (h : Hold ts r f
             corrected (changed (prime 2) 1 s lower earlier ++ (1 ∷ [])) k s (u .added) (omega arith)
             (omega (arith, counts)) (omega (arith, counts)) (omega (arith, counts))
             (λ j.
-            changed-bit 1 s lower earlier (lower-bits h (omega (arith, counts))) i j
+            changed-bit 1 s lower earlier bits i j
             ∙ ap (λ x. (getD (raised s (lower ++ (1 ∷ []))) j 0 + x) % 2)
             (times-one (getD earlier j 0)
             ∙ sym (raised-same k earlier j (λ t. omega (arith, counts)))));
         previous = λ i t.
-            let z : start (changedWith r) ≡ r .seen + 1 = omega (arith, counts) in
-            let q : i ≡ i + (r .seen + 1 - start (changedWith r)) = omega arith in
+            let z : changedAt (changedWith r) ≡ r .seen + 1 = omega (arith, counts) in
+            let q : i ≡ i + (r .seen + 1 - changedAt (changedWith r)) = omega arith in
             u .bit i t
             ∙ h .current i t
             ∙ marked-current i

@@ -1,43 +1,43 @@
 -- The reduction over GF(2): from the highest place down f loses a multiple of x^s·g.
 --
---   Turning ts r f g a == what the loop keeps, for s = 2·L − n and the n terms that r has seen: reduced by s
---                        turns more, what stands in the place of f is the first polynomial that fits
---   turning-none, turning-end == before the first turn, and after the last
---   turning-degree   == the degree is at most 4,096
---   turning-sizes    == g has a coefficient, and the place of its leading one in x^s·g is one of f
---   turning-reducible, turning-cancelled == a turn can be taken, and is
---   cancelled-numbers == the terms seen and the degree are as they were
+--   WordsTurning ts r f g a == what the loop keeps, for s = 2·L − n where `seen` is n, counted on from the
+--                        terms: reduced by s turns more, what stands in the place of f is the first
+--                        polynomial that fits
+--   words-turning-none, words-turning-end == before the first turn, and after the last
+--   words-turning-degree == the degree is at most 4,096
+--   words-turning-reducible, words-turning-cancelled == a turn can be taken, and is
+--   cancelled-numbers == the numbers seen and the degree are as they were
 --   hold-degree, reduced-shortest == the degree is at most 4,096, and what is to be written
 --
 -- Assumes nothing.
-use Prim.Native.Nat.{ℕ, zero, suc, _+_, _-_, _*_, _/_, _%_, _≤_, _<_}
+use Prim.Native.Nat.{ℕ, zero, suc, _+_, _-_, _*_, _%_, _≤_, _<_}
 use mathlib.Core.Path.{_≡_, sym, ap, ap₂, subst, _∙_}
 use mathlib.Core.List.{List, [], _∷_, _++_}
 use native.Mathlib.Nat as ℕ
-use native.Mathlib.Decide.{decLt}
 use native.Mathlib.Omega.{arith}
-use lib.ListN.{length, getD, length-append, List·getD-append, List·getD-eq-default}
+use lib.ListN.{length, getD, length-append, List·getD-append}
 use lib.Seq.{ext-getD}
 use Rattle.meaning.specs.Field.{prime, negative}
 use Rattle.meaning.specs.Result.{written, cleared}
-use Rattle.bridge.proofs.WordLists.{digit-below, raised-none}
+use Rattle.bridge.proofs.WordLists.{raised-none}
 use Rattle.bridge.proofs.MasseyBits.{kept-bit, negative-bit}
-use Rattle.bridge.proofs.MasseyImages.{image, marked, image-high, marked-off, image-upper}
+use Rattle.bridge.proofs.MasseyImages.{image, marked, marked-off, image-upper}
 use Rattle.bridge.proofs.MasseySteps.{MasseyState, masseyAfter, kept, length-kept, massey-sizes}
 use Rattle.bridge.proofs.MasseySteps.{massey-earlier}
 use Rattle.bridge.proofs.MasseyFirst.{reduceAt, reduced, firstLower, masseyFirst, reduced-zero}
 use Rattle.bridge.proofs.MasseyFirst.{reduced-suc}
 use Rattle.arith.specs.Inverse.{inverse}
-use Rattle.massey.specs.declared.binary.Known.{Known}
-use Rattle.massey.specs.words.Words.{bitOf, bitsFrom, Words, Added}
+use Rattle.massey.specs.declared.binary.Progress.{Progress}
+use Rattle.massey.specs.words.Words.{bitOf, bitsFrom, Room, Added}
 use Rattle.massey.specs.Shortest.{ShortestRecurrence}
-use Rattle.massey.specs.binary.Binary.{start, reachedWith, alignedWith, Aligned, Stands, Hold}
-use Rattle.massey.specs.binary.Binary.{Cancelled, none, taken, Reducible, Reduced}
+use Rattle.massey.specs.binary.Binary.{changedAt, reachedWith, alignedWith, Aligned, WordsStand, WordsHold}
+use Rattle.massey.specs.binary.Binary.{Cancelled, none, taken, Reducible, WordsReduced}
 use Rattle.massey.proofs.Reducing.{after}
 use Rattle.massey.proofs.words.Packing.{bits-all}
 use Rattle.massey.proofs.binary.Aligning.{aligned-image}
+use Rattle.massey.proofs.binary.Standing.{coefficient-bit, lower-bits}
 
-pub record Turning (ts : List ℕ) (r : Known) (f g : List ℕ) (a : ℕ) : Type 0 where
+pub record WordsTurning (ts : List ℕ) (r : Progress) (f g : List ℕ) (a : ℕ) : Type 0 where
   pub lower : List ℕ
   pub rest : reduced (prime 2) (after (prime 2) ts .previous) (2 * r .degree - r .seen) lower
       ≡ firstLower (prime 2) (length ts) (after (prime 2) ts)
@@ -46,13 +46,13 @@ pub record Turning (ts : List ℕ) (r : Known) (f g : List ℕ) (a : ℕ) : Type
   pub earlier : r .earlier ≡ length (after (prime 2) ts .previous)
   pub from : length ts ≤ r .seen
   pub room : 64 * a + length ts ≤ 4096
-  pub least : start r ≤ r .aligned
+  pub least : changedAt r ≤ r .aligned
   pub most : r .aligned ≤ r .seen + 1
-  pub first : Words f
-  pub second : Words g
+  pub first : Room f
+  pub second : Room g
   pub current : (i : ℕ) → 4096 - length ts ≤ i → bitOf f i ≡ image ts (lower ++ (1 ∷ [])) (length ts) i
   pub previous : (i : ℕ) → 64 * a ≤ i
-      → bitOf g i ≡ marked ts (after (prime 2) ts .previous) (start r) (i + (r .aligned - start r))
+      → bitOf g i ≡ marked ts (after (prime 2) ts .previous) (changedAt r) (i + (r .aligned - changedAt r))
 
 -- a leading 1 is a bit too
 led-bits : (f : List ℕ) → ((i : ℕ) → getD f i 0 < 2) → (i : ℕ) → getD (f ++ (1 ∷ [])) i 0 < 2
@@ -74,15 +74,15 @@ module _ (ts : List ℕ) where
   abbrev t : MasseyState
   t = after (prime 2) ts
 
-  pub turning-none :
-      {r : Known} {f g : List ℕ} {a : ℕ}
+  pub words-turning-none :
+      {r : Progress} {f g : List ℕ} {a : ℕ}
       → 64 * a + length ts ≤ 4096
       → r .seen ≡ length ts
-      → Hold ts r f g a
-      → Turning ts r f g a
-  turning-none {r} {f} {g} {a} b e h =
-      let held : Stands ts t r f g a =
-      subst (λ n. Stands ts (masseyAfter (prime 2) (inverse (prime 2)) ts n) r f g a) e h in
+      → WordsHold ts r f g a
+      → WordsTurning ts r f g a
+  words-turning-none {r} {f} {g} {a} b e h =
+      let held : WordsStand ts t r f g a =
+      subst (λ n. WordsStand ts (masseyAfter (prime 2) (inverse (prime 2)) ts n) r f g a) e h in
       let k : 2 * r .degree - r .seen ≡ 2 * length (t .lower) - length ts = omega (arith, held .degree) in
       record {
         lower = t .lower;
@@ -101,33 +101,32 @@ module _ (ts : List ℕ) where
         previous = held .previous;
       }
 
-  -- the coefficients of f
-  coefficient :
-      {r : Known} {f g : List ℕ} {a : ℕ} (h : Turning ts r f g a)
-      → r .degree ≤ length ts
-      → (i : ℕ)
-      → bitOf f (4159 - r .degree + i) ≡ getD (h .lower ++ (1 ∷ [])) i 0
-  coefficient {r} h d i =
-      let l = length-append (h .lower) (1 ∷ []) in
-      let s = h .size in
-      let b = h .room in
-      h .current (4159 - r .degree + i) (omega arith)
-      ∙ image-high ts (h .lower ++ (1 ∷ [])) (length ts) (4159 - r .degree + i) (omega arith)
-      ∙ ap (λ j. getD (h .lower ++ (1 ∷ [])) j 0) (omega arith)
-
-  degree-small : {r : Known} {f g : List ℕ} {a : ℕ} → Turning ts r f g a → r .degree ≤ length ts
+  degree-small : {r : Progress} {f g : List ℕ} {a : ℕ} → WordsTurning ts r f g a → r .degree ≤ length ts
   degree-small h = omega (arith, massey-sizes (prime 2) (inverse (prime 2)) ts (length ts), h .degree)
 
-  pub turning-degree : {r : Known} {f g : List ℕ} {a : ℕ} → Turning ts r f g a → r .degree ≤ 4096
-  turning-degree h = omega (arith, degree-small h, h .room)
+  -- the coefficients of f
+  coefficients-room :
+      {r : Progress} {f g : List ℕ} {a : ℕ} (h : WordsTurning ts r f g a)
+      → 4096 - length ts + length (h .lower) ≤ 4159
+  coefficients-room h = omega (arith, degree-small h, h .size, h .room)
 
-  pub turning-end :
-      {r : Known} {f g : List ℕ} {a : ℕ} (k : Known)
+  coefficient :
+      {r : Progress} {f g : List ℕ} {a : ℕ} (h : WordsTurning ts r f g a) (i : ℕ)
+      → bitOf f (4159 - r .degree + i) ≡ getD (h .lower ++ (1 ∷ [])) i 0
+  coefficient {r} {f} h i =
+      ap (λ d. bitOf f (4159 - d + i)) (h .size)
+      ∙ coefficient-bit ts f (h .lower) (length ts) (4096 - length ts) (coefficients-room h) (h .current) i
+
+  pub words-turning-degree : {r : Progress} {f g : List ℕ} {a : ℕ} → WordsTurning ts r f g a → r .degree ≤ 4096
+  words-turning-degree h = omega (arith, degree-small h, h .room)
+
+  pub words-turning-end :
+      {r : Progress} {f g : List ℕ} {a : ℕ} (k : Progress)
       → r .degree ≡ k .degree
-      → Turning ts r f g a
+      → WordsTurning ts r f g a
       → 2 * r .degree ≤ r .seen
-      → Reduced ts k f
-  turning-end {r} {f} k q h l =
+      → WordsReduced ts k f
+  words-turning-end {r} {f} k q h l =
       let n : 0 ≡ 2 * r .degree - r .seen = omega arith in
       let e : h .lower ≡ firstLower (prime 2) (length ts) t =
       sym (reduced-zero (prime 2) (t .previous) (h .lower))
@@ -139,13 +138,13 @@ module _ (ts : List ℕ) where
             (omega (arith, length-append (h .lower) (1 ∷ []), h .size));
         first = λ i _.
             ap (λ d. bitOf f (4159 - d + i)) (sym q)
-            ∙ coefficient h (degree-small h) i
+            ∙ coefficient h i
             ∙ ap (λ f. getD (f ++ (1 ∷ [])) i 0) e;
       }
 
-  module _ {r : Known} {f g : List ℕ} {a : ℕ} (h : Turning ts r f g a) (b : r .seen < 2 * r .degree) where
-    pub turning-sizes : (1 ≤ r .earlier) × (r .degree + r .earlier ≤ r .seen + 1) × (r .degree ≤ 4096)
-    turning-sizes =
+  module _ {r : Progress} {f g : List ℕ} {a : ℕ} (h : WordsTurning ts r f g a) (b : r .seen < 2 * r .degree) where
+    words-turning-sizes : (1 ≤ r .earlier) × (r .degree + r .earlier ≤ r .seen + 1) × (r .degree ≤ 4096)
+    words-turning-sizes =
         let z = massey-sizes (prime 2) (inverse (prime 2)) ts (length ts) in
         let d = h .earlier in
         let i =
@@ -156,9 +155,9 @@ module _ (ts : List ℕ) where
         (omega (arith, h .degree)) in
         (omega arith, omega (arith, h .degree, h .from), omega (arith, h .degree, h .room))
 
-    pub turning-reducible : Reducible r f g a
-    turning-reducible =
-        let z = turning-sizes in
+    pub words-turning-reducible : Reducible r f g a
+    words-turning-reducible =
+        let z = words-turning-sizes in
         record {
           words = (h .first, h .second);
           from = omega (arith, h .room);
@@ -177,43 +176,37 @@ module _ (ts : List ℕ) where
     s = 2 * r .degree - 1 - r .seen
 
     bits : (i : ℕ) → getD u i 0 < 2
-    bits i = elim (decLt i (length u)) [
-      | yes c ↦
-          subst (λ n. n < 2)
-          (coefficient h (degree-small h) i ∙ List·getD-append u (1 ∷ []) 0 i c)
-          (digit-below (getD f ((4159 - r .degree + i) / 64) 0) ((4159 - r .degree + i) % 64))
-      | no c ↦ subst (λ n. n < 2) (sym (List·getD-eq-default u 0 (omega arith))) (omega arith)
-    ]
+    bits = lower-bits ts f u (length ts) (4096 - length ts) (coefficients-room h) (h .current)
 
     fits : s + length v ≤ length u
-    fits = omega (arith, turning-sizes, h .size, h .earlier)
+    fits = omega (arith, words-turning-sizes, h .size, h .earlier)
 
     -- the coefficient of f that is to become 0
     place : bitOf f (4157 + r .degree + r .earlier - r .seen) ≡ getD u (length v - 1 + s) 0
     place =
-        let z = turning-sizes in
+        let z = words-turning-sizes in
         let d = h .size in
         let e = h .earlier in
         let i : 4157 + r .degree + r .earlier - r .seen ≡ 4159 - r .degree + (length v - 1 + s) =
         omega arith in
         ap (bitOf f) i
-        ∙ coefficient h (degree-small h) (length v - 1 + s)
+        ∙ coefficient h (length v - 1 + s)
         ∙ List·getD-append u (1 ∷ []) 0 (length v - 1 + s) (omega arith)
 
     -- f + c·x^s·g
     turned :
-        {r′ : Known} {f′ g′ : List ℕ} (c : ℕ)
+        {r′ : Progress} {f′ g′ : List ℕ} (c : ℕ)
         → negative (prime 2) (getD u (length v - 1 + s) 0) ≡ c
         → r′ ≡ alignedWith r (r′ .aligned)
         → r .aligned ≤ r′ .aligned
         → r′ .aligned ≤ r .seen + 1
-        → Words f′
-        → Words g′
+        → Room f′
+        → Room g′
         → ((i : ℕ)
         → 4096 - length ts ≤ i
         → bitOf f′ i ≡ image ts (kept (prime 2) c s u v ++ (1 ∷ [])) (length ts) i)
-        → ((i : ℕ) → 64 * a ≤ i → bitOf g′ i ≡ marked ts v (start r) (i + (r′ .aligned - start r)))
-        → Turning ts (reachedWith r′ (r′ .seen + 1)) f′ g′ a
+        → ((i : ℕ) → 64 * a ≤ i → bitOf g′ i ≡ marked ts v (changedAt r) (i + (r′ .aligned - changedAt r)))
+        → WordsTurning ts (reachedWith r′ (r′ .seen + 1)) f′ g′ a
     unfolding reduceAt
     turned {r′} {f′} {g′} c e q m o x y p w =
         let k : s ≤ length u = omega (arith, fits) in
@@ -222,7 +215,7 @@ module _ (ts : List ℕ) where
         let z : r′ .earlier ≡ r .earlier = ap (λ r. r .earlier) q in
         let j : 2 * r′ .degree - (r′ .seen + 1) ≡ s = omega arith in
         let i : suc s ≡ 2 * r .degree - r .seen = omega arith in
-        let st : start r ≡ r′ .degree + r′ .earlier - 1 = omega arith in
+        let st : changedAt r ≡ r′ .degree + r′ .earlier - 1 = omega arith in
         record {
           lower = reduceAt (prime 2) v s u;
           rest =
@@ -259,25 +252,25 @@ module _ (ts : List ℕ) where
         ∙ ap (λ n. n % 2) (omega arith)
         ∙ ℕ.mod-eq-of-lt (led-bits u bits i))
 
-    module _ {r′ : Known} {f′ g′ : List ℕ} (k : Aligned r g a r′ g′)
+    module _ {r′ : Progress} {f′ g′ : List ℕ} (k : Aligned r g a r′ g′)
         (m : Added f g′ a (r .seen + 1 - r′ .aligned) f′) where
       aligned-previous :
           (i : ℕ)
           → 64 * a ≤ i
-          → bitOf g′ i ≡ marked ts v (start r) (i + (r′ .aligned - start r))
-      aligned-previous = aligned-image (marked ts v (start r)) (start r) k (h .least) (h .previous)
+          → bitOf g′ i ≡ marked ts v (changedAt r) (i + (r′ .aligned - changedAt r))
+      aligned-previous = aligned-image (marked ts v (changedAt r)) (changedAt r) k (h .least) (h .previous)
 
       added-current :
           (i : ℕ)
           → 4096 - length ts ≤ i
           → bitOf f′ i ≡ image ts (kept (prime 2) 1 s u v ++ (1 ∷ [])) (length ts) i
       added-current i l =
-          let z = turning-sizes in
+          let z = words-turning-sizes in
           let o = length-append u (1 ∷ []) in
           let w = length-append (kept (prime 2) 1 s u v) (1 ∷ []) in
           let size = length-kept (prime 2) 1 s u v (omega (arith, fits)) in
           let j = i + (r .seen + 1 - r′ .aligned) in
-          let e : j + (r′ .aligned - start r) ≡ i + (r .seen + 1 - start r) =
+          let e : j + (r′ .aligned - changedAt r) ≡ i + (r .seen + 1 - changedAt r) =
           omega (arith, h .least, k .more, k .most) in
           let y = h .room in
           let q = h .size in
@@ -287,64 +280,64 @@ module _ (ts : List ℕ) where
           m .bit i (omega arith)
           ∙ ap₂ (λ x y. (x + y) % 2) (h .current i l)
           (aligned-previous j (omega arith)
-          ∙ ap (marked ts v (start r)) e
-          ∙ marked-off ts v (start r) (i + (r .seen + 1 - start r)) (λ q. omega arith))
+          ∙ ap (marked ts v (changedAt r)) e
+          ∙ marked-off ts v (changedAt r) (i + (r .seen + 1 - changedAt r)) (λ q. omega arith))
           ∙ sym
-          (image-upper ts (u ++ (1 ∷ [])) v (kept (prime 2) 1 s u v ++ (1 ∷ [])) (length ts) (start r)
-          (r .seen + 1 - start r) s 0 (omega arith)
-          (ap (λ n. s + n + (r .seen + 1 - start r)) (sym d)
+          (image-upper ts (u ++ (1 ∷ [])) v (kept (prime 2) 1 s u v ++ (1 ∷ [])) (length ts) (changedAt r)
+          (r .seen + 1 - changedAt r) s 0 (omega arith)
+          (ap (λ n. s + n + (r .seen + 1 - changedAt r)) (sym d)
           ∙ moved (r .degree) (r .earlier) (r .seen) (z .0) (z .1) b
           ∙ ap (λ n. n + 1) (q ∙ sym size)
           ∙ sym w)
           (omega arith) (omega arith)
-          (subst (λ n. s + n ≤ start r + 64) d (reach (r .degree) (r .earlier) (r .seen) (z .1)))
+          (subst (λ n. s + n ≤ changedAt r + 64) d (reach (r .degree) (r .earlier) (r .seen) (z .1)))
           (omega arith)
           (λ j.
           kept-bit 1 s u v bits fits j
           ∙ ap₂ (λ x y. (x + y) % 2) (sym (raised-none (u ++ (1 ∷ [])) j)) (omega arith))
           i l)
 
-    pub turning-cancelled :
-        {r′ : Known} {f′ g′ : List ℕ}
+    pub words-turning-cancelled :
+        {r′ : Progress} {f′ g′ : List ℕ}
         → Cancelled r f g a r′ f′ g′
-        → Turning ts (reachedWith r′ (r′ .seen + 1)) f′ g′ a
-    turning-cancelled {r′} {f′} {g′} (none z q x y) =
+        → WordsTurning ts (reachedWith r′ (r′ .seen + 1)) f′ g′ a
+    words-turning-cancelled {r′} {f′} {g′} (none z q x y) =
         let e : r′ .aligned ≡ r .aligned = ap (λ r. r .aligned) q in
         turned 0 (ap (negative (prime 2)) (sym place ∙ z) ∙ negative-bit 0 (omega arith))
         (q ∙ ap (alignedWith r) (sym e)) (omega arith) (omega (arith, h .most))
-        (subst Words (sym x) (h .first)) (subst Words (sym y) (h .second))
+        (subst Room (sym x) (h .first)) (subst Room (sym y) (h .second))
         (λ i l. ap (λ w. bitOf w i) x ∙ h .current i l ∙ ap (λ f. image ts f (length ts) i) (sym same))
         (λ i l.
         ap (λ w. bitOf w i) y
         ∙ h .previous i l
-        ∙ ap (λ n. marked ts v (start r) (i + (n - start r))) (sym e))
-    turning-cancelled {r′} {f′} {g′} (taken z k m) =
+        ∙ ap (λ n. marked ts v (changedAt r) (i + (n - changedAt r))) (sym e))
+    words-turning-cancelled {r′} {f′} {g′} (taken z k m) =
         let y = subst (λ n. Added f g′ a (n + 1 - r′ .aligned) f′) (ap (λ r. r .seen) (k .numbers)) m in
         turned 1 (ap (negative (prime 2)) (sym place ∙ z) ∙ negative-bit 1 (omega arith)) (k .numbers)
         (k .more) (k .most) (y .words) (k .words) (added-current k y) (aligned-previous k y)
 
 pub cancelled-numbers :
-    {r r′ : Known} {f g f′ g′ : List ℕ} {a : ℕ}
+    {r r′ : Progress} {f g f′ g′ : List ℕ} {a : ℕ}
     → Cancelled r f g a r′ f′ g′
     → (r′ .seen ≡ r .seen) × (r′ .degree ≡ r .degree)
 cancelled-numbers (none z q x y) = (ap (λ r. r .seen) q, ap (λ r. r .degree) q)
 cancelled-numbers (taken z k m) = (ap (λ r. r .seen) (k .numbers), ap (λ r. r .degree) (k .numbers))
 
 -- After the last turn
-pub hold-degree : {ts : List ℕ} {r : Known} {f g : List ℕ} {a : ℕ}
+pub hold-degree : {ts : List ℕ} {r : Progress} {f g : List ℕ} {a : ℕ}
     → length ts ≤ 4096
     → r .seen ≡ length ts
-    → Hold ts r f g a
+    → WordsHold ts r f g a
     → r .degree ≤ 4096
 hold-degree {ts} {r} b e h =
     omega (arith, massey-sizes (prime 2) (inverse (prime 2)) ts (r .seen), h .degree)
 
 pub reduced-shortest :
-    (ts : List ℕ) {f g w answer work answer′ work′ : List ℕ} {r : Known} {a : ℕ}
+    (ts : List ℕ) {f g w answer work answer′ work′ : List ℕ} {r : Progress} {a : ℕ}
     → length ts ≤ 4096
     → r .seen ≡ length ts
-    → Hold ts r f g a
-    → Reduced ts r w
+    → WordsHold ts r f g a
+    → WordsReduced ts r w
     → answer′ ≡ written (bitsFrom w (4159 - r .degree) (r .degree + 1)) answer
     → work′ ≡ cleared work
     → ShortestRecurrence (prime 2) ts answer work (r .degree) answer′ work′

@@ -20,7 +20,7 @@ use native.Mathlib.Omega.{arith}
 use Rattle.bridge.proofs.Monics.{digit}
 use Rattle.bridge.proofs.WordLists.{digit-below, digit-zero, digit-beyond, digit-xor, digit-shr}
 use Rattle.bridge.proofs.WordLists.{digit-shl-low, digit-shl-high}
-use Rattle.massey.specs.words.Words.{bitOf, Window, Words, Moved, Added, Exchanged}
+use Rattle.massey.specs.words.Words.{bitOf, Window, Room, Moved, Added, Exchanged}
 
 -- A bit and none
 left-bit : (a b : ℕ) → a < 2 → b ≡ 0 → (a + b) % 2 ≡ a
@@ -65,7 +65,7 @@ bit-word w j r l =
     let k = mod-lt (64 * j + r) {m = 64} (omega arith) in
     ap₂ (λ a b. digit 2 (getD w a 0) b) (omega arith) (omega arith)
 
-pub words-beyond : {w : List ℕ} → Words w → (i : ℕ) → 4160 ≤ i → bitOf w i ≡ 0
+pub words-beyond : {w : List ℕ} → Room w → (i : ℕ) → 4160 ≤ i → bitOf w i ≡ 0
 words-beyond {w} h i l = ap (λ v. digit 2 v (i % 64)) word ∙ digit-zero (i % 64)
   where
     word : getD w (i / 64) 0 ≡ 0
@@ -117,14 +117,14 @@ module _ (g : List ℕ) (a : ℕ) where
           ∙ h .rest (j + 1) (omega arith)
           ∙ ap (λ i. getD g (i + 1) 0) (sym q)
 
-  pub moving-end : {j : ℕ} {w : List ℕ} → Words g → 65 ≤ j → j ≤ 65 → Moving g a j w → Moved g a w
+  pub moving-end : {j : ℕ} {w : List ℕ} → Room g → 65 ≤ j → j ≤ 65 → Moving g a j w → Moved g a w
   moving-end {j} {w} p b c h =
       record {
         words = words;
         bit = λ i l. place i l (decLt i 4160);
       }
     where
-      words : Words w
+      words : Room w
       words = record { size = h .size ∙ p .size; last = h .rest 65 (omega arith) ∙ p .last }
 
       place : (i : ℕ) → 64 * a ≤ i → Dec (i < 4160) → bitOf w i ≡ bitOf g (i + 64)
@@ -210,15 +210,15 @@ module _ (f g : List ℕ) (a k : ℕ) where
 
   pub adding-end :
       {j : ℕ} {w : List ℕ}
-      → Words f
-      → Words g
+      → Room f
+      → Room g
       → 65 ≤ j
       → j ≤ 65
       → Adding f g a k j w
       → Added f g a k w
   adding-end {j} {w} p q b c h = record { words = words; bit = λ i l. place i l (decLt i 4160) }
     where
-      words : Words w
+      words : Room w
       words = record { size = h .size ∙ p .size; last = h .rest 65 (omega arith) ∙ p .last }
 
       place : (i : ℕ) → 64 * a ≤ i → Dec (i < 4160) → bitOf w i ≡ (bitOf f i + bitOf g (i + k)) % 2
@@ -280,8 +280,8 @@ module _ (f g : List ℕ) (a k : ℕ) where
 
   pub exchanging-end :
       {j : ℕ} {w u : List ℕ}
-      → Words f
-      → Words g
+      → Room f
+      → Room g
       → 65 ≤ j
       → j ≤ 65
       → Exchanging f g a k j w u
@@ -293,7 +293,7 @@ module _ (f g : List ℕ) (a k : ℕ) where
         bit = λ i l. place i l (decLt i 4160);
       }
     where
-      words : Words u
+      words : Room u
       words = record { size = h .size ∙ q .size; last = h .rest 65 (omega arith) ∙ q .last }
 
       place : (i : ℕ) → 64 * a ≤ i → Dec (i < 4160) → bitOf u i ≡ bitOf f i

@@ -11,6 +11,7 @@ use mathlib.Core.Path.{_≡_, sym, ap, _∙_}
 use mathlib.Core.Logic.{_≢_}
 use mathlib.Core.List.{List}
 use lib.ListN.{getD}
+use lib.Arith.{lt-of-le-ne}
 use lib.Count.{leadingZeros, leading-top}
 use native.Mathlib.Nat.{mod-lt, div-add-mod'}
 use native.Mathlib.Decide.{decLt}
@@ -61,10 +62,8 @@ module _ {f : List ℕ} {n t : ℕ} (h : Searching f n t) (b : t < 4096) where
 
   module _ (p : rest ≢ 0) where
     top : (j : ℕ) × (leadingZeros 64 rest + suc j ≡ 64) × (2 ^ j ≤ rest) × (rest < 2 ^ suc j)
-    top = leading-top 64 rest (positive rest p) (mod-lt _ (omega arith))
-      where
-        positive : (a : ℕ) → a ≢ 0 → 0 < a
-        positive a q = elim (decLt 0 a) [ yes c ↦ c | no c ↦ absurd (q (omega arith)) ]
+    top =
+        leading-top 64 rest (lt-of-le-ne {k = rest} (omega arith) (λ e. p (sym e))) (mod-lt _ (omega arith))
 
     -- the first 1 is in the same word
     same : t + leadingZeros 64 rest < 64 * (t / 64 + 1)

@@ -3,7 +3,7 @@
 --   bitOf w i          == bit i of the words w, 0 beyond them
 --   bitsFrom w o n     == the n bits from bit o on
 --   Window l u k v     == v has the bits of the word l from k on, and then those of u
---   Words w            == w has 66 words, and the last is 0
+--   Room w            == w has 66 words, and the last is 0
 --   Moved g a g′       == g′ has the bits of g that are a word above, from word a on
 --   Added f g a k f′   == f′ has the sums of the bits of f and of those of g that are k bits above, from word
 --                         a on
@@ -30,21 +30,21 @@ pub record Window (l u k v : ℕ) : Type 0 where
   pub low : (r : ℕ) → k + r < 64 → digit 2 v r ≡ digit 2 l (k + r)
   pub high : (r : ℕ) → r < 64 → 64 ≤ k + r → digit 2 v r ≡ digit 2 u (k + r - 64)
 
-pub record Words (w : List ℕ) : Type 0 where
+pub record Room (w : List ℕ) : Type 0 where
   pub size : length w ≡ 66
   pub last : getD w 65 0 ≡ 0
 
 pub record Moved (g : List ℕ) (a : ℕ) (g′ : List ℕ) : Type 0 where
-  pub words : Words g′
+  pub words : Room g′
   pub bit : (i : ℕ) → 64 * a ≤ i → bitOf g′ i ≡ bitOf g (i + 64)
 
 pub record Added (f g : List ℕ) (a k : ℕ) (f′ : List ℕ) : Type 0 where
-  pub words : Words f′
+  pub words : Room f′
   pub bit : (i : ℕ) → 64 * a ≤ i → bitOf f′ i ≡ (bitOf f i + bitOf g (i + k)) % 2
 
 pub record Exchanged (f g : List ℕ) (a k : ℕ) (f′ g′ : List ℕ) : Type 0 where
   pub added : Added f g a k f′
-  pub words : Words g′
+  pub words : Room g′
   pub bit : (i : ℕ) → 64 * a ≤ i → bitOf g′ i ≡ bitOf f i
 
 pub record NextOne (f : List ℕ) (n m r : ℕ) : Type 0 where

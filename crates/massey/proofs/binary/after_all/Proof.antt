@@ -3,7 +3,7 @@
 use Prim.Native.Nat.{_-_, _≤_}
 use lib.ListN.{length}
 use denote.Ref.{now}
-use Rattle.massey.specs.binary.Binary.{Hold}
+use Rattle.massey.specs.binary.Binary.{WordsHold}
 use Rattle.massey.proofs.binary.Standing.{hold-start, hold-sizes}
 use borrow.Author.Needs.{needs}
 use native.Mathlib.Omega.{arith}
@@ -11,7 +11,7 @@ use Rattle.massey.proofs.binary.after_all.Statement.{statement}
 use Rattle.massey.proofs.binary.after_all.Tie as tie
 
 abbrev Inv-loop : tie.InvT-loop
-Inv-loop terms f₀ g₀ a known₀ f g known = (known .seen ≤ length terms) × Hold terms known f g a
+Inv-loop terms f₀ g₀ a known₀ f g known = (known .seen ≤ length terms) × WordsHold terms known f g a
 
 abbrev μ-loop : tie.MeasureT-loop
 μ-loop terms f₀ g₀ a known₀ f g known = length terms - known .seen

@@ -3,14 +3,14 @@
 use Prim.Native.Nat.{_-_, _*_}
 use mathlib.Core.Path.{_≡_, refl, _∙_}
 use denote.Ref.{now}
-use Rattle.massey.proofs.binary.Turning.{Turning, turning-none, turning-degree, turning-end}
-use Rattle.massey.proofs.binary.Turning.{turning-reducible, turning-cancelled, cancelled-numbers}
+use Rattle.massey.proofs.binary.Turning.{WordsTurning, words-turning-none, words-turning-degree, words-turning-end}
+use Rattle.massey.proofs.binary.Turning.{words-turning-reducible, words-turning-cancelled, cancelled-numbers}
 use native.Mathlib.Omega.{arith}
 use Rattle.massey.proofs.binary.reduce.Statement.{statement}
 use Rattle.massey.proofs.binary.reduce.Tie as tie
 
 abbrev Inv-loop : tie.InvT-loop
-Inv-loop terms known₀ f₀ g₀ a l known f g = (known .degree ≡ l) × Turning terms known f g a
+Inv-loop terms known₀ f₀ g₀ a l known f g = (known .degree ≡ l) × WordsTurning terms known f g a
 
 abbrev μ-loop : tie.MeasureT-loop
 μ-loop terms known₀ f₀ g₀ a l known f g = 2 * l - known .seen
@@ -18,19 +18,19 @@ abbrev μ-loop : tie.MeasureT-loop
 loop-holds : tie.Need-loop-holds Inv-loop μ-loop
 loop-holds c =
     let s = c .before .before .before in
-    (refl, turning-none (now (s .args .terms)) (s .pre .0 .0) (s .pre .0 .1) (s .pre .1))
+    (refl, words-turning-none (now (s .args .terms)) (s .pre .0 .0) (s .pre .0 .1) (s .pre .1))
 
 mul-if1 : tie.Need-mul-if1 Inv-loop μ-loop
-mul-if1 c = omega (arith, c .loop .inv .0, turning-degree _ (c .loop .inv .1))
+mul-if1 c = omega (arith, c .loop .inv .0, words-turning-degree _ (c .loop .inv .1))
 
 cancel-requires : tie.Need-cancel-requires Inv-loop μ-loop
-cancel-requires c κs = turning-reducible _ (c .before .before .before .before .loop .inv .1) (omega arith)
+cancel-requires c κs = words-turning-reducible _ (c .before .before .before .before .loop .inv .1) (omega arith)
 
 add-known : tie.Need-add-known Inv-loop μ-loop
 add-known c =
     let k = c .before .before .before .before .before in
     let l = k .before .before .before .before .before .loop in
-    omega (arith, cancelled-numbers (k .cancel .ensures), l .inv .0, turning-degree _ (l .inv .1))
+    omega (arith, cancelled-numbers (k .cancel .ensures), l .inv .0, words-turning-degree _ (l .inv .1))
 
 loop-less : tie.Need-loop-less Inv-loop μ-loop
 loop-less c =
@@ -43,7 +43,7 @@ loop-again c =
     let k = c .before .before .before .before .before in
     let l = k .before .before .before .before .before .loop in
     let e = k .cancel .ensures in
-    (cancelled-numbers e .1 ∙ l .inv .0, turning-cancelled _ (l .inv .1) (omega (arith, l .inv .0)) e)
+    (cancelled-numbers e .1 ∙ l .inv .0, words-turning-cancelled _ (l .inv .1) (omega (arith, l .inv .0)) e)
 
 same-length : tie.Need-same-length Inv-loop μ-loop
 same-length c =
@@ -58,7 +58,7 @@ same-length-2 c =
 returns : tie.Need-returns Inv-loop μ-loop
 returns c =
     let l = c .before .before .loop in
-    turning-end _ _ (l .inv .0) (l .inv .1) (omega (arith, l .inv .0))
+    words-turning-end _ _ (l .inv .0) (l .inv .1) (omega (arith, l .inv .0))
 
 pub reduce-spec : {M : Type 1} → statement M
 reduce-spec =
