@@ -3,3 +3,5 @@ pub mod Inverse
 pub mod Slices
 pub mod sums
 pub mod products
+pub mod negation
+pub mod recurrence

@@ -1,1 +1,2 @@
 pub mod continuation
+pub mod monic

@@ -1,5 +1,6 @@
 // The continuation of a sequence in a lent buffer.
 pub mod continuation;
+mod monic;
 
 use crate::continuation::fill;
 use arith::GaloisField;
