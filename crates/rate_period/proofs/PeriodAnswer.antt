@@ -4,18 +4,17 @@
 --   period-lent, period-input == accepted: what the way asks
 --   period-answerable == what the answer asks of the power found
 --   period-rated      == the result with the multiple, where the verdict accepts
---   given-some, given-itself == a factor that is let pass has a coefficient; a monic one is its own multiple
 --   given-refused, given-rated == the contract of the call, where what is given is refused, and where it is
 --                        rated
 --
 -- Assumes nothing.
-use Prim.Native.Nat.{ℕ, _-_, _≤_, _<_}
+use Prim.Native.Nat.{ℕ, _≤_}
 use mathlib.Core.Path.{_≡_, refl, sym, ap, ap₂, subst, _∙_}
 use mathlib.Core.Bool.{Bool, false}
 use mathlib.Core.List.{List, [], _∷_, _++_}
 use mathlib.Core.Option.{Option, none, some}
 use native.Mathlib.Omega.{arith}
-use lib.ListN.{length, getD}
+use lib.ListN.{length}
 use lib.Dec.{T}
 use Rattle.meaning.specs.declared.Refusal.{Refusal}
 use Rattle.meaning.specs.declared.PowerRating.{PowerRating}
@@ -29,8 +28,6 @@ use Rattle.meaning.specs.Answers.{numberOf}
 use Rattle.meaning.specs.Calls.{PeriodCall}
 use Rattle.meaning.proofs.Passes.{Passes}
 use Rattle.bridge.proofs.Interpretation.{inRange-isField}
-use Rattle.bridge.proofs.Polynomials.{leading-nonempty, monic-over}
-use Rattle.bridge.proofs.Multiples.{multiple-self}
 use Rattle.bridge.proofs.Irreducibles.{accepted-irreducible}
 use Rattle.bridge.proofs.Accepted.{prime-accepted, count-accepted, terms-accepted}
 use Rattle.irreducible.proofs.Accepted.{accepted-short}
@@ -47,7 +44,7 @@ use Rattle.bridge.proofs.Accepted.{lent-enough}
 use Rattle.refusals.proofs.Lent.{never-clears}
 use Rattle.period_way.proofs.one_factor.OneFactor.{call-rating, call-lent, settled-none, settled-some}
 use Rattle.period_way.proofs.one_factor.OneFactor.{factor-monic, factor-positive, refused-as, given-ten}
-use Rattle.period_way.proofs.one_factor.OneFactor.{given-eleven, given-prime, given-leads}
+use Rattle.period_way.proofs.one_factor.OneFactor.{given-eleven}
 
 module _ (p : ℕ) (f : Polynomial) (ts : List ℕ) (answer work : ℕ) (x : Multiple p f ts) where
   -- the result with the monic multiple f
@@ -164,18 +161,6 @@ module _ (p : ℕ) (f ts answer work : List ℕ) (m : Multiple p f ts) {v : Verd
         rating = call-rating p f ts h k y z;
         lent = call-lent p f ts h k y z (count-accepted (length ts) (m .countInRange) .0) (x .work);
       }
-
--- what is given, where it is let pass
-module _ (p : ℕ) (f ts : List ℕ) {v : Verdict} (e : numberIn v ≡ firstOf (givenTable p f ts)) (q : v
-    ≡ Verdict.Accepted) where
-  pub given-some : 0 < length f
-  given-some = leading-nonempty f (given-leads p f ts e q refl .nonzero)
-
-  pub given-itself : getD f (length f - 1) 0 ≡ 1 → monicMultiple (prime p) f ≡ f
-  given-itself one =
-      multiple-self (inRange-isField p (given-prime p f ts e q)) f
-      (monic-over (prime p) f (length f - 1) (omega (arith, given-some)) one
-      (given-leads p f ts e q refl .elements))
 
 -- the call
 module _ (p : ℕ) (f ts answer work : List ℕ) {v : Verdict} (e : numberIn v

@@ -40,9 +40,9 @@ fn rate_multiple(
 
 // The least power of the factor that annihilates the endless repetition of the terms, with the degree of the
 // factor to this power and the repeat length, which is their shortest period; or the refusal by 6, 7, 8, 10,
-// 11, 12, 16 or 17. The factor stands for its monic multiple; a monic one is its own, and no copy is made of
-// it. Accepted, it leaves the multiple to the least power at the front of the answer; accepted or refused by
-// 17, zeros in the first 8,192 work bytes. Every other lent byte stays as it was.
+// 11, 12, 16 or 17. The factor stands for its monic multiple. Accepted, it leaves the multiple to the least
+// power at the front of the answer; accepted or refused by 17, zeros in the first 8,192 work bytes. Every
+// other lent byte stays as it was.
 pub fn rate_period(
     p: u64,
     factor: &[u8],
@@ -57,13 +57,9 @@ pub fn rate_period(
         Verdict::Refused(r) => PowerRating::Refused(r),
         Verdict::Accepted => {
             let field = GaloisField::of_prime(p);
-            let n = factor.len();
-            if factor[n - 1] == 1 {
-                return rate_multiple(field, p, factor, terms, answer, work);
-            }
             let mut multiple = [0u8; 33];
             monic_multiple(field, factor, &mut multiple);
-            rate_multiple(field, p, &multiple[0..n], terms, answer, work)
+            rate_multiple(field, p, &multiple[0..factor.len()], terms, answer, work)
         }
     }
 }

@@ -1,16 +1,14 @@
--- `rate_period` meets its contract: what is given is refused, or its monic multiple is rated, which a monic
--- factor is itself.
+-- `rate_period` meets its contract: what is given is refused, or its monic multiple is rated.
 -- Assumes nothing.
-use borrow.Author.Needs.{needs}
-use native.Mathlib.Omega.{arith}
 use mathlib.Core.Path.{sym, subst}
 use Prim.Native.Nat.{ℕ}
-use lib.ListN.{length, replicate, length-replicate}
+use lib.ListN.{replicate, length-replicate}
 use denote.Ref.{now}
 use Rattle.period_way.specs.one_factor.OneFactor.{Multiple}
 use Rattle.period_way.proofs.one_factor.OneFactor.{given-prime, given-multiple, given-leads, given-short}
 use Rattle.period_way.proofs.one_factor.OneFactor.{given-front, given-room}
-use Rattle.rate_period.proofs.PeriodAnswer.{given-some, given-itself, given-refused, given-rated}
+use Rattle.rate_period.proofs.PeriodAnswer.{given-refused, given-rated}
+use borrow.Author.Needs.{needs}
 use Rattle.rate_period.proofs.rate_period.Statement.{statement}
 use Rattle.rate_period.proofs.rate_period.Tie as tie
 
@@ -27,51 +25,12 @@ of-prime-requires : tie.Need-of-prime-requires
 of-prime-requires c κs =
     given-prime _ _ _ (c .before .before .given-verdict .ensures) (c .enum-told .given .1)
 
-sub-if1 : tie.Need-sub-if1
-sub-if1 c =
-    let a = c .before in
-    omega (arith, given-some _ _ _ (a .before .before .given-verdict .ensures) (a .enum-told .given .1))
-
-shared-slice-read-if1 : tie.Need-shared-slice-read-if1
-shared-slice-read-if1 c =
-    let a = c .before .before in
-    omega (arith, given-some _ _ _ (a .before .before .given-verdict .ensures) (a .enum-told .given .1))
-
-rate-multiple-requires : tie.Need-rate-multiple-requires
-rate-multiple-requires c κs =
-    let t = c .before .before in
-    let o = t .before .before in
-    let a = o .before in
-    let s = a .before .before .before .before .before .before .before in
-    let e = a .before .before .given-verdict .ensures in
-    let q = a .enum-told .given .1 in (
-      o .of-prime .ensures,
-      subst (λ g. Multiple (s .args .p) g (now (s .args .terms)))
-          (given-itself _ _ _ e q (t .if1 .taken))
-          (given-multiple _ _ _ e q),
-    )
-
-same-length : tie.Need-same-length
-same-length c = search needs
-
-same-length-2 : tie.Need-same-length-2
-same-length-2 c = search needs
-
-returns : tie.Need-returns
-returns c =
-    let r = c .before .before .before .before in
-    let t = r .before .before .before in
-    let a = t .before .before .before in
-    let e = a .before .before .given-verdict .ensures in
-    let q = a .enum-told .given .1 in
-    given-rated _ _ _ _ _ e q (sym (given-itself _ _ _ e q (t .if1 .taken))) (r .rate-multiple .ensures)
-
 slice-aggregate-monic-multiple : tie.Need-slice-aggregate-monic-multiple
 slice-aggregate-monic-multiple c = search needs
 
 monic-multiple-requires : tie.Need-monic-multiple-requires
 monic-multiple-requires c κs =
-    let o = c .before .before .before in
+    let o = c .before in
     let a = o .before in
     let e = a .before .before .given-verdict .ensures in
     let q = a .enum-told .given .1 in
@@ -89,16 +48,16 @@ part-rate-multiple-start c = search needs
 part-rate-multiple-end : tie.Need-part-rate-multiple-end
 part-rate-multiple-end c =
     let m = c .before .before in
-    let o = m .before .before .before .before in
+    let o = m .before .before in
     let a = o .before in
     given-room _ _ _ (a .before .before .given-verdict .ensures) (a .enum-told .given .1)
     (o .of-prime .ensures .isField)
     (replicate 33 0) (length-replicate {A = ℕ} 33 0) (m .monic-multiple .ensures)
 
-rate-multiple-requires-2 : tie.Need-rate-multiple-requires-2
-rate-multiple-requires-2 c κs =
+rate-multiple-requires : tie.Need-rate-multiple-requires
+rate-multiple-requires c κs =
     let m = c .before .before .before .before .before in
-    let o = m .before .before .before .before in
+    let o = m .before .before in
     let a = o .before in
     let s = a .before .before .before .before .before .before .before in
     let e = a .before .before .given-verdict .ensures in
@@ -110,27 +69,27 @@ rate-multiple-requires-2 c κs =
           (given-multiple _ _ _ e q),
     )
 
-returns-2 : tie.Need-returns-2
-returns-2 c =
+returns : tie.Need-returns
+returns c =
     given-refused _ _ _ _ _ (c .before .before .before .given-verdict .ensures) (c .before .r .given .1)
 
-same-length-3 : tie.Need-same-length-3
-same-length-3 c = search needs
+same-length : tie.Need-same-length
+same-length c = search needs
 
-same-length-4 : tie.Need-same-length-4
-same-length-4 c = search needs
+same-length-2 : tie.Need-same-length-2
+same-length-2 c = search needs
 
-returns-3 : tie.Need-returns-3
-returns-3 c =
+returns-2 : tie.Need-returns-2
+returns-2 c =
     let r = c .before .before .before .before in
     let m = r .before .before .before .before .before .before in
-    let o = m .before .before .before .before in
+    let o = m .before .before in
     let a = o .before in
     let e = a .before .before .given-verdict .ensures in
     let q = a .enum-told .given .1 in
     given-rated _ _ _ _ _ e q
     (given-front _ _ _ e q (o .of-prime .ensures .isField) (replicate 33 0) (m .monic-multiple .ensures))
-    (r .rate-multiple2 .ensures)
+    (r .rate-multiple .ensures)
 
 pub rate-period-spec : {M : Type 1} → statement M
 rate-period-spec =
@@ -140,19 +99,13 @@ rate-period-spec =
     enum-known-r
     enum-told
     of-prime-requires
-    sub-if1
-    shared-slice-read-if1
-    rate-multiple-requires
-    same-length
-    same-length-2
-    returns
     slice-aggregate-monic-multiple
     monic-multiple-requires
     sub-rate-multiple
     part-rate-multiple-start
     part-rate-multiple-end
-    rate-multiple-requires-2
-    returns-2
-    same-length-3
-    same-length-4
-    returns-3)
+    rate-multiple-requires
+    returns
+    same-length
+    same-length-2
+    returns-2)
