@@ -1,10 +1,10 @@
 // The free way over GF(2), on words of bits, by the steps that it takes over any field: a correction is 1,
-// and a sum an exclusive or. The 66 words of f have its coefficients at the top, the leading one in bit 4,159,
-// and below them its discrepancies at the terms to come, that at t(n) in bit 4,095 − n. Those of g, an earlier
-// f, have what f had when it became g, also the 1 of the term that it did not fit, moved down by whole words.
-// So a correction is one sum, of f and of g moved down until the bits of the two terms meet, and the next term
-// that f does not fit is the next bit that is 1. Assumes at most 4,096 terms; a is the first word that has the
-// bit of one of them.
+// and a sum an exclusive or. The 66 words of f have its coefficients at the top, the leading one in bit
+// 4,159, and below them its discrepancies at the terms to come, that at t(n) in bit 4,095 − n. Those of g, an
+// earlier f, have what f had when it became g, also the 1 of the term that it did not fit, moved down by
+// whole words. So a correction is one sum, of f and of g moved down until the bits of the two terms meet, and
+// the next term that f does not fit is the next bit that is 1. Assumes at most 4,096 terms; a is the first
+// word that has the bit of one of them.
 use crate::words::add_moved;
 use crate::words::bit_at;
 use crate::words::exchange;
@@ -22,7 +22,8 @@ ghost use Rattle.massey.specs.step.Steps.{RoomFor};
 ghost use Rattle.massey.specs.Shortest.{ShortestRecurrence};
 ghost use Rattle.massey.specs.words.Words.{Room, TermsPacked};
 ghost use Rattle.massey.specs.binary.Binary.{reachedWith, changedWith, Aligned, WordsReady, WordsHold};
-ghost use Rattle.massey.specs.binary.Binary.{Misfits, WordsStepped, WordsAdvanced, Cancelled, Reducible, WordsReduced};
+ghost use Rattle.massey.specs.binary.Binary.{Misfits, WordsStepped, WordsAdvanced, Cancelled};
+ghost use Rattle.massey.specs.binary.Binary.{Reducible, WordsReduced};
 
 // What is known after the terms seen, beside the words of f and g: how many they are, the degree L of f, how
 // many coefficients g has, and to what g is aligned: for a correction at t(n) it is moved down by
@@ -77,8 +78,8 @@ fn align(mut known: Progress, g: &mut [u64], a: usize) -> Progress
 // former f becomes g. Both are f and g moved down.
 fn correct(known: Progress, f: &mut [u64], g: &mut [u64], a: usize) -> Progress
     requires { ⌜ WordsReady known (now f) (now g) a ⌝ }
-    ensures { λ r. ⌜ ((ts : List ℕ) → WordsHold ts known (now (f .entry)) (now (g .entry)) a → Misfits ts known
-        → WordsStepped ts known r (now (f .exit)) (now (g .exit)) a) ⌝ }
+    ensures { λ r. ⌜ ((ts : List ℕ) → WordsHold ts known (now (f .entry)) (now (g .entry)) a
+        → Misfits ts known → WordsStepped ts known r (now (f .exit)) (now (g .exit)) a) ⌝ }
 {
     let n = known.seen;
     let l = known.degree;
@@ -133,9 +134,9 @@ fn after_all(terms: &[u8], f: &mut [u64], g: &mut [u64], a: usize) -> Progress
     known
 }
 
-// A turn of the reduction, which counts on from the terms as if f did not fit any after them: for n so counted
-// leaves f + c·x^s·g in the place of f, s = 2·L − 1 − n, for the coefficient c of f at the place of the leading
-// one of x^s·g. Where c is not 0 g is aligned, as for a correction at t(n).
+// A turn of the reduction, which counts on from the terms as if f did not fit any after them: for n so
+// counted leaves f + c·x^s·g in the place of f, s = 2·L − 1 − n, for the coefficient c of f at the place of
+// the leading one of x^s·g. Where c is not 0 g is aligned, as for a correction at t(n).
 fn cancel(known: Progress, f: &mut [u64], g: &mut [u64], a: usize) -> Progress
     requires { ⌜ Reducible known (now f) (now g) a ⌝ }
     ensures { λ r. ⌜ Cancelled known (now (f .entry)) (now (g .entry)) a r (now (f .exit)) (now (g .exit)) ⌝ }
@@ -155,8 +156,8 @@ fn reduce(terms: &[u8], mut known: Progress, f: &mut [u64], g: &mut [u64], a: us
     ensures { λ _. ⌜ WordsReduced (now (terms .entry)) known (now (f .exit)) ⌝ }
 {
     let l = known.degree;
-    // f is 0 at the places from e + s to e + w − 1, for the degree e of g, s = 2·L − n for n counted so far and
-    // w = 2·L − m for m terms
+    // f is 0 at the places from e + s to e + w − 1, for the degree e of g, s = 2·L − n for n counted so far
+    // and w = 2·L − m for m terms
     while known.seen < 2 * l {
         known = cancel(known, f, g, a);
         known.seen = known.seen + 1;

@@ -143,7 +143,8 @@ module _ (ts f g : List ℕ) (p : TermsPacked ts f) (l : length g ≡ 66)
           let q : i ≡ 4096 + (i - 4096) = omega arith in
           ap (bitOf second) q
           ∙ second-top (i - 4096) (omega arith)
-          ∙ digit-beyond {d = 1} (omega arith) (lt-of-le-ne {k = i - 4096} (omega arith) (λ n. e (omega arith)))
+          ∙ digit-beyond {d = 1} (omega arith)
+          (lt-of-le-ne {k = i - 4096} (omega arith) (λ n. e (omega arith)))
 
   pub hold-start :
       (a : ℕ)
@@ -329,8 +330,8 @@ correction-one =
     ∙ negative-bit 1 (omega arith)
 
 -- A step
-module _ (ts : List ℕ) {r : Progress} {f g : List ℕ} {a : ℕ} (h : WordsHold ts r f g a) (nonzero : Misfits ts r)
-    (b : 64 * a + r .seen < 4096) where
+module _ (ts : List ℕ) {r : Progress} {f g : List ℕ} {a : ℕ} (h : WordsHold ts r f g a)
+    (nonzero : Misfits ts r) (b : 64 * a + r .seen < 4096) where
   abbrev now′ : MasseyState
   now′ = masseyAfter (prime 2) (inverse (prime 2)) ts (r .seen)
 

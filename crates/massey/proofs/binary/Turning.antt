@@ -30,7 +30,8 @@ use Rattle.arith.specs.Inverse.{inverse}
 use Rattle.massey.specs.declared.binary.Progress.{Progress}
 use Rattle.massey.specs.words.Words.{bitOf, bitsFrom, Room, Added}
 use Rattle.massey.specs.Shortest.{ShortestRecurrence}
-use Rattle.massey.specs.binary.Binary.{changedAt, reachedWith, alignedWith, Aligned, WordsStand, WordsHold}
+use Rattle.massey.specs.binary.Binary.{changedAt, reachedWith, alignedWith, Aligned, WordsStand}
+use Rattle.massey.specs.binary.Binary.{WordsHold}
 use Rattle.massey.specs.binary.Binary.{Cancelled, none, taken, Reducible, WordsReduced}
 use Rattle.massey.proofs.Reducing.{after}
 use Rattle.massey.proofs.words.Packing.{bits-all}
@@ -117,7 +118,8 @@ module _ (ts : List ℕ) where
       ap (λ d. bitOf f (4159 - d + i)) (h .size)
       ∙ coefficient-bit ts f (h .lower) (length ts) (4096 - length ts) (coefficients-room h) (h .current) i
 
-  pub words-turning-degree : {r : Progress} {f g : List ℕ} {a : ℕ} → WordsTurning ts r f g a → r .degree ≤ 4096
+  pub words-turning-degree :
+      {r : Progress} {f g : List ℕ} {a : ℕ} → WordsTurning ts r f g a → r .degree ≤ 4096
   words-turning-degree h = omega (arith, degree-small h, h .room)
 
   pub words-turning-end :
@@ -142,7 +144,8 @@ module _ (ts : List ℕ) where
             ∙ ap (λ f. getD (f ++ (1 ∷ [])) i 0) e;
       }
 
-  module _ {r : Progress} {f g : List ℕ} {a : ℕ} (h : WordsTurning ts r f g a) (b : r .seen < 2 * r .degree) where
+  module _ {r : Progress} {f g : List ℕ} {a : ℕ} (h : WordsTurning ts r f g a)
+      (b : r .seen < 2 * r .degree) where
     words-turning-sizes : (1 ≤ r .earlier) × (r .degree + r .earlier ≤ r .seen + 1) × (r .degree ≤ 4096)
     words-turning-sizes =
         let z = massey-sizes (prime 2) (inverse (prime 2)) ts (length ts) in

@@ -88,7 +88,8 @@ pub record WordsStepped (ts : List ℕ) (r r′ : Progress) (f g : List ℕ) (a 
   pub seen : r′ .seen ≡ r .seen + 1
   pub holds : WordsHold ts r′ f g a
 
-pub record WordsAdvanced (ts : List ℕ) (r : Progress) (m : ℕ) (r′ : Progress) (f g : List ℕ) (a : ℕ) : Type 0 where
+pub record WordsAdvanced (ts : List ℕ) (r : Progress) (m : ℕ) (r′ : Progress) (f g : List ℕ) (a : ℕ)
+    : Type 0 where
   pub more : r .seen < r′ .seen
   pub most : r′ .seen ≤ m
   pub holds : WordsHold ts r′ f g a

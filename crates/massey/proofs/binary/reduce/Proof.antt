@@ -3,8 +3,9 @@
 use Prim.Native.Nat.{_-_, _*_}
 use mathlib.Core.Path.{_≡_, refl, _∙_}
 use denote.Ref.{now}
-use Rattle.massey.proofs.binary.Turning.{WordsTurning, words-turning-none, words-turning-degree, words-turning-end}
-use Rattle.massey.proofs.binary.Turning.{words-turning-reducible, words-turning-cancelled, cancelled-numbers}
+use Rattle.massey.proofs.binary.Turning.{WordsTurning, words-turning-none, words-turning-degree}
+use Rattle.massey.proofs.binary.Turning.{words-turning-end, words-turning-reducible}
+use Rattle.massey.proofs.binary.Turning.{words-turning-cancelled, cancelled-numbers}
 use native.Mathlib.Omega.{arith}
 use Rattle.massey.proofs.binary.reduce.Statement.{statement}
 use Rattle.massey.proofs.binary.reduce.Tie as tie
@@ -24,7 +25,8 @@ mul-if1 : tie.Need-mul-if1 Inv-loop μ-loop
 mul-if1 c = omega (arith, c .loop .inv .0, words-turning-degree _ (c .loop .inv .1))
 
 cancel-requires : tie.Need-cancel-requires Inv-loop μ-loop
-cancel-requires c κs = words-turning-reducible _ (c .before .before .before .before .loop .inv .1) (omega arith)
+cancel-requires c κs =
+    words-turning-reducible _ (c .before .before .before .before .loop .inv .1) (omega arith)
 
 add-known : tie.Need-add-known Inv-loop μ-loop
 add-known c =
