@@ -75,7 +75,7 @@ fn align(mut known: Progress, g: &mut [u64], a: usize) -> Progress
 
 // What is known after one term more, t(n) for n terms seen, which f does not fit. With m = n + 1 − L, the
 // degree where it changes: f becomes f + x^(L−m)·g where m is at most L, and where not x^(m−L)·f + g, and the
-// former f becomes g. Both are f and g moved down.
+// former f becomes g. In the words both are the sum of f and g moved down.
 fn correct(known: Progress, f: &mut [u64], g: &mut [u64], a: usize) -> Progress
     requires { ⌜ WordsReady known (now f) (now g) a ⌝ }
     ensures { λ r. ⌜ ((ts : List ℕ) → WordsHold ts known (now (f .entry)) (now (g .entry)) a
