@@ -238,6 +238,26 @@ fn one_term_changed() -> Outcome {
     Ok(cases)
 }
 
+// One term that is not 0, beside the borders of blocks of 256 places, in periods on both sides of whole blocks. The action of
+// x − 1 is 0 in all blocks but one or two, and 17 refuses all but the periods of 256 and 512 terms over GF(2).
+fn one_term_in_a_block() -> Outcome {
+    let mut cases = 0;
+    for p in [2, 3, 5, 251] {
+        for n in (255..=258).chain(511..=514) {
+            for place in [0, 254, 255, 256, 257, n - 2, n - 1] {
+                let mut terms = vec![0; n];
+                let Some(term) = terms.get_mut(place) else {
+                    continue;
+                };
+                *term = p - 1;
+                agrees(&inputs::period(p, &[p - 1, 1], &terms))?;
+                cases += 1;
+            }
+        }
+    }
+    Ok(cases)
+}
+
 fn main() {
     run(
         "period",
@@ -254,6 +274,7 @@ fn main() {
             ("no power of x", no_power_of_x),
             ("two factors", two_factors),
             ("one term changed", one_term_changed),
+            ("one term in a block", one_term_in_a_block),
             ("every leading coefficient", || faults::multiples(Way::Period)),
             ("refused by 6", || faults::not_prime(Way::Period)),
             ("refused by 7", || faults::counts(Way::Period)),

@@ -1,7 +1,7 @@
 // The stores of the search for a period's power, counted by running. The counting copy of the sources, which
 // tests/counting/copy makes anew for each run, rates periods of N = p^w·N' terms as the call does, and stores single terms
-// at most N·(2 + w·(p − 1)) times, the final zeros apart; it prints stores and bounds, which docs/READING.md shows. Three
-// wrong copies, with right answers, are caught.
+// at most N·(2 + w·(p − 1)) times, the final zeros apart, and no more than the search needs; it prints stores and bounds,
+// which docs/READING.md shows. Three wrong copies, with right answers, are caught.
 mod common;
 
 use arith::GaloisField;
@@ -72,8 +72,20 @@ impl Period {
         w
     }
 
+    // The bound of request 2026-04.
     fn bound(&self) -> usize {
         self.terms.len() * (2 + self.exponent() * (self.p as usize - 1))
+    }
+
+    // The stores that the search needs at most: it loads the first p^w·deg f terms, and each further power tried leaves
+    // no more; where 17 refuses the period, it stores none.
+    fn needed(&self) -> usize {
+        if self.rating.is_err() {
+            return 0;
+        }
+        let (p, w) = (self.p as usize, self.exponent());
+        let loaded = self.terms.len().min(p.pow(w as u32) * (self.f.len() - 1));
+        loaded * (1 + w * (p - 1))
     }
 
     fn name(&self) -> String {
@@ -136,9 +148,10 @@ fn stores(counts: &Counts, period: &Period) -> Result<usize, String> {
     Ok(stores)
 }
 
-// The number of single terms that a copy's call stores, where it is within the bound.
+// The number of single terms that a copy's call stores, where it is within the bound and what is needed.
 fn stores_within(call: Call, period: &Period) -> Result<usize, String> {
-    let (stores, bound) = (stores(&counts(call, period), period)?, period.bound());
+    let stores = stores(&counts(call, period), period)?;
+    let bound = period.bound().min(period.needed());
     if stores <= bound {
         Ok(stores)
     } else {
@@ -296,10 +309,11 @@ fn lines() -> Vec<Line> {
         powers(random, 2, &twelve, "of degree 12", 4095, &[1]),
     ];
     for p in [3, 5, 61, 251] {
-        let mut line = powers(random, p, &[p - 1, 1], "x − 1", 4096, &[1, 0]);
-        line.input += " or refused";
-        line.periods.push(refused(random, p, &[p - 1, 1], 4096));
-        lines.push(line);
+        lines.push(powers(random, p, &[p - 1, 1], "x − 1", 4096, &[1, 0]));
+        lines.push(Line {
+            input: "x − 1, refused".to_string(),
+            periods: vec![refused(random, p, &[p - 1, 1], 4096)],
+        });
     }
     for (p, n, tried) in [
         (3, 2187, [2187, 1094, 1]),
@@ -429,12 +443,13 @@ fn files() -> Outcome {
     })
 }
 
-// A wrong copy answers right, so that it is the count that tells: at w = 0, where nothing is left of the bound.
+// A wrong copy answers right, so that it is the count that tells: of a period that is rated at w = 0, where the terms are
+// loaded and no power below p^w is tried.
 fn caught(call: Call, tell: impl Fn(&Period) -> Result<(), String>) -> Outcome {
     let mut cases = 0;
     for period in lines().iter().flat_map(|line| &line.periods) {
         same_answers(call, period)?;
-        if period.exponent() > 0 {
+        if period.exponent() > 0 || period.rating.is_err() {
             continue;
         }
         if tell(period).is_ok() {

@@ -9,7 +9,7 @@ ghost use Rattle.meaning.specs.Sequence.{cut, periodic};
 ghost use Rattle.bridge.proofs.KnownActions.{allZero};
 ghost use Rattle.arith.specs.Represented.{fieldOf, WellFormed};
 ghost use Rattle.arith.specs.Slices.{combined};
-ghost use Rattle.lent.specs.blocks.Blocks.{blockOnPeriod, Block, BlockActed};
+ghost use Rattle.lent.specs.blocks.Blocks.{blockOnPeriod, Places, Block, BlockActed};
 ghost use Rattle.action.specs.bits.Bits.{bytes, bitsOf};
 use arith::GaloisField;
 use lent::blocks::act_block;
@@ -81,6 +81,28 @@ fn store(sums: &[u8], out: &mut [u8]) -> bool
         any = any | value;
     }
     any == 0
+}
+
+// Whether all sums stand for 0.
+fn are_zero(sums: &[u8]) -> bool
+    ensures { λ r. ⌜ r ≡ allZero (bitsOf (now (sums .entry))) ⌝ }
+{
+    // `any` is 0 where the first i elements are all 0
+    let mut any: u8 = 0;
+    for i in 0..sums.len() {
+        any = any | (sums[i] % 2);
+    }
+    any == 0
+}
+
+// Answers over GF(2) as `block_is_zero` of lent does over any field.
+pub(crate) fn bits_are_zero(ts: &[u8], i: usize, f: &[u8], q: usize, m: usize) -> bool
+    requires { ⌜ Places (length (now ts)) i m ⌝ }
+    ensures { λ r. ⌜ r ≡ allZero (blockOnPeriod (prime 2) (now (f .entry)) q (now (ts .entry)) i m) ⌝ }
+{
+    let mut sums = [0u8; 256];
+    sum_up(&mut sums[0..m], ts, i, f, q % ts.len());
+    are_zero(&sums[0..m])
 }
 
 // Acts over GF(2) as `act_block` of lent does over any field.

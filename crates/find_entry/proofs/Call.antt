@@ -3,15 +3,14 @@
 --   entryChecks      == the refusals of the search without 19. Those of the free way for p = 2 decide them
 --                       (`entry-verdict`), since 2 is a prime
 --   entry-refused    == the call that the verdict refuses
---   lent-halves, loaded-period, searched-room == what loading, searching and clearing ask
---   entry-call       == the call with what the search of the loaded terms tells
+--   room, searched-period == what the search asks
+--   entry-call       == the call with what the search tells
 -- Assumes nothing.
 use Prim.Native.Nat.{ℕ, _≤_}
-use mathlib.Core.Path.{_≡_, refl, sym, ap, subst, _∙_}
+use mathlib.Core.Path.{_≡_, refl, sym, ap, _∙_}
 use mathlib.Core.Bool.{Bool, false}
 use mathlib.Core.List.{List, [], _∷_}
 use mathlib.Core.Option.{Option, none, some}
-use native.Mathlib.Omega.{arith}
 use lib.ListN.{length}
 use lib.Dec.{T}
 use Rattle.meaning.specs.declared.EntryRating.{EntryRating}
@@ -29,8 +28,7 @@ use Rattle.meaning.proofs.Computed.{computed}
 use Rattle.meaning.proofs.Tables.{firstOf-skip}
 use Rattle.meaning.proofs.Passes.{Passes}
 use Rattle.bridge.proofs.Accepted.{count-accepted, terms-accepted, lent-enough}
-use Rattle.lent.specs.halves.Halves.{half, Halves, Placed}
-use Rattle.lent.proofs.halves.Bytes.{placed-kept, kept-trans, cleared-kept}
+use Rattle.lent.proofs.halves.Bytes.{cleared-kept}
 use Rattle.refusals.specs.declared.Verdict.{Verdict}
 use Rattle.refusals.specs.Verdicts.{numberIn}
 use Rattle.refusals.proofs.Settled.{verdict-passes, settle-early, settle-last, settle-over}
@@ -94,16 +92,13 @@ module _ (ts work : List ℕ) {v : Verdict} (k : numberIn v ≡ firstOf (freeTab
     unfolding entryChecks
     count = count-accepted (length ts) (passes .countInRange)
 
-    room : 8192 ≤ length work
+    pub room : 8192 ≤ length work
     unfolding entryChecks
     room = lent-enough 4097 (length work) (passes .lentEnough) .1
 
     binary : T (areElements (prime 2) ts)
     unfolding entryChecks
     binary = terms-accepted 2 ts (passes .termsInField)
-
-    pub lent-halves : Halves work 0 (length ts)
-    lent-halves = record { enough = room; which = omega arith; few = count .1 }
 
     finds : findEntry ts (length work) ≡ foundIn (firstEntry ts)
     unfolding findEntry entryTable entryChecks foundIn isNone valueOf
@@ -121,27 +116,20 @@ module _ (ts work : List ℕ) {v : Verdict} (k : numberIn v ≡ firstOf (freeTab
             ∙ ap valueOf e
             ∙ ap foundIn (sym e)
 
-    module _ {w₁ : List ℕ} (loaded : Placed work 0 1 ts w₁) where
-      pub loaded-period : BinaryPeriod w₁ (length ts)
-      loaded-period =
-          record {
-            halves =
-                record { enough = omega (arith, room, loaded .size); which = omega arith; few = count .1 };
-            atLeastOne = count .0;
-            binary = subst (λ l. T (areElements (prime 2) l)) (sym (loaded .made)) binary;
-          }
+    pub searched-period : BinaryPeriod ts
+    searched-period = record { atLeastOne = count .0; notMany = count .1; binary = binary }
 
-      module _ {w₂ : List ℕ} {r : EntryRating} (found : EntryFound (half w₁ 0 (length ts)) w₁ w₂ r) where
-        pub searched-room : 8192 ≤ length w₂
-        searched-room = omega (arith, room, loaded .size, found .kept .size)
-
-        pub entry-call : {w₃ : List ℕ} → w₃ ≡ cleared w₂ → EntryCall ts work r w₃
-        entry-call e =
-            record {
-              finding = found .told ∙ ap (λ l. foundIn (firstEntry l)) (loaded .made) ∙ sym finds;
-              workBytes =
-                  e
-                  ∙ cleared-kept (kept-trans (placed-kept loaded) (found .kept))
-                  ∙ sym (work-found (firstEntry ts) work)
-                  ∙ ap (λ x. workAfter x work) (sym finds);
-            }
+    pub entry-call :
+        {w₁ w₂ : List ℕ} {r : EntryRating}
+        → EntryFound ts work w₁ r
+        → w₂ ≡ cleared w₁
+        → EntryCall ts work r w₂
+    entry-call found e =
+        record {
+          finding = found .told ∙ sym finds;
+          workBytes =
+              e
+              ∙ cleared-kept (found .kept)
+              ∙ sym (work-found (firstEntry ts) work)
+              ∙ ap (λ x. workAfter x work) (sym finds);
+        }

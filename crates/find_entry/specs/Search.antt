@@ -1,15 +1,13 @@
 -- What the contracts of the search of the catalogue cite.
 --
 --   Unpacked n w c     == the 11 bytes w begin with the c coefficients of the polynomial of n
---   Look n at m        == the m places from `at` on, one to 256 of them, are places of a period of n terms
---   BinaryPeriod w n   == half 0 of the work bytes w begins with n terms over GF(2), 1 to 4,096
---   EntrySearched i w n w′ r == r tells the power of entry i for these terms, and w has become w′: those
---                         beyond the halves are as they were, and where there is no power the terms still
---                         stand in half 0
+--   BinaryPeriod ts    == ts are 1 to 4,096 terms over GF(2)
+--   EntrySearched i ts w w′ r == r tells the power of entry i for the period ts, and the work bytes w have
+--                         become w′: those beyond the halves are as they were
 --   foundIn r          == what a search answers: the entry and the power, or none for 19
 --   EntryFound ts w w′ r == r tells the first entry with a power for the period ts, with it, or 19, and the
 --                         work bytes beyond the halves are as they were
-use Prim.Native.Nat.{ℕ, _+_, _≤_}
+use Prim.Native.Nat.{ℕ, _≤_}
 use mathlib.Core.Path.{_≡_}
 use mathlib.Core.List.{List}
 use mathlib.Core.Option.{Option, none, some}
@@ -20,7 +18,6 @@ use Rattle.meaning.specs.Field.{prime, areElements}
 use Rattle.meaning.specs.Result.{Result, refused, answered}
 use Rattle.meaning.specs.Catalogue.{EntryFigures, entryPolynomial, catalogue, firstEntry}
 use Rattle.meaning.specs.Answers.{toldEntry}
-use Rattle.lent.specs.halves.Halves.{Halves, half}
 use Rattle.lent.specs.halves.Kept.{Kept}
 use Rattle.period_way.specs.declared.Found.{Found}
 use Rattle.period_way.specs.Period.{PeriodSearched}
@@ -30,18 +27,13 @@ pub record Unpacked (n : ℕ) (w : List ℕ) (c : ℕ) : Type 0 where
   pub size : length w ≡ 11
   pub front : take c w ≡ entryPolynomial n
 
-pub record Look (n at m : ℕ) : Type 0 where
-  pub some : 1 ≤ m
-  pub few : m ≤ 256
-  pub inside : at + m ≤ n
+pub record BinaryPeriod (ts : List ℕ) : Type 0 where
+  pub atLeastOne : 1 ≤ length ts
+  pub notMany : length ts ≤ 4096
+  pub binary : T (areElements (prime 2) ts)
 
-pub record BinaryPeriod (w : List ℕ) (n : ℕ) : Type 0 where
-  pub halves : Halves w 0 n
-  pub atLeastOne : 1 ≤ n
-  pub binary : T (areElements (prime 2) (half w 0 n))
-
-abbrev pub EntrySearched : ℕ → List ℕ → ℕ → List ℕ → Found → Type 0
-EntrySearched i w n w′ r = PeriodSearched (prime 2) (entryPolynomial (getD catalogue i 0)) (half w 0 n) w w′ r
+abbrev pub EntrySearched : ℕ → List ℕ → List ℕ → List ℕ → Found → Type 0
+EntrySearched i ts w w′ r = PeriodSearched (prime 2) (entryPolynomial (getD catalogue i 0)) ts w w′ r
 
 unfoldable pub foundIn : Option EntryFigures → Result EntryFigures
 foundIn none = refused 19

@@ -1,11 +1,9 @@
 // The search of the catalogue for a binary period: the first entry with a power that annihilates it, and the
-// least such power. The first 8,192 work bytes are two halves of 4,096; the terms are loaded into half 0
-// once, and stand there until an entry is found.
+// least such power. The work bytes are used for the power of the entry that is found, and then cleared.
+use action::vanishes_at;
 use arith::GaloisField;
 use catalogue::catalogue_entry;
-use lent::blocks::act_block;
 use lent::clear;
-use lent::halves::load;
 use lent::smaller;
 use meaning::EntryRating;
 use meaning::Refusal;
@@ -20,10 +18,10 @@ ghost use Prim.Native.Nat.{_+_, _≤_, _<_};
 ghost use lib.ListN.{length};
 ghost use Rattle.meaning.specs.Calls.{EntryCall};
 ghost use Rattle.arith.specs.Represented.{FieldOfPrime, fieldOf, WellFormed};
-ghost use Rattle.lent.specs.halves.Halves.{Halves, half};
+ghost use Rattle.lent.specs.blocks.Blocks.{Places};
 ghost use Rattle.powers.specs.levels.Levels.{Dividing};
 ghost use Rattle.period_way.specs.Period.{PeriodInput, PeriodSearched};
-ghost use Rattle.find_entry.specs.Search.{Look, Unpacked, BinaryPeriod, EntrySearched, EntryFound};
+ghost use Rattle.find_entry.specs.Search.{Unpacked, BinaryPeriod, EntrySearched, EntryFound};
 
 // Leaves the coefficients of the polynomial of n, at most 11, at the front, and answers how many there are.
 fn unpack(n: u64, coefficients: &mut [u8]) -> usize
@@ -61,69 +59,71 @@ fn last_places(ts: &[u8], m: usize) -> usize
     0
 }
 
-// The least power of f that annihilates the period of n terms in half 0, by a first look at the m places from
-// `at` on: where f^(p^w) leaves a term other than 0 there, no power annihilates it. Uses both halves, and
-// leaves all beyond them as it was; where there is no such power, the terms too.
+// The least power of f that annihilates the endless repetition of the terms, by a first look at the m places
+// from `at` on: where f^(p^w) leaves a term other than 0 there, no power annihilates it. Uses both halves of
+// the work bytes, and leaves all beyond them as it was.
 fn search_after_look(
     field: GaloisField,
     work: &mut [u8],
-    n: usize,
     f: &[u8],
+    terms: &[u8],
     level: Level,
     at: usize,
     m: usize,
 ) -> Found
     requires { ⌜ WellFormed field ⌝ }
-    requires { ⌜ Halves (now work) 0 n ⌝ }
-    requires { ⌜ PeriodInput (fieldOf field) (now f) (half (now work) 0 n) ⌝ }
-    requires { ⌜ Dividing (field .size) n level ⌝ }
-    requires { ⌜ Look n at m ⌝ }
-    ensures { λ r. ⌜ PeriodSearched (fieldOf field) (now (f .entry)) (half (now (work .entry)) 0 n)
-        (now (work .entry)) (now (work .exit)) r ⌝ }
+    requires { ⌜ 8192 ≤ length (now work) ⌝ }
+    requires { ⌜ PeriodInput (fieldOf field) (now f) (now terms) ⌝ }
+    requires { ⌜ Dividing (field .size) (length (now terms)) level ⌝ }
+    requires { ⌜ Places (length (now terms)) at m ⌝ }
+    ensures { λ r. ⌜ PeriodSearched (fieldOf field) (now (f .entry)) (now (terms .entry)) (now (work .entry))
+        (now (work .exit)) r ⌝ }
 {
-    if act_block(field, work, 0, n, at, f, level.power, 4096, m) {
-        search_level(field, work, n, f, level)
+    if vanishes_at(field, terms, at, f, level.power, m) {
+        search_level(field, work, f, terms, level)
     } else {
         Found::Nothing
     }
 }
 
-// The least power of entry i that annihilates the period of n terms in half 0, or nothing.
+// The least power of entry i that annihilates the endless repetition of the terms, or nothing.
 fn search_entry(
     field: GaloisField,
     work: &mut [u8],
-    n: usize,
     i: usize,
+    terms: &[u8],
     level: Level,
     at: usize,
     m: usize,
 ) -> Found
     requires { ⌜ FieldOfPrime 2 field ⌝ }
-    requires { ⌜ BinaryPeriod (now work) n ⌝ }
+    requires { ⌜ 8192 ≤ length (now work) ⌝ }
     requires { ⌜ i < 226 ⌝ }
-    requires { ⌜ Dividing 2 n level ⌝ }
-    requires { ⌜ Look n at m ⌝ }
-    ensures { λ r. ⌜ EntrySearched i (now (work .entry)) n (now (work .exit)) r ⌝ }
+    requires { ⌜ BinaryPeriod (now terms) ⌝ }
+    requires { ⌜ Dividing 2 (length (now terms)) level ⌝ }
+    requires { ⌜ Places (length (now terms)) at m ⌝ }
+    ensures { λ r. ⌜ EntrySearched i (now (terms .entry)) (now (work .entry)) (now (work .exit)) r ⌝ }
 {
     let mut coefficients = [0u8; 11];
     let count = unpack(catalogue_entry(i), &mut coefficients);
-    search_after_look(field, work, n, &coefficients[0..count], level, at, m)
+    search_after_look(field, work, &coefficients[0..count], terms, level, at, m)
 }
 
-// The first entry with a power that annihilates the period of n terms in half 0, with the least such power,
-// or 19. Uses both halves, and leaves all beyond them as it was.
-fn first_entry(field: GaloisField, work: &mut [u8], n: usize) -> EntryRating
+// The first entry with a power that annihilates the endless repetition of the terms, with the least such
+// power, or 19. Uses both halves of the work bytes, and leaves all beyond them as it was.
+fn first_entry(field: GaloisField, work: &mut [u8], terms: &[u8]) -> EntryRating
     requires { ⌜ FieldOfPrime 2 field ⌝ }
-    requires { ⌜ BinaryPeriod (now work) n ⌝ }
-    ensures { λ r. ⌜ EntryFound (half (now (work .entry)) 0 n) (now (work .entry)) (now (work .exit)) r ⌝ }
+    requires { ⌜ 8192 ≤ length (now work) ⌝ }
+    requires { ⌜ BinaryPeriod (now terms) ⌝ }
+    ensures { λ r. ⌜ EntryFound (now (terms .entry)) (now (work .entry)) (now (work .exit)) r ⌝ }
 {
-    let level = level_dividing(2, n);
-    let m = smaller(64, n);
-    let at = last_places(&work[0..n], m);
+    let level = level_dividing(2, terms.len());
+    let m = smaller(64, terms.len());
+    let at = last_places(terms, m);
     let mut i = 0;
-    // no entry before entry i has a power, and the terms stand in half 0
+    // no entry before entry i has a power
     while i < 226 {
-        match search_entry(field, work, n, i, level, at, m) {
+        match search_entry(field, work, i, terms, level, at, m) {
             Found::Power(power) => {
                 return EntryRating::Found {
                     entry: catalogue_entry(i),
@@ -148,8 +148,7 @@ pub fn find_entry(terms: &[u8], work: &mut [u8]) -> EntryRating
     match free_verdict(2, terms, 4097, work.len()) {
         Verdict::Refused(r) => EntryRating::Refused(r),
         Verdict::Accepted => {
-            load(work, 0, terms);
-            let found = first_entry(GaloisField::of_prime(2), work, terms.len());
+            let found = first_entry(GaloisField::of_prime(2), work, terms);
             clear(work);
             found
         }

@@ -86,7 +86,7 @@ pub extern "C" fn leaf_shortest_period(terms: &[u8]) -> usize
     if terms.len() == 0 {
         return 0;
     }
-    shortest_period(terms)
+    shortest_period(terms, terms.len())
 }
 
 // Whether f is monic over GF(p), p a prime in range, and its degree is from 1 to 32.

@@ -4,9 +4,10 @@ ghost use mathlib.Core.Path.{_≡_};
 ghost use Prim.Native.Nat.{_+_, _%_, _≤_, _<_};
 ghost use lib.ListN.{length, replicate};
 ghost use Rattle.meaning.specs.Sequence.{cut, periodic};
+ghost use Rattle.bridge.proofs.KnownActions.{allZero};
 ghost use Rattle.arith.specs.Represented.{fieldOf, WellFormed};
 ghost use Rattle.arith.specs.sums.Sums.{Room, elementsOf, ProductsAdded};
-ghost use Rattle.lent.specs.blocks.Blocks.{blockOnPeriod, Block, BlockActed};
+ghost use Rattle.lent.specs.blocks.Blocks.{blockOnPeriod, Places, Block, BlockActed};
 use crate::smaller;
 use arith::GaloisField;
 
@@ -99,4 +100,15 @@ pub fn act_block(
     }
     let mut sums = [0u16; 256];
     act_with(field, &mut sums[0..m], w, from, n, i, f, q, to)
+}
+
+// Whether the m values from the place i on of the action of f with the stride q on the period ts are all 0.
+pub fn block_is_zero(field: GaloisField, ts: &[u8], i: usize, f: &[u8], q: usize, m: usize) -> bool
+    requires { ⌜ WellFormed field ⌝ }
+    requires { ⌜ Places (length (now ts)) i m ⌝ }
+    ensures { λ r. ⌜ r ≡ allZero (blockOnPeriod (fieldOf field) (now (f .entry)) q (now (ts .entry)) i m) ⌝ }
+{
+    let mut sums = [0u16; 256];
+    sum_up(field, &mut sums[0..m], ts, i, f, q % ts.len());
+    arith::sums::are_zero(field, &sums[0..m])
 }

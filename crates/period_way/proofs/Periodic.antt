@@ -4,10 +4,11 @@ use Prim.Native.Nat.{ℕ, _*_, _-_, _^_, _≤_, _<_, min}
 use mathlib.Core.Path.{_≡_, sym, ap, subst, _∙_}
 use mathlib.Core.Bool.{Bool, true, false, not}
 use mathlib.Core.List.{List}
-use mathlib.Core.Option.{Option, none, some, Option·some-ne-none}
+use mathlib.Core.Option.{Option, none, some}
 use native.Mathlib.Nat as ℕ
 use native.Mathlib.Omega.{arith}
-use lib.ListN.{length, take}
+use lib.ListN.{length, take, length-take}
+use lib.Seq.{take-length}
 use Rattle.meaning.specs.Field.{Field}
 use Rattle.meaning.specs.Polynomial.{Polynomial, degree, power}
 use Rattle.meaning.specs.Sequence.{annihilatesPeriod}
@@ -24,10 +25,9 @@ use Rattle.arith.specs.Represented.{fieldOf, WellFormed}
 use Rattle.arith.proofs.Represented.{field-isField, size-least}
 use Rattle.powers.specs.declared.levels.Level.{Level}
 use Rattle.powers.specs.levels.Levels.{Dividing}
-use Rattle.lent.specs.halves.Halves.{half, Halves, Placed, Acted}
+use Rattle.lent.specs.halves.Halves.{half, Placed}
 use Rattle.powers.specs.digit_search.Searching.{Searchable, Searched}
-use Rattle.lent.proofs.halves.Bytes.{half-length, half-cut, placed-same, placed-kept, kept-trans}
-use Rattle.lent.proofs.halves.Bytes.{cleared-kept}
+use Rattle.lent.proofs.halves.Bytes.{take-min, kept-same, placed-kept, kept-trans, cleared-kept}
 use Rattle.period_way.specs.declared.Found.{Found}
 use Rattle.period_way.specs.declared.Found.the-variants.{Power, Nothing}
 use Rattle.period_way.specs.Period.{told, PeriodInput, PeriodSearched, PeriodFound}
@@ -83,89 +83,66 @@ module _ {field : GaloisField} (good : WellFormed field) (f : Polynomial) (ts : 
       → periodPower (fieldOf field) f ts ≡ none
   period-none h = isNone-none (true-T (found .decides ∙ ap not (whole ∙ h)))
 
--- Answers in the work bytes
-module _
-    {field : GaloisField} (good : WellFormed field) (f : Polynomial) {w : List ℕ} {n : ℕ}
-    (halves : Halves w 0 n)
-    (x : PeriodInput (fieldOf field) f (half w 0 n)) (level : Level) (l : Dividing (field .size) n level)
-  where
-    pub period-terms : 0 < n
-    period-terms = omega (arith, x .atLeastOne, half-length halves)
+  -- What the search asks
+  pub period-nonempty : 0 < length f
+  period-nonempty = monic-nonempty (fieldOf field) f (x .monic)
 
-    pub period-nonempty : 0 < length f
-    period-nonempty = monic-nonempty (fieldOf field) f (x .monic)
+  period-near : level .power ≤ 4096
+  period-near = omega (arith, dividing-low (x .atLeastOne) l, x .notMany)
 
-    pub period-near : level .power ≤ 4096
-    period-near = omega (arith, dividing-low period-terms l, halves .few)
+  pub period-fits : level .power * (length f - 1) < 2 ^ 64
+  period-fits =
+      let d : length f - 1 ≤ 4096 = omega (arith, x .short) in
+      omega (arith, ℕ.mul-le-mul period-near d)
 
-    pub period-fits : level .power * (length f - 1) < 2 ^ 64
-    period-fits =
-        let d : length f - 1 ≤ 4096 = omega (arith, x .short) in
-        omega (arith, ℕ.mul-le-mul period-near d)
+  pub period-searchable : Searchable field f level
+  period-searchable =
+      record {
+        nonempty = period-nonempty;
+        short = x .short;
+        isLevel = l .isLevel;
+        near = omega (arith, period-near, size-least good);
+      }
 
-    divided : Dividing (field .size) (length (half w 0 n)) level
-    divided = subst (λ m. Dividing (field .size) m level) (sym (half-length halves)) l
+  -- What it answers
+  module _ {b : Bool} (e : b ≡ allZero (strideOnPeriod (fieldOf field) f (level .power) ts)) where
+    pub searched-none : (w : List ℕ) → b ≡ false → PeriodSearched (fieldOf field) f ts w w Nothing
+    unfolding told
+    searched-none w h = record { power = sym (period-none (sym e ∙ h)); kept = kept-same w }
 
-    module _ {w₁ : List ℕ} {b : Bool}
-        (acted : Acted w 0 (strideOnPeriod (fieldOf field) f (level .power) (half w 0 n)) w₁ b) where
-      pub searched-halves : Halves w₁ 0 (min n (level .power * (length f - 1)))
-      searched-halves =
-          record {
-            enough = omega (arith, halves .enough, acted .placed .size);
-            which = omega arith;
-            few = omega (arith, halves .few);
-          }
-
-      pub period-searchable : Searchable field f level
-      period-searchable =
-          record {
-            nonempty = period-nonempty;
-            short = x .short;
-            isLevel = l .isLevel;
-            near = omega (arith, period-near, size-least good);
-          }
-
-      pub searched-none : b ≡ false → PeriodSearched (fieldOf field) f (half w 0 n) w w₁ Nothing
-      unfolding told
-      searched-none e =
-          record {
-            power = sym (period-none good f (half w 0 n) x level divided (sym (acted .zero) ∙ e));
-            kept = placed-kept (acted .placed);
-            again =
-                λ _. ap (half w₁ 0) (half-length halves) ∙ placed-same n (halves .few) (acted .placed);
-          }
+    module _ {w w₁ : List ℕ} {count : ℕ} (small : count ≡ min (length ts) (level .power * (length f - 1)))
+        (loaded : Placed w 0 1 (take (count - 0) ts) w₁) where
+      first-terms : half w₁ 0 count ≡ take (level .power * degree f) ts
+      unfolding degree
+      first-terms =
+          let n : length (take (count - 0) ts) ≡ count = omega (arith, length-take (count - 0) ts) in
+          sym (ap (half w₁ 0) n)
+          ∙ loaded .made
+          ∙ ap (λ k. take k ts) (ℕ.sub-zero count ∙ small)
+          ∙ sym (take-min (length ts) (level .power * degree f) ts)
+          ∙ ap (take (level .power * degree f)) (take-length ts)
 
       pub searched-some :
           {w₂ : List ℕ} {r : ℕ}
           → b ≡ true
-          → Searched field w₁ 0 (min n (level .power * (length f - 1))) f level w₂ r
-          → PeriodSearched (fieldOf field) f (half w 0 n) w w₂ (Power r)
-      unfolding told degree
-      searched-some e y =
+          → Searched field w₁ 0 count f level w₂ r
+          → PeriodSearched (fieldOf field) f ts w w₂ (Power r)
+      unfolding told
+      searched-some h y =
           record {
             power =
                 ap {B = Option ℕ} some
                 (y .power
                 ∙ ap (powerFound (strideOnKnown (fieldOf field) f) (field .size) (degree f) (level .exponent))
-                (half-cut w₁ 0 n (level .power * degree f)
-                ∙ ap (take (level .power * degree f)) (placed-same n (halves .few) (acted .placed))))
-                ∙ sym (period-some good f (half w 0 n) x level divided (sym (acted .zero) ∙ e));
-            kept = kept-trans (placed-kept (acted .placed)) (y .kept);
-            again = λ z. absurd (Option·some-ne-none _ z);
+                first-terms)
+                ∙ sym (period-some (sym e ∙ h));
+            kept = kept-trans (placed-kept loaded) (y .kept);
           }
 
--- a period that was loaded, searched and cleared
-module _ {F : Field} {f ts w w₁ : List ℕ} (loaded : Placed w 0 1 ts w₁) where
-  pub loaded-input : PeriodInput F f ts → PeriodInput F f (half w₁ 0 (length ts))
-  loaded-input = subst (PeriodInput F f) (sym (loaded .made))
-
-  pub loaded-found :
-      {w₂ w₃ : List ℕ} {r : Found}
-      → PeriodSearched F f (half w₁ 0 (length ts)) w₁ w₂ r
-      → w₃ ≡ cleared w₂
-      → PeriodFound F f ts w w₃ r
-  loaded-found x e =
-      record {
-        power = x .power ∙ ap (periodPower F f) (loaded .made);
-        work = e ∙ cleared-kept (kept-trans (placed-kept loaded) (x .kept));
-      }
+-- a period that was searched, and the work bytes cleared
+pub cleared-found :
+    {F : Field} {f ts w w₁ w₂ : List ℕ} {r : Found}
+    → PeriodSearched F f ts w w₁ r
+    → w₂ ≡ cleared w₁
+    → PeriodFound F f ts w w₂ r
+cleared-found x e = record { power = x .power; work = e ∙ cleared-kept (x .kept) }

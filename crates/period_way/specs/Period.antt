@@ -4,8 +4,7 @@
 --   PeriodInput F f ts == accepted input: f is irreducible and monic over F, of positive degree, and ts are 1
 --                        to 4,096 elements of F
 --   PeriodSearched, PeriodFound F f ts w w′ r == r tells the power of the period way, and the work bytes w
---                        have become w′: those beyond the halves are as they were, and where there is no
---                        power the terms still stand in half 0; the first 8,192 are 0
+--                        have become w′: those beyond the halves are as they were; and the first 8,192 are 0
 use Prim.Native.Nat.{ℕ, _≤_}
 use mathlib.Core.Path.{_≡_}
 use mathlib.Core.List.{List}
@@ -16,7 +15,6 @@ use Rattle.meaning.specs.Field.{Field, areElements}
 use Rattle.meaning.specs.Polynomial.{Polynomial, degree, isMonicOver, irreducible}
 use Rattle.meaning.specs.Result.{cleared}
 use Rattle.meaning.specs.Period.{periodPower}
-use Rattle.lent.specs.halves.Halves.{half}
 use Rattle.lent.specs.halves.Kept.{Kept}
 use Rattle.period_way.specs.declared.Found.{Found}
 use Rattle.period_way.specs.declared.Found.the-variants.{Power, Nothing}
@@ -37,7 +35,6 @@ pub record PeriodInput (F : Field) (f : Polynomial) (ts : List ℕ) : Type 0 whe
 pub record PeriodSearched (F : Field) (f : Polynomial) (ts w w′ : List ℕ) (r : Found) : Type 0 where
   pub power : told r ≡ periodPower F f ts
   pub kept : Kept w w′
-  pub again : told r ≡ none → half w′ 0 (length ts) ≡ ts
 
 pub record PeriodFound (F : Field) (f : Polynomial) (ts w w′ : List ℕ) (r : Found) : Type 0 where
   pub power : told r ≡ periodPower F f ts

@@ -6,10 +6,9 @@ pub mod one_factor;
 ghost use Prim.Native.Nat.{_≤_};
 ghost use lib.ListN.{length};
 ghost use Rattle.arith.specs.Represented.{fieldOf, WellFormed};
-ghost use Rattle.lent.specs.halves.Halves.{Halves, half};
 ghost use Rattle.powers.specs.levels.Levels.{Dividing};
 ghost use Rattle.period_way.specs.Period.{PeriodInput, PeriodSearched, PeriodFound};
-use action::act_on_period;
+use action::annihilates;
 use arith::GaloisField;
 use lent::clear;
 use lent::halves::load;
@@ -24,41 +23,35 @@ pub enum Found {
     Nothing,
 }
 
-// The least power of f that annihilates the period of n terms in half 0. With N = p^w·m and m not divisible
-// by p, the power p^w, which `level` is, decides whether there is one: it acts on the whole period first.
-// Then the first p^w·deg f terms are a portion whose power is that of the period. Uses both halves, and
-// leaves all beyond them as it was; where there is no such power, the terms too.
-pub fn search_level(field: GaloisField, work: &mut [u8], n: usize, f: &[u8], level: Level) -> Found
+// The least power of f that annihilates the endless repetition of the terms, or nothing. With N = p^w·m terms
+// and m not divisible by p, the power p^w, which `level` is, decides whether there is one: it is tried on the
+// whole period first. Then the first p^w·deg f terms are a portion whose power is that of the period. Uses
+// both halves of the work bytes, and leaves all beyond them as it was.
+pub fn search_level(
+    field: GaloisField,
+    work: &mut [u8],
+    f: &[u8],
+    terms: &[u8],
+    level: Level,
+) -> Found
     requires { ⌜ WellFormed field ⌝ }
-    requires { ⌜ Halves (now work) 0 n ⌝ }
-    requires { ⌜ PeriodInput (fieldOf field) (now f) (half (now work) 0 n) ⌝ }
-    requires { ⌜ Dividing (field .size) n level ⌝ }
-    ensures { λ r. ⌜ PeriodSearched (fieldOf field) (now (f .entry)) (half (now (work .entry)) 0 n)
-        (now (work .entry)) (now (work .exit)) r ⌝ }
+    requires { ⌜ 8192 ≤ length (now work) ⌝ }
+    requires { ⌜ PeriodInput (fieldOf field) (now f) (now terms) ⌝ }
+    requires { ⌜ Dividing (field .size) (length (now terms)) level ⌝ }
+    ensures { λ r. ⌜ PeriodSearched (fieldOf field) (now (f .entry)) (now (terms .entry)) (now (work .entry))
+        (now (work .exit)) r ⌝ }
 {
     let q = level.power;
-    if act_on_period(field, work, 0, n, f, q) {
-        let count = smaller(n, q * (f.len() - 1));
+    if annihilates(field, terms, f, q) {
+        let count = smaller(terms.len(), q * (f.len() - 1));
+        load(work, 0, &terms[0..count]);
         Found::Power(least_power(field, work, 0, count, f, level) as u64)
     } else {
         Found::Nothing
     }
 }
 
-// The same, with the level that belongs to n.
-fn search_period(field: GaloisField, work: &mut [u8], n: usize, f: &[u8]) -> Found
-    requires { ⌜ WellFormed field ⌝ }
-    requires { ⌜ Halves (now work) 0 n ⌝ }
-    requires { ⌜ PeriodInput (fieldOf field) (now f) (half (now work) 0 n) ⌝ }
-    ensures { λ r. ⌜ PeriodSearched (fieldOf field) (now (f .entry)) (half (now (work .entry)) 0 n)
-        (now (work .entry)) (now (work .exit)) r ⌝ }
-{
-    let level = level_dividing(field.size as usize, n);
-    search_level(field, work, n, f, level)
-}
-
-// The least power of f that annihilates the endless repetition of the terms, or nothing. Leaves the first
-// 8,192 work bytes 0, and the others as they were.
+// The same, with the level that belongs to the number of terms, and the first 8,192 work bytes left 0.
 pub fn period_power(field: GaloisField, work: &mut [u8], f: &[u8], terms: &[u8]) -> Found
     requires { ⌜ WellFormed field ⌝ }
     requires { ⌜ 8192 ≤ length (now work) ⌝ }
@@ -66,8 +59,8 @@ pub fn period_power(field: GaloisField, work: &mut [u8], f: &[u8], terms: &[u8])
     ensures { λ r. ⌜ PeriodFound (fieldOf field) (now (f .entry)) (now (terms .entry)) (now (work .entry))
         (now (work .exit)) r ⌝ }
 {
-    load(work, 0, terms);
-    let found = search_period(field, work, terms.len(), f);
+    let level = level_dividing(field.size as usize, terms.len());
+    let found = search_level(field, work, f, terms, level);
     clear(work);
     found
 }

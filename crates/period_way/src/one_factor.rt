@@ -31,7 +31,7 @@ pub fn rated(
         Found::Nothing => PowerRating::Refused(Refusal::NotAnnihilated),
         Found::Power(power) => {
             let degree = write_power(field, answer, f, power);
-            let repeat = shortest_period(terms) as u64;
+            let repeat = shortest_period(terms, degree as usize) as u64;
             PowerRating::Rated {
                 power,
                 degree,

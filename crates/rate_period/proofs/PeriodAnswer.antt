@@ -29,6 +29,7 @@ use Rattle.meaning.specs.Calls.{PeriodCall}
 use Rattle.meaning.proofs.Passes.{Passes}
 use Rattle.bridge.proofs.Interpretation.{inRange-isField}
 use Rattle.bridge.proofs.Irreducibles.{accepted-irreducible}
+use Rattle.bridge.proofs.Periods.{periodPower-least}
 use Rattle.bridge.proofs.Accepted.{prime-accepted, count-accepted, terms-accepted}
 use Rattle.irreducible.proofs.Accepted.{accepted-short}
 use Rattle.refusals.specs.declared.Verdict.{Verdict}
@@ -129,6 +130,10 @@ module _ (p : ℕ) (f : Polynomial) (ts : List ℕ) (answer work : ℕ) (x : Mul
               atLeastOne = count-accepted (length ts) (x .countInRange) .0;
               monic = rw h (factor-monic (x .accepted));
               degreeInRange = rw h (x .accepted .degreeInRange);
+              inField = period-input .inField;
+              annihilates =
+                  λ r z. periodPower-least F f ts (period-input .atLeastOne) (sym (y .power) ∙ z)
+                  .annihilates;
               small =
                   λ r z. period-small (inRange-isField p period-prime) accepted-period
                   (ap (λ (G : Field). periodPower G f ts) (sym h) ∙ sym (y .power) ∙ z);

@@ -1,8 +1,9 @@
--- `find_entry` meets its contract: the verdict refuses, or the terms are loaded, searched and cleared.
--- Assumes nothing.
+-- `find_entry` meets its contract: the verdict refuses, or the entries are searched and the work bytes
+-- cleared. Assumes nothing.
+use native.Mathlib.Omega.{arith}
+use denote.Ref.{now}
 use borrow.Author.Needs.{needs}
-use Rattle.find_entry.proofs.Call.{two-prime, entry-refused, lent-halves, loaded-period, searched-room}
-use Rattle.find_entry.proofs.Call.{entry-call}
+use Rattle.find_entry.proofs.Call.{two-prime, entry-refused, room, searched-period, entry-call}
 use Rattle.find_entry.proofs.find_entry.Statement.{statement}
 use Rattle.find_entry.proofs.find_entry.Tie as tie
 
@@ -15,14 +16,9 @@ enum-known-r c = search needs
 enum-told : tie.Need-enum-told
 enum-told c = search needs
 
--- the place where the terms are loaded, and the verdict before it
+-- the verdict before it accepted
 abbrev verdict : tie.After-enum-told → tie.After-free-verdict
 verdict a = a .before .before
-
-load-requires : tie.Need-load-requires
-load-requires c κs =
-    let a = c .before in
-    lent-halves _ _ (verdict a .free-verdict .ensures) (a .enum-told .given .1)
 
 of-prime-requires : tie.Need-of-prime-requires
 of-prime-requires c κs = two-prime
@@ -30,19 +26,26 @@ of-prime-requires c κs = two-prime
 first-entry-requires : tie.Need-first-entry-requires
 first-entry-requires c κs =
     let o = c .before in
-    let l = o .before .before .before in
-    let a = l .before .before in (
+    let a = o .before in
+    let s = verdict a .before .before .before in
+    let ts = now (s .args .terms) in
+    let w = now (s .args .work) in
+    let k = verdict a .free-verdict .ensures in (
       o .of-prime .ensures,
-      loaded-period _ _ (verdict a .free-verdict .ensures) (a .enum-told .given .1) (l .load .ensures),
+      (room ts w k (a .enum-told .given .1), searched-period ts w k (a .enum-told .given .1)),
     )
 
 clear-requires : tie.Need-clear-requires
 clear-requires c κs =
     let f = c .before .before .before in
-    let l = f .before .before .before .before .before in
-    let a = l .before .before in
-    searched-room _ _ (verdict a .free-verdict .ensures) (a .enum-told .given .1) (l .load .ensures)
-    (f .first-entry .ensures)
+    let a = f .before .before .before in
+    let s = verdict a .before .before .before in
+    omega (
+      arith,
+      room (now (s .args .terms)) (now (s .args .work)) (verdict a .free-verdict .ensures)
+          (a .enum-told .given .1),
+      f .first-entry .ensures .kept .size,
+    )
 
 returns : tie.Need-returns
 returns c = entry-refused _ _ (c .before .before .before .free-verdict .ensures) (c .before .r .given .1)
@@ -54,10 +57,9 @@ returns-2 : tie.Need-returns-2
 returns-2 c =
     let z = c .before .before in
     let f = z .before .before .before .before in
-    let l = f .before .before .before .before .before in
-    let a = l .before .before in
-    entry-call _ _ (verdict a .free-verdict .ensures) (a .enum-told .given .1) (l .load .ensures)
-    (f .first-entry .ensures) (z .clear .ensures)
+    let a = f .before .before .before in
+    entry-call _ _ (verdict a .free-verdict .ensures) (a .enum-told .given .1) (f .first-entry .ensures)
+    (z .clear .ensures)
 
 pub find-entry-spec : {M : Type 1} → statement M
 find-entry-spec =
@@ -66,7 +68,6 @@ find-entry-spec =
     free-verdict-requires
     enum-known-r
     enum-told
-    load-requires
     of-prime-requires
     first-entry-requires
     clear-requires

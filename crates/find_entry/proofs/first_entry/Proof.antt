@@ -1,18 +1,18 @@
--- `first_entry` meets its contract. The invariant: no entry before entry i has a power, and the terms stand
--- in half 0. The measure is the number of entries that are left.
--- Assumes nothing.
+-- `first_entry` meets its contract. The invariant: no entry before entry i has a power. The measure is the
+-- number of entries that are left. Assumes nothing.
 use Prim.Native.Nat.{_-_}
 use borrow.Author.Needs.{needs}
-use Rattle.find_entry.proofs.Entries.{Searching, searching-none, searching-period, searching-more}
-use Rattle.find_entry.proofs.Entries.{searching-found, searching-end, places-fit, places-look}
+use native.Mathlib.Omega.{arith}
+use Rattle.find_entry.proofs.Entries.{look-places, Searching, searching-none, searching-room}
+use Rattle.find_entry.proofs.Entries.{searching-more, searching-found, searching-end}
 use Rattle.find_entry.proofs.first_entry.Statement.{statement}
 use Rattle.find_entry.proofs.first_entry.Tie as tie
 
 abbrev Inv-loop : tie.InvT-loop
-Inv-loop field work₀ n level m at i₀ work i = Searching work₀ work n i
+Inv-loop field work₀ terms level m at i₀ work i = Searching terms work₀ work i
 
 abbrev μ-loop : tie.MeasureT-loop
-μ-loop field work₀ n level m at i₀ work i = 226 - i
+μ-loop field work₀ terms level m at i₀ work i = 226 - i
 
 level-dividing-requires : tie.Need-level-dividing-requires Inv-loop μ-loop
 level-dividing-requires c κs = search needs
@@ -20,19 +20,8 @@ level-dividing-requires c κs = search needs
 smaller-requires : tie.Need-smaller-requires Inv-loop μ-loop
 smaller-requires c κs = search needs
 
-sub-last-places : tie.Need-sub-last-places Inv-loop μ-loop
-sub-last-places c = search needs
-
-part-last-places-start : tie.Need-part-last-places-start Inv-loop μ-loop
-part-last-places-start c = search needs
-
-part-last-places-end : tie.Need-part-last-places-end Inv-loop μ-loop
-part-last-places-end c = search needs
-
 last-places-requires : tie.Need-last-places-requires Inv-loop μ-loop
-last-places-requires c κs =
-    let m = c .before .before in
-    places-fit (m .before .before .before .pre .1) (m .smaller .ensures)
+last-places-requires c κs = search needs
 
 loop-holds : tie.Need-loop-holds Inv-loop μ-loop
 loop-holds c = searching-none _ _
@@ -41,17 +30,20 @@ search-entry-requires : tie.Need-search-entry-requires Inv-loop μ-loop
 search-entry-requires c κs =
     let l = c .before .before in
     let p = l .before in
-    let m = p .before .before .before in
-    let d = m .before in
-    let s = d .before .before in (
+    let d = p .before .before in
+    let s = d .before .before .before in
+    let x = s .pre .1 .1 in (
       s .pre .0,
       (
-        searching-period (l .loop .inv) (s .pre .1),
+        searching-room (l .loop .inv) (s .pre .1 .0),
         (
           search needs,
           (
-            d .level-dividing .ensures,
-            places-look (s .pre .1) (m .smaller .ensures) (p .last-places .ensures),
+            x,
+            (
+              d .level-dividing .ensures,
+              look-places x (p .before .smaller .ensures) (p .last-places .ensures),
+            ),
           ),
         ),
       ),
@@ -71,8 +63,7 @@ returns c =
     let p = c .before .before in
     let e = p .before .before .before .before in
     let l = e .before .before .before in
-    let s = l .before .before .before .before .before .before .before in
-    searching-found (l .loop .inv) (s .pre .1) (search needs) (e .search-entry .ensures) (p .power .given .1)
+    searching-found (l .loop .inv) (search needs) (e .search-entry .ensures) (p .power .given .1)
     (c .catalogue-entry .ensures)
 
 enum-told : tie.Need-enum-told Inv-loop μ-loop
@@ -88,9 +79,7 @@ loop-again : tie.Need-loop-again Inv-loop μ-loop
 loop-again c =
     let e = c .before .before .before .before in
     let l = e .before .before .before in
-    let s = l .before .before .before .before .before .before .before in
-    searching-more (l .loop .inv) (s .pre .1) (search needs) (e .search-entry .ensures)
-    (c .enum-told .given .1)
+    searching-more (l .loop .inv) (search needs) (e .search-entry .ensures) (c .enum-told .given .1)
 
 same-length-2 : tie.Need-same-length-2 Inv-loop μ-loop
 same-length-2 c = search needs
@@ -106,9 +95,6 @@ first-entry-spec =
     μ-loop
     level-dividing-requires
     smaller-requires
-    sub-last-places
-    part-last-places-start
-    part-last-places-end
     last-places-requires
     loop-holds
     search-entry-requires

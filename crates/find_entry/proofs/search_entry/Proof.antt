@@ -27,13 +27,16 @@ search-after-look-requires : tie.Need-search-after-look-requires
 search-after-look-requires c κs =
     let u = c .before .before .before .before in
     let k = u .before .before in
-    let s = k .before .before in
-    let x = s .pre .1 in
+    let s = k .before .before .before in
+    let x = s .pre .1 .1 in
     let e = entry-coefficients (k .catalogue-entry .ensures) (u .unpack .ensures) in (
       s .pre .0 .wellFormed,
       (
-        x .0 .halves,
-        (entry-input (s .pre .0) (x .0) (x .1 .0) e, (binary-level (s .pre .0) (x .1 .1 .0), x .1 .1 .1)),
+        s .pre .1 .0,
+        (
+          entry-input (s .pre .0) (x .1 .0) (x .0) e,
+          (binary-level (s .pre .0) (x .1 .1 .0), x .1 .1 .1),
+        ),
       ),
     )
 
@@ -45,9 +48,9 @@ returns c =
     let l = c .before .before in
     let u = l .before .before .before .before .before in
     let k = u .before .before in
-    let s = k .before .before in
-    let x = s .pre .1 in
-    entry-searched (s .pre .0) (x .0) (x .1 .0)
+    let s = k .before .before .before in
+    let x = s .pre .1 .1 in
+    entry-searched (s .pre .0) (x .1 .0) (x .0)
     (entry-coefficients (k .catalogue-entry .ensures) (u .unpack .ensures))
     (l .search-after-look .ensures)
 

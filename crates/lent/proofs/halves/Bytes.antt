@@ -2,7 +2,7 @@
 --
 --   acted-values      == the values of an action stand at the front of the other half
 --   acted-same        == the half that was read is as it was
---   half-cut          == the first terms of a half that are among the first m
+--   take-min, half-cut == the first terms that are among the first m, of a list and of a half
 --   lent-half         == a half lent as a part
 --   cleared-kept      == bytes that were kept beyond the halves are the same when the halves are cleared
 --
@@ -26,7 +26,7 @@ use Rattle.arith.proofs.Slices.{length-part}
 use Rattle.lent.specs.halves.Halves.{half, Halves, Placed, Acted}
 use Rattle.lent.specs.halves.Kept.{Kept}
 
-take-min : (a b : ℕ) (l : List ℕ) → take b (take a l) ≡ take (min a b) l
+pub take-min : (a b : ℕ) (l : List ℕ) → take b (take a l) ≡ take (min a b) l
 take-min a b l = elim (decLe b a) [
   | yes h ↦ take-take b a l h ∙ ap (λ n. take n l) (sym (ℕ.min-eq-right h))
   | no h ↦

@@ -33,9 +33,9 @@ use Rattle.meaning.specs.Repeat.{shortestPeriod}
 use Rattle.meaning.specs.Answers.{numberOf, toldPower}
 use Rattle.meaning.specs.Calls.{LentAfter}
 use Rattle.bridge.proofs.Searches.{mapOption-some, bind-some}
-use Rattle.bridge.proofs.Interpretation.{inRange-isField}
+use Rattle.bridge.proofs.Interpretation.{IsField, inRange-isField}
 use Rattle.bridge.proofs.Polynomials.{monic-nonempty}
-use Rattle.bridge.proofs.Products.{accepted-monic}
+use Rattle.bridge.proofs.Products.{accepted-monic, power-monic}
 use Rattle.bridge.proofs.Irreducibles.{accepted-degree}
 use Rattle.bridge.proofs.Repeats.{shortest-exists}
 use Rattle.bridge.proofs.Accepted.{prime-accepted}
@@ -47,6 +47,8 @@ use Rattle.refusals.specs.declared.Verdict.{Verdict}
 use Rattle.refusals.specs.Verdicts.{numberIn, termsTable, oneFactorTable, givenTable}
 use Rattle.refusals.proofs.Settled.{verdict-passes, settle-last, settle-over}
 use Rattle.refusals.proofs.Lent.{lent-refused}
+use Rattle.repetition.specs.Shorter.{Deciding}
+use Rattle.repetition.proofs.Deciding.{annihilated-decide}
 use Rattle.powers.specs.product.Writing.{PowerInput, PowerWritten}
 use Rattle.period_way.specs.declared.Found.{Found}
 use Rattle.period_way.specs.declared.Found.the-variants.{Power, Nothing}
@@ -79,6 +81,15 @@ module _ {F : Field} {f : Polynomial} {ts : List ℕ} {found : Found} where
           positive = accepted-degree F f (monic-nonempty F f (x .monic)) (x .degreeInRange);
           small = x .small r (ap told q);
         }
+
+    -- as many terms as the degree of the answer decide how the repetition repeats
+    pub degree-decides :
+        IsField F → {a a′ : List ℕ} {d : ℕ} → PowerWritten F f r a a′ d → Deciding ts d
+    unfolding told
+    degree-decides I w =
+        subst (Deciding ts) (sym (w .newDegree))
+        (annihilated-decide I (power F f r) (power-monic I f r (x .monic)) ts (x .inField)
+        (x .annihilates r (ap told q)))
 
   module _ {answer : List ℕ} where
     pub nothing-rated :

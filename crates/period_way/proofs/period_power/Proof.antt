@@ -1,54 +1,49 @@
 -- `period_way::period_power` meets its contract. Assumes nothing.
 use mathlib.Core.Path.{_∙_}
 use native.Mathlib.Omega.{arith}
-use Rattle.period_way.proofs.Periodic.{loaded-input, loaded-found}
+use borrow.Author.Needs.{needs}
+use Rattle.powers.proofs.levels.Climbing.{size-base}
+use Rattle.period_way.proofs.Periodic.{cleared-found}
 use Rattle.period_way.proofs.period_power.Statement.{statement}
 use Rattle.period_way.proofs.period_power.Tie as tie
 
-load-requires : tie.Need-load-requires
-load-requires c κs =
-    let s = c .before .before .before .before in
-    record { enough = s .pre .1 .0; which = omega arith; few = s .pre .1 .1 .notMany }
+cast-level-dividing : tie.Need-cast-level-dividing
+cast-level-dividing c = search needs
 
-search-period-requires : tie.Need-search-period-requires
-search-period-requires c κs =
-    let s = c .before .before .before .before .before .before .before .before in
-    let x = c .before .before .before .load .ensures in (
-      s .pre .0,
-      (
-        record {
-          enough = omega (arith, s .pre .1 .0, x .size);
-          which = omega arith;
-          few = s .pre .1 .1 .notMany;
-        },
-        loaded-input x (s .pre .1 .1),
-      ),
-    )
+level-dividing-requires : tie.Need-level-dividing-requires
+level-dividing-requires c κs =
+    let s = c .before .before .before .before in
+    (size-base (s .pre .0), s .pre .1 .1 .atLeastOne, s .pre .1 .1 .notMany)
+
+search-level-requires : tie.Need-search-level-requires
+search-level-requires c κs =
+    let d = c .before in
+    let s = d .before .before .before .before .before in
+    (s .pre .0, (s .pre .1 .0, (s .pre .1 .1, d .level-dividing .ensures)))
 
 clear-requires : tie.Need-clear-requires
 clear-requires c κs =
-    let l = c .before .before .before .before .before .before .before in
-    let s = l .before .before .before .before .before in
-    omega (
-      arith,
-      s .pre .1 .0,
-      l .load .ensures .size,
-      c .before .before .before .search-period .ensures .kept .size,
-    )
+    let l = c .before .before .before in
+    let s = l .before .before .before .before .before .before .before in
+    omega (arith, s .pre .1 .0, l .search-level .ensures .kept .size)
 
 same-length : tie.Need-same-length
 same-length c =
-    c .before .before .clear .kept .0
-    ∙ c .before .before .before .before .before .before .search-period .ensures .kept .size
-    ∙ c .before .before .before .before .before .before .before .before .before .before .load .ensures .size
+    let k = c .before .before in
+    k .clear .kept .0 ∙ k .before .before .before .before .search-level .ensures .kept .size
 
 returns : tie.Need-returns
 returns c =
-    loaded-found
-    (c .before .before .before .before .before .before .before .before .before .before .load .ensures)
-    (c .before .before .before .before .before .before .search-period .ensures)
-    (c .before .before .clear .ensures)
+    let k = c .before .before in
+    cleared-found (k .before .before .before .before .search-level .ensures) (k .clear .ensures)
 
 pub period-power-spec : {M : Type 1} → statement M
 period-power-spec =
-    tie.close (tie.spec load-requires search-period-requires clear-requires same-length returns)
+    tie.close
+    (tie.spec
+    cast-level-dividing
+    level-dividing-requires
+    search-level-requires
+    clear-requires
+    same-length
+    returns)

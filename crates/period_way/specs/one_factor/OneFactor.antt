@@ -2,8 +2,9 @@
 -- ts are the terms of the period, and o is the power that a way found.
 --
 --   ratingFound F f ts o == the answer with f to the power found, or 17 where none was found
---   Answerable F f ts o == there are terms, f is monic over F, of a degree that 10 lets pass, and f to the
---                        power found has a degree of at most 4,096
+--   Answerable F f ts o == there are terms, of F, f is monic over F, of a degree that 10 lets pass, and f to
+--                        the power found annihilates their endless repetition and has a degree of at most
+--                        4,096
 --   FoundRated F f ts o answer r answer′ == r tells the answer, and the answer bytes have become answer′
 --   Multiple p g ts   == 6, 7, 8 and 10 let p, the terms and the monic multiple g of a factor pass, and g is
 --                        monic
@@ -17,8 +18,9 @@ use mathlib.Core.Option.{Option, none, some}
 use lib.ListN.{length}
 use lib.Dec.{T}
 use Rattle.meaning.specs.declared.PowerRating.{PowerRating}
-use Rattle.meaning.specs.Field.{Field, prime}
-use Rattle.meaning.specs.Polynomial.{Polynomial, degree, isMonicOver}
+use Rattle.meaning.specs.Field.{Field, prime, areElements}
+use Rattle.meaning.specs.Polynomial.{Polynomial, degree, isMonicOver, power}
+use Rattle.meaning.specs.Sequence.{periodic, AnnihilatesEndless}
 use Rattle.meaning.specs.Result.{Result, refused, valueOf, Rated, figuresOf, answerAfter}
 use Rattle.meaning.specs.Conditions.{factorDegreeOutOfRange, countOutOfRange, termOutOfField}
 use Rattle.meaning.specs.Power.{PowerFigures, powerRating}
@@ -34,6 +36,8 @@ pub record Answerable (F : Field) (f : Polynomial) (ts : List ℕ) (o : Option �
   pub atLeastOne : 0 < length ts
   pub monic : T (isMonicOver F f)
   pub degreeInRange : factorDegreeOutOfRange F f ≡ false
+  pub inField : T (areElements F ts)
+  pub annihilates : (r : ℕ) → o ≡ some r → AnnihilatesEndless F (power F f r) (periodic ts)
   pub small : (r : ℕ) → o ≡ some r → r * degree f ≤ 4096
 
 pub record FoundRated (F : Field) (f : Polynomial) (ts : List ℕ) (o : Option ℕ) (answer : List ℕ)

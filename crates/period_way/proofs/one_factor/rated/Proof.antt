@@ -1,7 +1,9 @@
 -- `rated` meets its contract: nothing found is 17, and else the power is written and the shortest period
 -- told. Assumes nothing.
 use borrow.Author.Needs.{needs}
-use Rattle.period_way.proofs.one_factor.OneFactor.{power-input, nothing-rated, power-rated}
+use Rattle.arith.proofs.Represented.{field-isField}
+use Rattle.period_way.proofs.one_factor.OneFactor.{power-input, degree-decides, nothing-rated}
+use Rattle.period_way.proofs.one_factor.OneFactor.{power-rated}
 use Rattle.period_way.proofs.one_factor.rated.Statement.{statement}
 use Rattle.period_way.proofs.one_factor.rated.Tie as tie
 
@@ -20,8 +22,13 @@ write-power-requires c κs =
 
 shortest-period-requires : tie.Need-shortest-period-requires
 shortest-period-requires c κs =
-    let s = c .before .before .before .before .before .before .before .before .before .before in
-    s .pre .1 .1 .atLeastOne
+    let w = c .before .before in
+    let f = w .before .before .before in
+    let s = f .before .before .before .before .before in (
+      s .pre .1 .1 .atLeastOne,
+      degree-decides (s .pre .1 .1) (f .found .given .1) (field-isField (s .pre .0))
+          (w .write-power .ensures),
+    )
 
 returns : tie.Need-returns
 returns c = nothing-rated (c .enum-told .given .1)
