@@ -121,8 +121,8 @@ static void periods(size_t n) {
     volatile size_t sink;
     for (int kind = 0; kind < 3; kind++) {
         for (size_t i = 0; i < n; i++) terms[i] = kind == 0 ? below(2) : kind == 1 && i == n - 1;
-        same(leaf_shortest_period(terms, n) == c_shortest_period(terms, n), "shortest period");
-        MEASURE(sink = leaf_shortest_period(terms, n), sink = c_shortest_period(terms, n), 3000, a, b)
+        same(leaf_shortest_period(terms, n) == c_shortest_period(terms, n, n), "shortest period");
+        MEASURE(sink = leaf_shortest_period(terms, n), sink = c_shortest_period(terms, n, n), 3000, a, b)
         snprintf(what, sizeof what, "shortest period, %zu terms, %s", n, kinds[kind]);
         line(what, a / 1e3, b / 1e3, "µs");
         (void)sink;

@@ -238,8 +238,8 @@ fn one_term_changed() -> Outcome {
     Ok(cases)
 }
 
-// One term that is not 0, beside the borders of blocks of 256 places, in periods on both sides of whole blocks. The action of
-// x − 1 is 0 in all blocks but one or two, and 17 refuses all but the periods of 256 and 512 terms over GF(2).
+// One term that is not 0, beside the borders of blocks of 256 places, in periods on both sides of whole blocks. 17 refuses all
+// but those of 256 and 512 terms over GF(2), and of each the power p^w of x − 1 leaves two terms that are not 0.
 fn one_term_in_a_block() -> Outcome {
     let mut cases = 0;
     for p in [2, 3, 5, 251] {

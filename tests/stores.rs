@@ -1,7 +1,7 @@
 // The stores of the search for a period's power, counted by running. The counting copy of the sources, which
 // tests/counting/copy makes anew for each run, rates periods of N = p^w·N' terms as the call does, and stores single terms
 // at most N·(2 + w·(p − 1)) times, the final zeros apart, and no more than the search needs; it prints stores and bounds,
-// which docs/READING.md shows. Three wrong copies, with right answers, are caught.
+// which docs/READING.md shows. Four wrong copies, with right answers, are caught.
 mod common;
 
 use arith::GaloisField;
@@ -151,15 +151,13 @@ fn stores(counts: &Counts, period: &Period) -> Result<usize, String> {
 // The number of single terms that a copy's call stores, where it is within the bound and what is needed.
 fn stores_within(call: Call, period: &Period) -> Result<usize, String> {
     let stores = stores(&counts(call, period), period)?;
-    let bound = period.bound().min(period.needed());
-    if stores <= bound {
-        Ok(stores)
-    } else {
-        Err(format!(
-            "{}: {stores} stores, {bound} allowed",
-            period.name()
-        ))
+    let name = period.name();
+    for (bound, word) in [(period.bound(), "allowed"), (period.needed(), "needed")] {
+        if stores > bound {
+            return Err(format!("{name}: {stores} stores, {bound} {word}"));
+        }
     }
+    Ok(stores)
 }
 
 // A copy's search, as `period_power`; what it finds is left out.
@@ -443,13 +441,16 @@ fn files() -> Outcome {
     })
 }
 
-// A wrong copy answers right, so that it is the count that tells: of a period that is rated at w = 0, where the terms are
-// loaded and no power below p^w is tried.
-fn caught(call: Call, tell: impl Fn(&Period) -> Result<(), String>) -> Outcome {
+// A wrong copy answers right, so that it is the count that tells, of each of the periods that are meant.
+fn caught(
+    call: Call,
+    meant: impl Fn(&Period) -> bool,
+    tell: impl Fn(&Period) -> Result<(), String>,
+) -> Outcome {
     let mut cases = 0;
     for period in lines().iter().flat_map(|line| &line.periods) {
         same_answers(call, period)?;
-        if period.exponent() > 0 || period.rating.is_err() {
+        if !meant(period) {
             continue;
         }
         if tell(period).is_ok() {
@@ -460,20 +461,34 @@ fn caught(call: Call, tell: impl Fn(&Period) -> Result<(), String>) -> Outcome {
     Ok(cases)
 }
 
+// A period that is rated at w = 0: its terms are loaded, and no power below p^w is tried.
+fn only_loaded(period: &Period) -> bool {
+    period.exponent() == 0 && period.rating.is_ok()
+}
+
 fn twice_loaded() -> Outcome {
     let call = loads_twice_rate_period::rate_period;
-    caught(call, |period| stores_within(call, period).map(|_| ()))
+    let stores = |period: &Period| stores_within(call, period).map(|_| ());
+    caught(call, only_loaded, stores)
+}
+
+fn loaded_before() -> Outcome {
+    let call = loads_before_rate_period::rate_period;
+    let stores = |period: &Period| stores_within(call, period).map(|_| ());
+    caught(call, |period| period.rating.is_err(), stores)
 }
 
 fn kept_elsewhere() -> Outcome {
     let call = keeps_terms_rate_period::rate_period;
-    caught(call, |period| no_bytes_elsewhere(search_and_keep, period))?;
-    caught(call, |period| no_other_array(search_and_keep, period))
+    let bytes = |period: &Period| no_bytes_elsewhere(search_and_keep, period);
+    caught(call, only_loaded, bytes)?;
+    caught(call, only_loaded, |period| no_other_array(search_and_keep, period))
 }
 
 fn kept_wider() -> Outcome {
     let call = keeps_wider_rate_period::rate_period;
-    caught(call, |period| no_other_array(search_and_keep_wider, period))
+    let array = |period: &Period| no_other_array(search_and_keep_wider, period);
+    caught(call, only_loaded, array)
 }
 
 fn main() {
@@ -486,6 +501,7 @@ fn main() {
             ("other periods", other_periods),
             ("files", files),
             ("a copy that loads twice", twice_loaded),
+            ("a copy that loads before it tries", loaded_before),
             ("a copy that keeps the terms elsewhere", kept_elsewhere),
             ("a copy that keeps terms as wider numbers", kept_wider),
         ],

@@ -17,24 +17,22 @@
 --   multiple-product, product-multiple == f is no product of two of positive degree exactly where its
 --                        multiple is none
 -- Assumes nothing.
-use Prim.Native.Nat.{ℕ, zero, suc, _+_, _*_, _-_, _≤_, _<_}
+use Prim.Native.Nat.{ℕ, zero, suc, _+_, _*_, _-_, _<_}
 use mathlib.Core.Path.{_≡_, refl, sym, ap, ap₂, subst, _∙_}
 use mathlib.Core.Logic.{_≢_, _↔_}
-use mathlib.Core.Bool.{Bool, true, false, not, _||_}
+use mathlib.Core.Bool.{true, false, not, _||_}
 use mathlib.Core.List.{List, [], _∷_, map}
-use mathlib.Core.Option.{some}
 use native.Mathlib.Omega.{arith}
 use lib.ListN.{length, getD, length-map, List·getD-map}
 use lib.Dec.{T, eqb, ltb, eqb→eq}
 use borrow.Author.Tests.{eq-eqb}
-use Rattle.meaning.specs.Search.{least, holdsForSome}
+use Rattle.meaning.specs.Search.{holdsForSome}
 use Rattle.meaning.specs.Field.{Field, areElements}
 use Rattle.meaning.specs.Polynomial.{Polynomial, degree, leading, isMonic, isMonicOver, scale, times, power}
 use Rattle.meaning.specs.Polynomial.{product, monicMultiple, NotAProduct}
 use Rattle.meaning.specs.Sequence.{Sequence, AnnihilatesEndless}
 use Rattle.meaning.specs.Conditions.{named, totalDegree, factorDegreeOutOfRange, coefficientOutOfRange}
 use Rattle.meaning.specs.Conditions.{notMonic, upperPowersOutOfRange}
-use Rattle.algebra.proofs.Ring.{Ring}
 use Rattle.algebra.proofs.Ideal.{Divides, divides-mul, divides-refl, divides-multiple}
 use Rattle.algebra.proofs.Polynomial.{constant}
 use Rattle.algebra.proofs.Annihilator.{kills-ideal}

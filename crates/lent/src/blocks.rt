@@ -1,5 +1,6 @@
 // A block of the action of a polynomial on a period, at most 256 places of it. The products are added up in
-// sums on the stack, and each value is stored once. Assumes a well-formed field.
+// sums on the stack; then each value is stored once, or none where the question is whether all are 0. Assumes
+// a well-formed field.
 ghost use mathlib.Core.Path.{_≡_};
 ghost use Prim.Native.Nat.{_+_, _%_, _≤_, _<_};
 ghost use lib.ListN.{length, replicate};

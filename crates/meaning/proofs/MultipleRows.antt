@@ -22,7 +22,7 @@ use Rattle.meaning.proofs.Rows.{powerAnswer, setAnswer}
 abbrev row-E : Polynomial → Result (Rated PowerFigures)
 row-E f = ratePeriod 3 f (0 ∷ 1 ∷ 2 ∷ []) 4097 8192
 
--- over GF(3) the continuation of 1, 2 by f, from place 1 of a buffer of five bytes
+-- over GF(3) the continuation of the starting terms by f, from place 1 of a buffer of five bytes
 abbrev continued : Polynomial → List ℕ → Result (List ℕ)
 continued f start = continueSequence 3 f start 1 (9 ∷ 9 ∷ 9 ∷ 9 ∷ 9 ∷ [])
 

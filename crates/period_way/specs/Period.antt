@@ -1,10 +1,12 @@
 -- What the contracts of the period way cite.
 --
 --   told r            == the power that an answer tells, or none
---   PeriodInput F f ts == accepted input: f is irreducible and monic over F, of positive degree, and ts are 1
---                        to 4,096 elements of F
---   PeriodSearched, PeriodFound F f ts w w′ r == r tells the power of the period way, and the work bytes w
---                        have become w′: those beyond the halves are as they were; and the first 8,192 are 0
+--   PeriodInput F f ts == accepted input: f is irreducible and monic over F, of a degree from 1 to 4,096, and
+--                        ts are 1 to 4,096 elements of F
+--   PeriodSearched F f ts w w′ r == r tells the power of the period way, and the work bytes w have become w′:
+--                        those beyond the halves are as they were
+--   PeriodFound F f ts w w′ r == r tells it, and w has become w′: the first 8,192 are 0, and the others as
+--                        they were
 use Prim.Native.Nat.{ℕ, _≤_}
 use mathlib.Core.Path.{_≡_}
 use mathlib.Core.List.{List}

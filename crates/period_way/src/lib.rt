@@ -8,7 +8,7 @@ ghost use lib.ListN.{length};
 ghost use Rattle.arith.specs.Represented.{fieldOf, WellFormed};
 ghost use Rattle.powers.specs.levels.Levels.{Dividing};
 ghost use Rattle.period_way.specs.Period.{PeriodInput, PeriodSearched, PeriodFound};
-use action::annihilates;
+use action::annihilates_period;
 use arith::GaloisField;
 use lent::clear;
 use lent::halves::load;
@@ -42,7 +42,7 @@ pub fn search_level(
         (now (work .exit)) r ⌝ }
 {
     let q = level.power;
-    if annihilates(field, terms, f, q) {
+    if annihilates_period(field, terms, f, q) {
         let count = smaller(terms.len(), q * (f.len() - 1));
         load(work, 0, &terms[0..count]);
         Found::Power(least_power(field, work, 0, count, f, level) as u64)

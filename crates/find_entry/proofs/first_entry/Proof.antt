@@ -2,7 +2,6 @@
 -- number of entries that are left. Assumes nothing.
 use Prim.Native.Nat.{_-_}
 use borrow.Author.Needs.{needs}
-use native.Mathlib.Omega.{arith}
 use Rattle.find_entry.proofs.Entries.{look-places, Searching, searching-none, searching-room}
 use Rattle.find_entry.proofs.Entries.{searching-more, searching-found, searching-end}
 use Rattle.find_entry.proofs.first_entry.Statement.{statement}

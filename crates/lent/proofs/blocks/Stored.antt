@@ -1,6 +1,5 @@
 -- The numbers of a list that are lent as a period, and the block of an action that comes back.
 --
---   stride-reduced    == the stride may be reduced modulo the number of terms
 --   block-acted       == the block is pasted in its place, and the stride may have been reduced
 --   block-zero        == whether it is 0, with as many sums as values and the stride reduced
 --
@@ -25,7 +24,7 @@ use Rattle.lent.proofs.Parts.{put-paste}
 use Rattle.lent.proofs.blocks.Cycles.{stride-congruent}
 
 module _ (F : Field) (f : Polynomial) (q : ℕ) (ts : List ℕ) (i m : ℕ) where
-  pub stride-reduced : blockOnPeriod F f (q % length ts) ts i m ≡ blockOnPeriod F f q ts i m
+  stride-reduced : blockOnPeriod F f (q % length ts) ts i m ≡ blockOnPeriod F f q ts i m
   stride-reduced =
       cut-equal (actStride F f (q % length ts) (periodic ts)) (actStride F f q (periodic ts)) i i m
       (λ j _. stride-congruent F f ts (q % length ts) q (i + j) (i + j) (mod-mod q (length ts)) refl)

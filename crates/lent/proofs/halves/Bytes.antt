@@ -59,7 +59,7 @@ unfolding cleared
 cleared-kept x = ap (λ l. replicate 8192 0 ++ l) (x .beyond)
 
 -- a half that was kept, as far as it was in use
-pub placed-same : {w : List ℕ} {h k : ℕ} {values w′ : List ℕ} (n : ℕ)
+placed-same : {w : List ℕ} {h k : ℕ} {values w′ : List ℕ} (n : ℕ)
     → n ≤ 4096
     → Placed w h k values w′
     → half w′ k n ≡ half w k n

@@ -10,11 +10,11 @@ use Rattle.period_way.proofs.Periodic.{searched-none, searched-some}
 use Rattle.period_way.proofs.search_level.Statement.{statement}
 use Rattle.period_way.proofs.search_level.Tie as tie
 
-abbrev start : tie.After-annihilates → tie.Start
+abbrev start : tie.After-annihilates-period → tie.Start
 start a = a .before .before .before .before
 
-annihilates-requires : tie.Need-annihilates-requires
-annihilates-requires c κs = search needs
+annihilates-period-requires : tie.Need-annihilates-period-requires
+annihilates-period-requires c κs = search needs
 
 sub-smaller : tie.Need-sub-smaller
 sub-smaller c =
@@ -82,7 +82,7 @@ returns c =
     let s = start (i .before) in
     let x = s .pre .1 .1 in
     searched-some (s .pre .0) _ _ (x .0) (s .args .level) (x .1)
-    (i .before .annihilates .ensures)
+    (i .before .annihilates-period .ensures)
     (m .smaller .ensures)
     (o .load .ensures)
     (i .if1 .taken)
@@ -93,7 +93,7 @@ returns-2 c =
     let s = start (c .before) in
     let x = s .pre .1 .1 in
     searched-none (s .pre .0) _ _ (x .0) (s .args .level) (x .1)
-    (c .before .annihilates .ensures)
+    (c .before .annihilates-period .ensures)
     _
     (c .if1 .left)
 
@@ -101,7 +101,7 @@ pub search-level-spec : {M : Type 1} → statement M
 search-level-spec =
     tie.close
     (tie.spec
-    annihilates-requires
+    annihilates-period-requires
     sub-smaller
     mul-smaller
     smaller-requires

@@ -9,20 +9,18 @@
 -- Assumes nothing.
 use Prim.Native.Nat.{ℕ, zero, suc, _+_, _*_, _-_, _≤_, _<_}
 use mathlib.Core.Path.{_≡_, refl, sym, ap, ap₂, subst, _∙_}
-use mathlib.Core.Logic.{_≢_}
 use mathlib.Core.List.{List, [], _∷_, _++_, map}
-use native.Mathlib.Nat.{sub-zero, add-sub-cancel-left}
+use native.Mathlib.Nat.{add-sub-cancel-left}
 use native.Mathlib.Decide.{decLt}
 use native.Mathlib.Omega.{arith}
-use lib.ListN.{length, getD, take, drop, length-take, length-drop, length-append, length-map, List·getD-map}
+use lib.ListN.{length, getD, take, drop, length-take, length-drop, length-append, length-map}
 use lib.ListN.{List·getD-eq-default}
 use lib.Seq.{paste, length-paste, take-all, take-at, drop-at, take-take}
-use lib.Dec.{T}
 use borrow.Rule.Slice.PartMut.{putMid}
 use Rattle.meaning.specs.Field.{Field}
-use Rattle.meaning.specs.Polynomial.{Polynomial, degree, leading, isMonic, isMonicOver, scale, monicMultiple}
+use Rattle.meaning.specs.Polynomial.{Polynomial, leading, scale, monicMultiple}
 use Rattle.bridge.proofs.Interpretation.{IsField}
-use Rattle.bridge.proofs.Polynomials.{leading-getD, leading-nonempty, length-degree, getD-below, length-scale}
+use Rattle.bridge.proofs.Polynomials.{leading-getD, leading-nonempty, length-degree, getD-below}
 use Rattle.bridge.proofs.Polynomials.{monic-over}
 use Rattle.bridge.proofs.Multiples.{Leads, multiple-self, multiple-unique, multiple-length}
 use Rattle.arith.specs.Inverse.{inverse}

@@ -4,7 +4,6 @@ use native.Mathlib.Omega.{arith}
 use mathlib.Core.Path.{sym, ap, subst, _∙_}
 use lib.ListN.{replicate}
 use borrow.Author.Needs.{needs}
-use denote.Ref.{now}
 use Rattle.meaning.specs.Field.{prime}
 use Rattle.meaning.specs.Polynomial.{irreducible}
 use Rattle.irreducible.specs.Accepted.{Accepted}

@@ -2,7 +2,6 @@
 -- multiplied. Assumes nothing.
 use borrow.Author.Needs.{needs}
 use native.Mathlib.Omega.{arith}
-use mathlib.Core.Path.{_∙_}
 use denote.Ref.{now}
 use Rattle.arith.proofs.Represented.{field-isField}
 use Rattle.poly.proofs.multiples.Laying.{some, left-as-copied, left-multiplied}
