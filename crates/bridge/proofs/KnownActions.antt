@@ -89,13 +89,6 @@ pub allZero-cut : (s : Sequence) (k m : ℕ) → ((i : ℕ) → i < m → s (k +
 allZero-cut s k m h =
     getD-allZero (cut s k m) (λ i l. let b : i < m = rw length-cut at l in getD-cut s k m i b ∙ h i b)
 
--- a part of a stretch of zeros
-pub zeros-part : (s : Sequence) (n i m : ℕ) → i + m ≤ n → T (allZero (cut s 0 n)) → T (allZero (cut s i m))
-zeros-part s n i m l h =
-    allZero-cut s i m
-    (λ j k.
-    sym (getD-cut s 0 n (i + j) (omega arith) ∙ ap s (omega arith)) ∙ allZero-getD (cut s 0 n) h (i + j))
-
 -- a list of values by places is a stretch
 pub map-range : (s : Sequence) (k m : ℕ) → map s (range k m) ≡ cut s k m
 unfolding range cut

@@ -6,9 +6,9 @@ use borrow.Author.Needs.{needs}
 use lib.ListN.{length}
 use denote.Ref.{now}
 use native.Mathlib.Omega.{arith}
+use Rattle.lent.proofs.Zeros.{Anything, anything-none, anything-more, anything-end}
 use Rattle.action.specs.bits.Bits.{bitsOf}
 use Rattle.action.proofs.bits.Summed.{length-bits, getD-bits}
-use Rattle.action.proofs.bits.Summed.{Anything, anything-none, anything-more, anything-end}
 use Rattle.action.proofs.bits.are_zero.Statement.{statement}
 use Rattle.action.proofs.bits.are_zero.Tie as tie
 

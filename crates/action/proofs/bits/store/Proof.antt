@@ -9,9 +9,9 @@ use native.Mathlib.Omega.{arith}
 use Rattle.arith.proofs.Writing.{Writing, writing-none, front-more}
 use Rattle.bridge.proofs.KnownActions.{allZero}
 use Rattle.arith.proofs.sums.Elements.{written-whole}
+use Rattle.lent.proofs.Zeros.{Anything, anything-none, anything-more, anything-end}
 use Rattle.action.specs.bits.Bits.{bitsOf}
 use Rattle.action.proofs.bits.Summed.{length-bits, getD-bits}
-use Rattle.action.proofs.bits.Summed.{Anything, anything-none, anything-more, anything-end}
 use Rattle.action.proofs.bits.store.Statement.{statement}
 use Rattle.action.proofs.bits.store.Tie as tie
 
