@@ -28,8 +28,10 @@ fn rate_numbered_set(
         (numbersOf (now (uppers .entry))) (now (terms .entry)) (now (answer .entry)) (now (work .entry)) r
         (now (answer .exit)) (now (work .exit)) ⌝ }
 {
-    let parts = first_nine(lengths);
-    let powers = first_nine(uppers);
+    let mut parts = [0u64; 9];
+    let mut powers = [0u64; 9];
+    first_nine(lengths, &mut parts);
+    first_nine(uppers, &mut powers);
     let count = smaller(number_count(lengths), 9);
     rate_concatenated(p, factors, &parts[0..count], &powers, terms, answer, work)
 }

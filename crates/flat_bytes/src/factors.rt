@@ -5,26 +5,22 @@ use meaning::SetRating;
 use rate_set::rate_set;
 ghost use mathlib.Core.Path.{_≡_};
 ghost use mathlib.Core.List.{[]};
-ghost use Prim.Native.Nat.{_≤_};
-ghost use lib.ListN.{getD};
+ghost use Prim.Native.Nat.{_≤_, _<_};
+ghost use lib.ListN.{length, getD};
 ghost use Rattle.meaning.specs.Calls.{SetCall};
 ghost use Rattle.meaning.specs.FlatBytes.{split};
 ghost use Rattle.flat_bytes.specs.factors.Parts.{PartEnd};
 
 // Where the part with the length at the place i ends that begins at `from`, in `size` bytes.
 fn part_end(size: usize, from: usize, lengths: &[u64], i: usize) -> usize
-    requires { ⌜ from ≤ size ⌝ }
+    requires { ⌜ (from ≤ size) × (i < length (now lengths)) ⌝ }
     ensures { λ r. ⌜ PartEnd size from (getD (now (lengths .entry)) i 0) r ⌝ }
 {
-    if i < lengths.len() {
-        let length = lengths[i];
-        if length < (size - from) as u64 {
-            from + length as usize
-        } else {
-            size
-        }
+    let length = lengths[i];
+    if length < (size - from) as u64 {
+        from + length as usize
     } else {
-        from
+        size
     }
 }
 

@@ -83,16 +83,15 @@ pub fn write_eight(numbers: &[u64; 8], room: &mut [u8])
     bytes::copy(&all[0..n], room);
 }
 
-// The first nine numbers that the bytes hold, with zeros after them where there are fewer.
-pub fn first_nine(bytes: &[u8]) -> [u64; 9]
-    ensures { λ r. ⌜ FirstNine (numbersOf (now (bytes .entry))) r ⌝ }
+// Leaves the first nine numbers that the bytes hold, with zeros after them where there are fewer.
+pub fn first_nine(bytes: &[u8], numbers: &mut [u64; 9])
+    requires { ⌜ length (now numbers) ≡ 9 ⌝ }
+    ensures { λ _. ⌜ FirstNine (numbersOf (now (bytes .entry))) (now (numbers .exit)) ⌝ }
 {
-    let mut numbers = [0u64; 9];
     let mut i = 0;
     // the numbers before i are those that the bytes hold
     while i < 9 {
         numbers[i] = number_at(bytes, i);
         i += 1;
     }
-    numbers
 }

@@ -47,8 +47,8 @@ returns c =
     let n = r .before .before .before .before .before .before in
     let k = n .before in
     let u = k .before in
-    let f = u .before in
-    let s = f .before .before .before .before .before .before .before in
+    let f = u .before .before in
+    let s = f .before .before .before .before .before .before .before .before in
     numbered-call (now (s .args .factors)) (f .first-nine .ensures) (u .first-nine2 .ensures)
     (n .smaller .ensures ∙ ap (λ m. min m 9) (k .number-count .ensures))
     (r .rate-concatenated .ensures)

@@ -31,7 +31,7 @@ loop-holds : tie.Need-loop-holds Inv-loop μ-loop
 loop-holds c = part-start _ _ _
 
 part-end-requires : tie.Need-part-end-requires Inv-loop μ-loop
-part-end-requires c κs = c .before .loop .inv .inside
+part-end-requires c κs = (c .before .loop .inv .inside, omega arith)
 
 add-j : tie.Need-add-j Inv-loop μ-loop
 add-j c = omega arith
@@ -43,7 +43,7 @@ loop-again : tie.Need-loop-again Inv-loop μ-loop
 loop-again c = part-next (c .before .before .loop .inv) (c .part-end .ensures) (c .before .loop-test .taken)
 
 part-end-requires-2 : tie.Need-part-end-requires-2 Inv-loop μ-loop
-part-end-requires-2 c κs = c .before .loop .inv .inside
+part-end-requires-2 c κs = (c .before .loop .inv .inside, omega arith)
 
 sub-result-2 : tie.Need-sub-result-2 Inv-loop μ-loop
 sub-result-2 c = c .part-end2 .ensures .rising
