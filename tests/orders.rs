@@ -89,13 +89,58 @@ fn long() -> Outcome {
             cases += 1;
         }
     }
-    // the place where the residues start anew
-    for (p, d) in [(3, 8), (5, 6), (251, 3)] {
+    // the place where the residues start anew, and the steps of 512 and 1,024 powers
+    for (p, d) in [(2, 16), (3, 8), (5, 6), (251, 3)] {
         let mut f = random.monic(p, d);
         f[0] = 1;
-        for limit in [1023, 1024, 1025, 2047, 2048, 2049, LONGEST] {
-            order_agrees(p, &f, limit)?;
+        for at in [128, 512, 1024, 2048, 65024] {
+            for limit in [at - 1, at, at + 1] {
+                order_agrees(p, &f, limit)?;
+                cases += 1;
+            }
+        }
+    }
+    Ok(cases)
+}
+
+// Orders of all sizes up to the longest, and beyond it, with limits on both sides of each
+fn stepped() -> Outcome {
+    let mut random = Random::of_seed(83);
+    let mut cases = 0;
+    let binary = [11, 12, 13, 14, 15, 16, 17, 20, 24, 31, 32].map(|d| (2, d));
+    let ternary = [7, 8, 9, 10, 11, 16, 21].map(|d| (3, d));
+    let others = [
+        (5, 5),
+        (5, 6),
+        (5, 7),
+        (7, 4),
+        (7, 5),
+        (13, 3),
+        (13, 4),
+        (31, 2),
+        (31, 3),
+        (61, 2),
+        (61, 3),
+        (127, 2),
+        (251, 2),
+        (251, 3),
+        (251, 5),
+    ];
+    for (p, d) in binary.into_iter().chain(ternary).chain(others) {
+        for _ in 0..8 {
+            let mut f = random.monic(p, d);
+            f[0] = random.between(1, p - 1) as u8;
+            let n = order_agrees(p, &f, LONGEST)?;
             cases += 1;
+            if n > 0 {
+                expect(order(p, &f, n), n, || {
+                    format!("p {p}, {}, limit {n}", list(&f))
+                })?;
+                expect(order(p, &f, n - 1), 0, || {
+                    format!("p {p}, {}, limit {n} less 1", list(&f))
+                })?;
+                cases += 2;
+            }
         }
     }
     Ok(cases)
@@ -118,8 +163,8 @@ fn registers() -> Outcome {
         "degree 16, a limit less".into()
     })?;
     expect(order(2, &seventeen, LONGEST), 0, || "degree 17".into())?;
-    expect(order(2, &seventeen, 131071), 131071, || {
-        "degree 17, told".into()
+    expect(order(2, &seventeen, 131071), 0, || {
+        "a limit beyond 65,536".into()
     })?;
     order_agrees(2, &sixteen, LONGEST)?;
     let mut ten = terms(10, &[0, 1, 2, 10]);
@@ -213,6 +258,7 @@ fn main() {
         &[
             ("all small polynomials", all_small),
             ("long orders", long),
+            ("orders of all sizes", stepped),
             ("registers", registers),
             ("where no order is told", no_orders),
             ("common multiples", multiples),

@@ -16,6 +16,7 @@ pub mod Words
 pub mod TrialDivision
 pub mod Bits
 pub mod BitOrders
+pub mod BitProducts
 pub mod Continuations
 pub mod Minimal
 pub mod KnownActions

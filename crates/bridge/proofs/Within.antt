@@ -7,6 +7,9 @@
 --   within-small       == it is at most b
 --   within-zero        == where it is 0, none from 1 to b passes
 --   within-same        == it depends on the test from 1 to b alone
+--   within-longer, within-kept, within-cut == by two bounds: where it is not 0 within the smaller one, it is
+--                         the same within the larger; where within the larger it is at most the smaller, it
+--                         is the same within this, and else 0
 --   within-multiples   == where t passes on multiples of q alone, and on q·k where u does on k, it is q times
 --                         what u has within b / q
 --   Closed t           == what passes t is closed under multiples and differences
@@ -19,7 +22,7 @@
 -- Assumes nothing.
 use Prim.Native.Nat.{ℕ, _+_, _*_, _/_, _%_, _∣_, _≤_, _<_}
 use mathlib.Core.Path.{_≡_, sym, ap, ap₂, subst, _∙_}
-use mathlib.Core.Logic.{_⊎_, inl, inr}
+use mathlib.Core.Logic.{_≢_, _⊎_, inl, inr}
 use mathlib.Core.Bool.{Bool, _&&_}
 use mathlib.Core.Option.{none, some}
 use native.Mathlib.Nat as ℕ
@@ -99,6 +102,26 @@ within-same b t u same = elim (within-either b u) [
           holds = (x .holds .0, subst T (sym (same _ (x .holds .0) l)) (x .holds .1));
           least = λ m k h. x .least m k (h .0, subst T (same m (h .0) (omega arith)) (h .1));
         }
+
+-- Two bounds
+module _ {b c : ℕ} (t : ℕ → Bool) (l : b ≤ c) where
+  pub within-longer : leastWithin b t ≢ 0 → leastWithin b t ≡ leastWithin c t
+  within-longer z = elim (within-either b t) [
+    | inl (k, x) ↦ sym (within-found c t (ℕ.le-trans k l) x)
+    | inr (e, _) ↦ absurd (z e)
+  ]
+
+  pub within-kept : leastWithin c t ≤ b → leastWithin c t ≡ leastWithin b t
+  within-kept k = elim (within-either c t) [
+    | inl (_, x) ↦ sym (within-found b t k x)
+    | inr (e, h) ↦ e ∙ sym (within-missing b t (λ n p q. h n p (ℕ.le-trans q l)))
+  ]
+
+  pub within-cut : b < leastWithin c t → 0 ≡ leastWithin b t
+  within-cut k = elim (within-either c t) [
+    | inl (_, x) ↦ sym (within-missing b t (λ n p q z. x .least n (ℕ.lt-of-le-of-lt q k) (p, z)))
+    | inr (e, _) ↦ absurd (omega (arith, e))
+  ]
 
 -- Multiples of a number
 module _

@@ -37,6 +37,13 @@ unfolding whereSuited
 where-no true x y e = absurd (false-T (sym e) tt)
 where-no false x y e = refl
 
+-- a limit, and then what else is asked
+pub limit-beyond : (b : Bool) {n : ℕ} → 65536 < n → false ≡ (leb n 65536 && b)
+limit-beyond b {n} l = rw (lt-leb n 65536 l)
+
+pub limit-within : (b : Bool) {n : ℕ} → n ≤ 65536 → b ≡ (leb n 65536 && b)
+limit-within b {n} l = rw (le-leb n 65536 l)
+
 -- The test of a modulus, from its parts
 module _ (p : ℕ) (f : List ℕ) where
   pub modulus-short : length f < 2 → false ≡ isModulus p f

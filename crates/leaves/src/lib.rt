@@ -10,7 +10,9 @@ use orders::order_within;
 use poly::division::divide;
 use repetition::shortest_period;
 ghost use mathlib.Core.Path.{_≡_};
+ghost use mathlib.Core.Bool.{_&&_};
 ghost use lib.ListN.{length};
+ghost use lib.Dec.{leb};
 ghost use Rattle.meaning.specs.Field.{prime, primeInRange};
 ghost use Rattle.meaning.specs.Sequence.{actAt, known};
 ghost use Rattle.meaning.specs.Repeat.{shortestPeriod};
@@ -108,13 +110,16 @@ fn is_modulus(p: u64, f: &[u8]) -> bool
     f[f.len() - 1] == 1
 }
 
-// The order of x modulo f, which is monic of degree 1 to 32, or 0 where it exceeds the limit or there is
-// none.
+// The order of x modulo f, which is monic of degree 1 to 32, or 0 where it exceeds the limit, which is at
+// most 65,536, or there is none.
 #[no_mangle]
 pub extern "C" fn leaf_order(p: u64, f: &[u8], limit: usize) -> usize
-    ensures { λ r. ⌜ r ≡ whereSuited (isModulus p (now (f .entry)))
+    ensures { λ r. ⌜ r ≡ whereSuited (leb limit 65536 && isModulus p (now (f .entry)))
         (orderWithin (prime p) (now (f .entry)) limit) 0 ⌝ }
 {
+    if 65536 < limit {
+        return 0;
+    }
     if is_modulus(p, f) {
         order_within(GaloisField::of_prime(p), f, limit)
     } else {

@@ -1,3 +1,4 @@
 pub mod Copies
 pub mod Modulus
 pub mod Factors
+pub mod Returning

@@ -2,14 +2,13 @@
 --
 --   lowered-made     == the lowered list, made in place from a copy: the numbers below the leading one times
 --                       −1
---   lowered-short    == it has 1 to 32 numbers
 --   order-lowered    == the order by the lowered list is the order
 --   field-two        == a field of size 2 is GF(2)
---   packable, word-degree, word-list == a monic list over GF(2) as a word: it fits, has its degree, and is
+--   packable, word-modulus, word-list == a monic list over GF(2) as a word: it fits, has its degree, and is
 --                       the list again
 --
 -- Assumes nothing.
-use Prim.Native.Nat.{ℕ, suc, _+_, _-_, _^_, _≤_, _<_}
+use Prim.Native.Nat.{ℕ, suc, _+_, _-_, _^_, _<_}
 use mathlib.Core.Path.{_≡_, refl, ap, ap₂, subst, _∙_}
 use mathlib.Core.List.{List, [], _∷_, _++_, map}
 use native.Mathlib.Omega.{arith}
@@ -32,6 +31,7 @@ use Rattle.arith.specs.Represented.{fieldOf}
 use Rattle.arith.specs.declared.field.GaloisField.{GaloisField}
 use Rattle.poly.specs.residues.Residues.{Modulus}
 use Rattle.irreducible.specs.binary.Binary.{Packable, HasDegree}
+use Rattle.orders.specs.binary.Words.{Modulus as BinaryModulus}
 use Rattle.orders.proofs.Copies.{copied-front}
 
 -- The lowered list
@@ -82,11 +82,6 @@ module _ {F : Field} (I : IsField F) where
           ∙ ap (λ n. take n g) below)
           ∙ lowered-scaled g (monic-elements F g o)
 
-pub lowered-short :
-    {F : Field} {g : Polynomial} → Modulus F g → (0 < length (lowered F g)) × (length (lowered F g) ≤ 32)
-lowered-short {F} {g} x =
-    (omega (arith, length-lowered F g, x .positive), omega (arith, length-lowered F g, x .small))
-
 pub order-lowered :
     (F : Field) (g : Polynomial) {h : List ℕ} {r : ℕ} (limit : ℕ)
     → h ≡ lowered F g
@@ -112,15 +107,18 @@ module _ {f : Polynomial} (x : Modulus (prime 2) f) where
   pub packable : Packable f
   packable = record { digits = below; short = omega (arith, long, x .small) }
 
-  pub word-degree : HasDegree (value 2 f) (length f - 1)
+  word-degree : HasDegree (value 2 f) (degree f)
   word-degree =
-      let d : degree f ≡ length f - 1 = omega (arith, long) in
-      subst (HasDegree (value 2 f)) d
-      (record {
+      record {
         small = x .small;
         low = value-top 2 f (degree f) long (monic-last (prime 2) f (x .monic));
         high = subst (λ n. value 2 f < 2 ^ n) long (value-below below);
-      })
+      }
+
+  pub word-modulus : BinaryModulus (value 2 f) (length f - 1)
+  word-modulus =
+      let d : degree f ≡ length f - 1 = omega (arith, long) in
+      subst (BinaryModulus (value 2 f)) d record { degree = word-degree; positive = x .positive }
 
   pub word-list : {w : ℕ} → w ≡ value 2 f → digits 2 (length f - 1 + 1) w ≡ f
   word-list e =

@@ -1,3 +1,4 @@
 pub mod Factors
 pub mod binary
 pub mod cycle
+pub mod notes

@@ -4,6 +4,7 @@
 pub mod binary;
 pub mod cycle;
 pub mod multiples;
+mod notes;
 
 use crate::cycle::least_return;
 use crate::multiples::common_within;
@@ -25,19 +26,21 @@ ghost use Rattle.orders.specs.Factors.{PoweredFactors};
 fn order_by_bytes(field: GaloisField, f: &[u8], limit: usize) -> usize
     requires { ⌜ WellFormed field ⌝ }
     requires { ⌜ Modulus (fieldOf field) (now f) ⌝ }
+    requires { ⌜ limit ≤ 65536 ⌝ }
     ensures { λ r. ⌜ r ≡ orderWithin (fieldOf field) (now (f .entry)) limit ⌝ }
 {
     let d = f.len() - 1;
     let mut low = [0u8; 32];
     bytes::copy(&f[0..d], &mut low);
     field.multiply(&mut low[0..d], field.negative(1));
-    least_return(field, &low[0..d], limit)
+    least_return(field, f, &low[0..d], limit)
 }
 
 // The order of x modulo f, or 0 where it exceeds the limit or x divides f.
 pub fn order_within(field: GaloisField, f: &[u8], limit: usize) -> usize
     requires { ⌜ WellFormed field ⌝ }
     requires { ⌜ Modulus (fieldOf field) (now f) ⌝ }
+    requires { ⌜ limit ≤ 65536 ⌝ }
     ensures { λ r. ⌜ r ≡ orderWithin (fieldOf field) (now (f .entry)) limit ⌝ }
 {
     if f[0] == 0 {

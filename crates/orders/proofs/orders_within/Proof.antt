@@ -58,7 +58,7 @@ order-within-requires c κs =
     let fs = now (s .args .factors) in
     let rs = now (s .args .powers) in (
       s .pre .0,
-      factor-modulus fs rs (s .pre .1 .0) _ (omega arith),
+      (factor-modulus fs rs (s .pre .1 .0) _ (omega arith), s .pre .1 .1),
     )
 
 common-within-requires : tie.Need-common-within-requires Inv-loop μ-loop

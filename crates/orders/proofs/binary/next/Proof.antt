@@ -1,7 +1,7 @@
 -- `binary::next` meets its contract. Assumes nothing.
 use mathlib.Core.Path.{sym}
 use borrow.Author.Needs.{needs}
-use Rattle.orders.proofs.binary.Walking.{next-doubled, next-taken}
+use Rattle.orders.proofs.binary.Steps.{next-doubled, next-taken}
 use Rattle.orders.proofs.binary.next.Statement.{statement}
 use Rattle.orders.proofs.binary.next.Tie as tie
 

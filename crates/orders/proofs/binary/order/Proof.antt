@@ -1,73 +1,73 @@
--- `binary::order` meets its contract. The invariant is `Walking`, and the measure what is left of the limit.
--- Assumes nothing.
-use Prim.Native.Nat.{_-_, _^_, _≤_}
-use mathlib.Core.Path.{_≡_}
+-- `binary::order` meets its contract. Assumes nothing.
+use Prim.Native.Nat.{_+_, _*_, _/_}
+use mathlib.Core.Path.{sym, _∙_}
 use native.Mathlib.Omega.{arith}
-use lib.Pow.{pow-mono}
 use borrow.Author.Needs.{needs}
-use Rattle.irreducible.specs.binary.Binary.{HasDegree}
-use Rattle.orders.proofs.binary.Walking.{Walking, walking-start, walking-next, walking-found}
-use Rattle.orders.proofs.binary.Walking.{walking-missing, walking-small, top-word}
+use Rattle.meaning.specs.Field.{prime}
+use Rattle.orders.proofs.binary.Walking.{reached-start, missed, order-longer, order-kept, order-cut}
 use Rattle.orders.proofs.binary.order.Statement.{statement}
 use Rattle.orders.proofs.binary.order.Tie as tie
 
-abbrev Inv-loop : tie.InvT-loop
-Inv-loop f d limit top w₀ n₀ w n = (n ≤ limit) × (top ≡ 2 ^ d) × ((x : HasDegree f d) → Walking x n w)
+walk-requires : tie.Need-walk-requires
+walk-requires c κs = let s = c .before in (s .pre .0, reached-start (s .pre .0))
 
-abbrev μ-loop : tie.MeasureT-loop
-μ-loop f d limit top w₀ n₀ w n = limit - n
+returns : tie.Need-returns
+returns c = search needs
 
-shl-top : tie.Need-shl-top Inv-loop μ-loop
-shl-top c = omega (arith, c .pre .0 .small)
+walk-requires-2 : tie.Need-walk-requires-2
+walk-requires-2 c κs = let s = c .before in (s .pre .0, reached-start (s .pre .0))
 
-loop-holds : tie.Need-loop-holds Inv-loop μ-loop
-loop-holds c = (omega arith, top-word (c .args .d) (c .pre .0 .small), λ x. walking-start x (c .pre .1))
-
-next-requires : tie.Need-next-requires Inv-loop μ-loop
-next-requires c κs =
-    let s = c .before .before in
-    let small = walking-small (s .pre .0) (c .before .loop .inv .2 (s .pre .0)) in
-    let most = pow-mono {i = s .args .d} {j = 32} (s .pre .0 .small) in
-    omega arith
-
-add-n : tie.Need-add-n Inv-loop μ-loop
-add-n c = search needs
-
-returns : tie.Need-returns Inv-loop μ-loop
-returns c =
-    let s = c .before .before .before .before in
-    let l = c .before .before .before .loop in
-    walking-found (s .pre .0) (l .inv .2 (s .pre .0)) (l .inv .1) (c .before .next .ensures) (s .pre .1)
-    (s .args .limit) (omega arith) (c .if1 .taken)
-
-loop-less : tie.Need-loop-less Inv-loop μ-loop
-loop-less c = search needs
-
-loop-again : tie.Need-loop-again Inv-loop μ-loop
-loop-again c =
-    let l = c .before .before .before .loop in (
-      omega arith,
-      l .inv .1,
-      λ x. walking-next x (l .inv .2 x) (l .inv .1) (c .before .next .ensures) (c .if1 .left),
-    )
-
-returns-2 : tie.Need-returns-2 Inv-loop μ-loop
+returns-2 : tie.Need-returns-2
 returns-2 c =
-    let s = c .before .before in
-    walking-missing (s .pre .0) (c .before .loop .inv .2 (s .pre .0)) (s .pre .1) (s .args .limit)
-    (omega arith)
+    let s = c .before .before .before in
+    order-longer (prime 2) _ {b = 1024} {c = s .args .limit} (omega arith) (c .before .walk2 .ensures)
+    (c .if2 .taken)
+
+slice-aggregate-note-powers : tie.Need-slice-aggregate-note-powers
+slice-aggregate-note-powers c = search needs
+
+note-powers-requires : tie.Need-note-powers-requires
+note-powers-requires c κs = search needs
+
+slice-aggregate-leap : tie.Need-slice-aggregate-leap
+slice-aggregate-leap c = search needs
+
+add-leap : tie.Need-add-leap
+add-leap c = search needs
+
+leap-requires : tie.Need-leap-requires
+leap-requires c κs =
+    let s = c .before .before .before .before .before .before .before in
+    let x = s .pre .0 in
+    let none = c .before .before .before .before .before .walk2 .ensures in
+    let y = c .before .before .note-powers .ensures in
+    let reached = missed x 0 1024 (y .word) (sym (c .before .before .before .before .if2 .left) ∙ none) in
+    (x, (y, (reached, (omega arith, omega arith))))
+
+returns-3 : tie.Need-returns-3
+returns-3 c =
+    let s = c .before .before .before .before .before .before .before .before .before in
+    order-cut (prime 2) _ {c = 1024 * ((s .args .limit + 1023) / 1024)} (omega arith)
+    (c .before .leap .ensures) (c .if3 .taken)
+
+returns-4 : tie.Need-returns-4
+returns-4 c =
+    let s = c .before .before .before .before .before .before .before .before .before in
+    order-kept (prime 2) _ {c = 1024 * ((s .args .limit + 1023) / 1024)} (omega arith)
+    (c .before .leap .ensures) (c .if3 .left)
 
 pub order-spec : {M : Type 1} → statement M
 order-spec =
     tie.close
     (tie.spec
-    Inv-loop
-    μ-loop
-    shl-top
-    loop-holds
-    next-requires
-    add-n
+    walk-requires
     returns
-    loop-less
-    loop-again
-    returns-2)
+    walk-requires-2
+    returns-2
+    slice-aggregate-note-powers
+    note-powers-requires
+    slice-aggregate-leap
+    add-leap
+    leap-requires
+    returns-3
+    returns-4)
