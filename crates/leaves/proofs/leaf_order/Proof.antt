@@ -36,7 +36,7 @@ returns-2 c =
     let t = c .before .before in
     let a = t .before .before .before .before .args in
     where-yes _ _ 0
-    (true-T (sym (limit-within _ (t .before .before .before .if1 .left))
+    (true-T (sym (limit-within _ (t .before .before .if1 .left))
     ∙ sym (t .before .is-modulus .ensures) ∙ t .if2 .taken))
     (c .order-within .ensures
     ∙ ap (λ F. orderWithin F (now (a .f)) (a .limit)) (c .before .of-prime .ensures .isField))
@@ -46,7 +46,7 @@ returns-3 c =
     where-no _ _ 0
     (sym (c .if2 .left)
     ∙ c .before .is-modulus .ensures
-    ∙ limit-within _ (c .before .before .before .if1 .left))
+    ∙ limit-within _ (c .before .before .if1 .left))
 
 pub leaf-order-spec : {M : Type 1} → statement M
 leaf-order-spec =
