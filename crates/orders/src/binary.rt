@@ -65,7 +65,7 @@ fn walk(f: u64, d: u64, w: u64, from: usize, limit: usize) -> usize
 // Notes the powers from x^0 to x^1023 modulo f, of degree d, and answers x^1024.
 fn note_powers(f: u64, d: u64, notes: &mut [u64]) -> u64
     requires { ⌜ Modulus f d ⌝ }
-    requires { ⌜ length (now notes) ≡ 4096 ⌝ }
+    requires { ⌜ length (now notes) ≡ 256 ⌝ }
     ensures { λ r. ⌜ PowersNoted f d 1024 (now (notes .exit)) r ⌝ }
 {
     let top = 1u64 << d;
@@ -119,7 +119,7 @@ pub fn order(f: u64, d: u64, limit: usize) -> usize
     if first != 0 {
         return first;
     }
-    let mut notes = [0u64; 4096];
+    let mut notes = [0u64; 256];
     let y = note_powers(f, d, &mut notes);
     let found = leap(f, d, &notes, y, (limit + 1023) / 1024);
     if limit < found { 0 } else { found }

@@ -1,28 +1,47 @@
-// Keys that were noted, in 4,096 places: a key has the place of its remainder, which holds one more than the
-// key, or the largest word where several keys met. So no noted key is missed, and some that were not noted
-// count as noted. Assumes keys below 2^32.
+// Keys that were noted, in 16,384 bits, which are 256 words (a Bloom filter): a key is noted by three bits, and
+// counts as noted where they are 1. So no noted key is missed, and few that were not noted count as noted.
 ghost use mathlib.Core.Path.{_≡_};
-ghost use Prim.Native.Nat.{_^_, _<_};
+ghost use Prim.Native.Nat.{_<_};
 ghost use lib.ListN.{length};
-ghost use Rattle.orders.specs.notes.Keys.{noted, isNoted};
+ghost use Rattle.orders.specs.notes.Keys.{marked, isMarked, noted, isNoted};
 
-// What a place holds where several keys met.
-const SEVERAL: u64 = 18446744073709551615;
+// Makes bit i 1.
+fn mark(notes: &mut [u64], i: u64)
+    requires { ⌜ (length (now notes) ≡ 256) × (i < 16384) ⌝ }
+    ensures { λ _. ⌜ now (notes .exit) ≡ marked (now (notes .entry)) i ⌝ }
+{
+    let at = (i / 64) as usize;
+    notes[at] = notes[at] | (1u64 << (i % 64));
+}
+
+// Whether bit i is 1.
+fn is_marked(notes: &[u64], i: u64) -> bool
+    requires { ⌜ (length (now notes) ≡ 256) × (i < 16384) ⌝ }
+    ensures { λ r. ⌜ r ≡ isMarked (now (notes .entry)) i ⌝ }
+{
+    (notes[(i / 64) as usize] >> (i % 64)) % 2 == 1
+}
 
 // Notes a key.
 pub fn note(notes: &mut [u64], key: u64)
-    requires { ⌜ (length (now notes) ≡ 4096) × (key < 2 ^ 32) ⌝ }
+    requires { ⌜ length (now notes) ≡ 256 ⌝ }
     ensures { λ _. ⌜ now (notes .exit) ≡ noted (now (notes .entry)) key ⌝ }
 {
-    let at = (key % 4096) as usize;
-    notes[at] = if notes[at] == 0 { key + 1 } else { SEVERAL };
+    mark(notes, key % 16384);
+    mark(notes, key / 512 % 16384);
+    mark(notes, key / 262144 % 16384);
 }
 
 // Whether a key counts as noted.
 pub fn is_noted(notes: &[u64], key: u64) -> bool
-    requires { ⌜ (length (now notes) ≡ 4096) × (key < 2 ^ 32) ⌝ }
+    requires { ⌜ length (now notes) ≡ 256 ⌝ }
     ensures { λ r. ⌜ r ≡ isNoted (now (notes .entry)) key ⌝ }
 {
-    let held = notes[(key % 4096) as usize];
-    held == key + 1 || held == SEVERAL
+    if !is_marked(notes, key % 16384) {
+        return false;
+    }
+    if !is_marked(notes, key / 512 % 16384) {
+        return false;
+    }
+    is_marked(notes, key / 262144 % 16384)
 }

@@ -119,7 +119,7 @@ module _ {f d : ℕ} (x : Modulus f d) where
       (λ k c i h. y .none k c (omega arith) (unity-word g monic positive k h))))
 
   -- Noting
-  pub noting-start : (l : List ℕ) → length l ≡ 4096 → PowersNoted f d 0 l 1
+  pub noting-start : (l : List ℕ) → length l ≡ 256 → PowersNoted f d 0 l 1
   noting-start l e = record { size = e; word = power-first; all = λ k c. absurd (omega arith) }
 
   pub noting-next :

@@ -44,6 +44,6 @@ pub record Reached (f d n w : ℕ) : Type 0 where
   pub none : (k : ℕ) → 0 < k → k ≤ n → powerWord f d k ≢ 1
 
 pub record PowersNoted (f d m : ℕ) (l : List ℕ) (w : ℕ) : Type 0 where
-  pub size : length l ≡ 4096
+  pub size : length l ≡ 256
   pub word : w ≡ powerWord f d m
   pub all : (k : ℕ) → k < m → T (isNoted l (powerWord f d k))

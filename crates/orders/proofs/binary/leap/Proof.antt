@@ -38,9 +38,7 @@ multiply-requires c κs =
 
 is-noted-requires : tie.Need-is-noted-requires Inv-loop μ-loop
 is-noted-requires c κs =
-    let s = c .before .before .before .before in
-    let most = pow-mono {i = s .args .d} {j = 32} (s .pre .0 .degree .small) in
-    (s .pre .1 .0 .size, omega (arith, c .multiply .ensures .small))
+    c .before .before .before .before .pre .1 .0 .size
 
 mul-walk : tie.Need-mul-walk Inv-loop μ-loop
 mul-walk c = search needs

@@ -31,11 +31,7 @@ loop-holds c =
 
 note-requires : tie.Need-note-requires Inv-loop μ-loop
 note-requires c κs =
-    let s = c .before .before .before .before in
-    let l = c .before .before .loop in
-    let small = power-small (s .pre .0) (l .n) in
-    let most = pow-mono {i = s .args .d} {j = 32} (s .pre .0 .degree .small) in
-    (l .inv .2 .size, omega (arith, l .inv .2 .word))
+    c .before .before .loop .inv .2 .size
 
 next-requires : tie.Need-next-requires Inv-loop μ-loop
 next-requires c κs =
