@@ -9,7 +9,7 @@
 --                       power there is not noted
 --
 -- Assumes nothing.
-use Prim.Native.Nat.{ℕ, zero, suc, _+_, _*_, _^_, _≤_, _<_}
+use Prim.Native.Nat.{ℕ, suc, _+_, _*_, _^_, _≤_, _<_}
 use mathlib.Core.Path.{_≡_, refl, sym, ap, ap₂, subst, _∙_}
 use mathlib.Core.Logic.{_≢_, _⊎_, inl, inr}
 use mathlib.Core.List.{List}
@@ -30,7 +30,6 @@ use Rattle.bridge.proofs.Within.{within-found, within-missing, within-zero}
 use Rattle.bridge.proofs.Orders.{dividesUnity, orderWithin}
 use Rattle.bridge.proofs.BitOrders.{wordAt, word-first, word-small, word-doubled, word-taken, unity-word}
 use Rattle.bridge.proofs.BitOrders.{word-unity}
-use Rattle.irreducible.specs.binary.Binary.{HasDegree}
 use Rattle.orders.specs.notes.Keys.{noted, isNoted}
 use Rattle.orders.specs.binary.Words.{Modulus, nextWord, powerWord, Reached, PowersNoted}
 use Rattle.orders.proofs.notes.Keys.{note-size, note-here, note-kept}
