@@ -1,10 +1,12 @@
-// Two libraries of the exported calls beside each other: beside FIRST.so SECOND.so ROUNDS SWAPPED KIND measures
-// some thousand calls with monic input by both, in alternation, and writes a line for each: name, median and least
-// time by the first, and by the second, in nanoseconds. Both must tell the same status and degree. A library from
-// before the merged call has `rater_rate_portion` and `rater_rate_set` in its place, and no repeat length.
+// Two libraries of the exported calls beside each other: beside FIRST.so SECOND.so ROUNDS SWAPPED KIND SETS
+// measures some thousand calls with monic input by both, in alternation, and writes a line for each: name, median and
+// least time by the first, and by the second, in nanoseconds. Both must tell the same status and degree. A library
+// from before the merged call has `rater_rate_portion` and `rater_rate_set` in its place, and no repeat length; one
+// factor goes to the first of them, and to the second where SETS is 1.
 #define _GNU_SOURCE
 #include <dlfcn.h>
 #include <stdarg.h>
+#include <stdbool.h>
 #include <stdint.h>
 #include <stdio.h>
 #include <stdlib.h>
@@ -23,16 +25,17 @@ typedef struct {
                        uint64_t *);
     uint64_t (*sequence)(uint64_t, const uint8_t *, size_t, const uint8_t *, size_t, uint8_t *, size_t, size_t);
     uint64_t (*irreducible)(uint64_t, const uint8_t *, size_t, uint8_t *);
+    bool (*prime)(uint64_t);
 } library;
 
-enum kind { PERIOD, PORTION, SEQUENCE, IRREDUCIBLE };
+enum kind { PERIOD, PORTION, SEQUENCE, IRREDUCIBLE, PRIME };
 
 // One call. The factors stand one after another; of a sequence `start` is the number of starting terms.
 typedef struct {
     enum kind kind;
     char name[96];
     unsigned p, factors, degree;
-    uint8_t coefficients[300];
+    uint8_t coefficients[4097];
     uint64_t lengths[8], uppers[8];
     size_t bytes, count, start;
     uint8_t terms[4096];
@@ -43,6 +46,7 @@ static size_t listed;
 static uint8_t answer[4097], work[8192], powers[64], buffer[4096];
 static library *known;
 static const char *wanted;
+static int sets;
 
 static library load(const char *path) {
     void *handle = dlopen(path, RTLD_NOW | RTLD_LOCAL);
@@ -57,6 +61,12 @@ static library load(const char *path) {
     *(void **)&l.merged = dlsym(handle, "rater_rate_with_factors");
     *(void **)&l.sequence = dlsym(handle, "rater_continue_sequence");
     *(void **)&l.irreducible = dlsym(handle, "rater_is_irreducible");
+    *(void **)&l.prime = dlsym(handle, "rater_prime_in_range");
+    int rates = l.merged != NULL || (l.portion != NULL && l.set != NULL);
+    if (!rates || l.period == NULL || l.sequence == NULL || l.irreducible == NULL || l.prime == NULL) {
+        fprintf(stderr, "beside: %s lacks a call\n", path);
+        exit(2);
+    }
     return l;
 }
 
@@ -75,12 +85,14 @@ static uint64_t call(const library *l, const job *j) {
     case IRREDUCIBLE:
         status = l->irreducible(j->p, j->coefficients, j->bytes, &yes);
         return 10000 * status + yes;
+    case PRIME:
+        return l->prime(j->p);
     default:
         if (l->merged != NULL)
             status = l->merged(j->p, j->coefficients, j->bytes, (const uint8_t *)j->lengths, 8 * j->factors,
                                (const uint8_t *)j->uppers, 8 * j->factors, j->terms, j->count, answer, sizeof answer,
                                work, sizeof work, powers, sizeof powers, &degree, &c);
-        else if (j->factors == 1)
+        else if (j->factors == 1 && !sets)
             status = l->portion(j->p, j->coefficients, j->bytes, j->uppers[0], j->terms, j->count, answer,
                                 sizeof answer, work, sizeof work, &a, &degree, &c);
         else
@@ -187,11 +199,12 @@ static void add_portion(unsigned p, unsigned k, unsigned d, unsigned v, size_t m
 }
 
 static void add_portions(unsigned p, unsigned turn) {
-    static const unsigned ks[] = {1, 2, 3, 5, 8}, ds[] = {1, 2, 3, 5, 8, 16}, vs[] = {1, 2, 3, 4, 7, 9, 16, 30, 100};
+    static const unsigned ks[] = {1, 2, 3, 5, 8}, ds[] = {1, 2, 3, 5, 8, 16, 21, 32};
+    static const unsigned vs[] = {1, 2, 3, 4, 7, 9, 16, 30, 100};
     static const size_t more[] = {0, 1, 8, 40, 4096};
     static const char *const terms[] = {"other", "zeros", "low", "refused at the end"};
     for (unsigned a = 0; a < 5; a++)
-        for (unsigned b = 0; b < 6; b++)
+        for (unsigned b = 0; b < 8; b++)
             for (unsigned c = 0; c < 9; c++)
                 for (unsigned e = 0; e < 5; e++) {
                     if ((7 * a + 5 * b + 3 * c + e + turn) % 3 != 0) continue;
@@ -257,12 +270,14 @@ static void add_sequence(unsigned p, unsigned d, size_t n) {
     j->coefficients[d] = 1;
 }
 
+// All degrees up to 9 and some beyond, with as many terms as the degree and up to three more, and with other numbers.
 static void add_sequences(unsigned p) {
-    static const unsigned ds[] = {0, 1, 2, 3, 4, 5, 6, 7, 8, 9, 12, 15, 16, 17, 32, 64, 200};
-    static const size_t ns[] = {3, 10, 50, 300, 4096};
-    for (unsigned i = 0; i < 17; i++) {
-        for (unsigned k = 0; k < 5; k++) add_sequence(p, ds[i], ns[k]);
-        for (size_t k = 0; k < 4; k++) add_sequence(p, ds[i], ds[i] + k);
+    static const unsigned ds[] = {0, 1, 2, 3, 4, 5, 6, 7, 8, 9, 12, 15, 16, 17, 32, 64, 200, 1000, 4000};
+    static const size_t ns[] = {20, 50, 300, 4096};
+    for (unsigned i = 0; i < 19; i++) {
+        for (unsigned k = 0; k < 4; k++) add_sequence(p, ds[i], ns[k]);
+        for (size_t k = 0; k < 4; k++)
+            if (ds[i] + k != 20) add_sequence(p, ds[i], ds[i] + k);
     }
 }
 
@@ -322,12 +337,14 @@ static void measure(library *both, const job *j, int rounds, int swapped) {
 
 int main(int count, char **words) {
     static const unsigned primes[] = {2, 3, 5, 7, 13, 31, 61, 127, 251};
-    if (count != 6) return 2;
+    if (count != 7) return 2;
     static library both[2];
     both[0] = load(words[1]), both[1] = load(words[2]);
     int rounds = atoi(words[3]) < 64 ? atoi(words[3]) : 64;
     known = &both[0];
     wanted = words[5];
+    sets = atoi(words[6]);
+    for (unsigned n = 0; n < 260; n++) add(PRIME, n, "prime %u", n);
     for (unsigned i = 0; i < 9; i++) {
         add_periods(primes[i]);
         add_portions(primes[i], i);

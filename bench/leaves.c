@@ -129,7 +129,8 @@ static void periods(size_t n) {
     }
 }
 
-// an irreducible polynomial whose order is beyond the limit, so that the walk is as long as it may be
+// an irreducible polynomial whose order is beyond the limit, so that no power of x ends the search; the C version goes
+// through the powers one by one
 static void order(uint32_t p, int d) {
     uint8_t f[33];
     char what[80];

@@ -726,6 +726,7 @@ Lines that are neither blank nor comments.
     bench/run               the same of one run, held to the run before
     bench/run --proofs      the same, after proving every crate anew; later runs keep these times until a crate is proved anew
     bench/run --before FILE the same beside the library of an earlier tree
+    bench/beside FILE       some thousand calls beside the library of an earlier tree, without this page
     bench/leaves            the inner loops alone
     bench/catalogue         the search of the catalogue beside calls of the period way
 '''

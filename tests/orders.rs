@@ -45,6 +45,15 @@ fn returns(p: u64, f: &[u8], limit: usize) -> usize {
     0
 }
 
+// The sum of the powers of x with these exponents, of which the last is the largest.
+fn sum_of_powers(exponents: &[usize]) -> Vec<u8> {
+    let mut f = vec![0; exponents[exponents.len() - 1] + 1];
+    for &i in exponents {
+        f[i] = 1;
+    }
+    f
+}
+
 fn order_agrees(p: u64, f: &[u8], limit: usize) -> Result<usize, String> {
     let expected = if f[0] == 0 { 0 } else { returns(p, f, limit) };
     expect(order(p, f, limit), expected, || {
@@ -89,23 +98,69 @@ fn long() -> Outcome {
             cases += 1;
         }
     }
-    // the place where the residues start anew, and the steps of 512 and 1,024 powers
-    for (p, d) in [(2, 16), (3, 8), (5, 6), (251, 3)] {
-        let mut f = random.monic(p, d);
-        f[0] = 1;
-        for at in [128, 512, 1024, 2048, 65024] {
-            for limit in [at - 1, at, at + 1] {
-                order_agrees(p, &f, limit)?;
-                cases += 1;
-            }
+    Ok(cases)
+}
+
+// Orders at the borders of the window of residues and of the steps of 1,024 powers over GF(2) and of 512 elsewhere, and the
+// first beyond the longest: 2^k + 1 in degree 2k
+fn borders() -> Outcome {
+    let binary: [(usize, &[usize]); 5] = [
+        (1025, &[0, 1, 3, 8, 9, 10, 11, 12, 17, 19, 20]),
+        (2049, &[0, 2, 4, 11, 18, 20, 22]),
+        (
+            4097,
+            &[
+                0, 1, 2, 3, 5, 6, 8, 9, 10, 11, 12, 13, 14, 15, 16, 18, 19, 21, 22, 23, 24,
+            ],
+        ),
+        (
+            32769,
+            &[
+                0, 1, 2, 4, 6, 7, 11, 12, 13, 15, 17, 18, 19, 23, 24, 26, 28, 29, 30,
+            ],
+        ),
+        (
+            65537,
+            &[
+                0, 6, 7, 8, 10, 11, 14, 15, 16, 17, 18, 21, 22, 24, 25, 26, 32,
+            ],
+        ),
+    ];
+    let mut all = vec![
+        (19, vec![18, 0, 12, 1], 127),
+        (127, vec![1, 18, 1], 128),
+        (7, vec![1, 6, 3, 0, 6, 3, 1], 129),
+        (127, vec![126, 0, 98, 0, 1], 512),
+        (7, vec![3, 0, 0, 0, 0, 0, 2, 0, 0, 1], 513),
+        (127, vec![126, 0, 0, 0, 33, 0, 0, 0, 1], 1024),
+    ];
+    for (n, places) in binary {
+        all.push((2, sum_of_powers(places), n));
+    }
+    // x^n − 1 has the order n
+    for n in [1, 2, 31, 32] {
+        let mut f = vec![0; n + 1];
+        f[0] = 2;
+        f[n] = 1;
+        all.push((3, f, n));
+    }
+    let mut cases = 0;
+    for (p, f, n) in all {
+        let told = if n > LONGEST { 0 } else { n };
+        expect(order_agrees(p, &f, LONGEST)?, told, || list(&f))?;
+        for (limit, expected) in [(n - 1, 0), (n.min(LONGEST), told)] {
+            expect(order(p, &f, limit), expected, || {
+                format!("p {p}, {}, limit {limit}", list(&f))
+            })?;
         }
+        cases += 3;
     }
     Ok(cases)
 }
 
 // Orders of all sizes up to the longest, and beyond it, with limits on both sides of each
 fn stepped() -> Outcome {
-    let mut random = Random::of_seed(83);
+    let mut random = Random::of_seed(84);
     let mut cases = 0;
     let binary = [11, 12, 13, 14, 15, 16, 17, 20, 24, 31, 32].map(|d| (2, d));
     let ternary = [7, 8, 9, 10, 11, 16, 21].map(|d| (3, d));
@@ -149,25 +204,18 @@ fn stepped() -> Outcome {
 // x^16 + x^5 + x^3 + x^2 + 1 has the order 2^16 − 1, x^17 + x^3 + 1 the order 2^17 − 1, and over GF(3) x^10 + x^2 + x + 2
 // one of at most 3^10 − 1
 fn registers() -> Outcome {
-    let terms = |d: usize, places: &[usize]| {
-        let mut f = vec![0u8; d + 1];
-        for &i in places {
-            f[i] = 1;
-        }
-        f
-    };
-    let sixteen = terms(16, &[0, 2, 3, 5, 16]);
-    let seventeen = terms(17, &[0, 3, 17]);
+    let sixteen = sum_of_powers(&[0, 2, 3, 5, 16]);
+    let seventeen = sum_of_powers(&[0, 3, 17]);
     expect(order(2, &sixteen, 65535), 65535, || "degree 16".into())?;
     expect(order(2, &sixteen, 65534), 0, || {
         "degree 16, a limit less".into()
     })?;
     expect(order(2, &seventeen, LONGEST), 0, || "degree 17".into())?;
-    expect(order(2, &seventeen, 131071), 0, || {
+    expect(order(2, &sixteen, 65537), 0, || {
         "a limit beyond 65,536".into()
     })?;
     order_agrees(2, &sixteen, LONGEST)?;
-    let mut ten = terms(10, &[0, 1, 2, 10]);
+    let mut ten = sum_of_powers(&[0, 1, 2, 10]);
     ten[0] = 2;
     order_agrees(3, &ten, LONGEST)?;
     Ok(6)
@@ -258,6 +306,7 @@ fn main() {
         &[
             ("all small polynomials", all_small),
             ("long orders", long),
+            ("orders at the borders", borders),
             ("orders of all sizes", stepped),
             ("registers", registers),
             ("where no order is told", no_orders),

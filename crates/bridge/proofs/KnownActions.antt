@@ -249,11 +249,6 @@ module _ {F : Field} (I : IsField F) where
       ∙ sym (annihilatesKnown-all F f (actOnKnown F g ts))
 
   module _ (f : Polynomial) (nonempty : 0 < length f) where
-    pub length-actOnKnown-power :
-        (n : ℕ) (ts : List ℕ) → length (actOnKnown F (power F f n) ts) ≡ length ts - n * degree f
-    length-actOnKnown-power n ts =
-        length-actOnKnown F (power F f n) ts ∙ ap (_-_ (length ts)) (degree-power I f n nonempty)
-
     pub actOnKnown-power-zero : (ts : List ℕ) → T (areElements F ts) → actOnKnown F (power F f 0) ts ≡ ts
     actOnKnown-power-zero ts h =
         ap (λ g. actOnKnown F g ts) (power-zero-list F f) ∙ actOnKnown-one ts h
@@ -399,11 +394,6 @@ module _ (F : Field) where
   annihilatesPeriod-all g ts = all-map (actAt F g (periodic ts)) (range 0 (length ts))
 
 module _ {F : Field} (I : IsField F) where
-  pub actOnPeriod-elements : (g : Polynomial) (ts : List ℕ) → T (areElements F (actOnPeriod F g ts))
-  actOnPeriod-elements g ts =
-      subst (λ l. T (areElements F l)) (sym (actOnPeriod-stretch F g ts))
-      (cut-elements F (actAt F g (periodic ts)) 0 (length ts) (actAt-below I g (periodic ts)))
-
   pub actOnPeriod-one : (ts : List ℕ) → T (areElements F ts) → actOnPeriod F (1 ∷ []) ts ≡ ts
   actOnPeriod-one ts h =
       actOnPeriod-stretch F (1 ∷ []) ts
@@ -442,10 +432,6 @@ module _ {F : Field} (I : IsField F) where
       (λ j _. allZero-getD ts h ((0 + i + j) % length ts))))
 
   module _ (f : Polynomial) where
-    pub actOnPeriod-power-zero : (ts : List ℕ) → T (areElements F ts) → actOnPeriod F (power F f 0) ts ≡ ts
-    actOnPeriod-power-zero ts h =
-        ap (λ g. actOnPeriod F g ts) (power-zero-list F f) ∙ actOnPeriod-one ts h
-
     pub actOnPeriod-power-add :
         (m n : ℕ) (ts : List ℕ)
         → 0 < length f

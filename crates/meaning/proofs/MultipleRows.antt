@@ -68,6 +68,8 @@ pub record MultipleRows : Type 0 where
   pub irreducible : askIrreducible 3 (2 ∷ 0 ∷ 2 ∷ []) ≡ answered true
   pub has-factors : askIrreducible 3 (1 ∷ 0 ∷ 2 ∷ []) ≡ answered false
   pub of-degree-one : askIrreducible 251 (0 ∷ 250 ∷ []) ≡ answered true
+  pub asked-leading-zero : askIrreducible 3 (1 ∷ 0 ∷ []) ≡ refused 11
+  pub asked-leading-p : askIrreducible 3 (1 ∷ 3 ∷ []) ≡ refused 11
   -- the continuation: 2x² + 1, twice x² + 2; any constant but 0 fills zeros
   pub continues : continued (1 ∷ 0 ∷ 2 ∷ []) (1 ∷ 2 ∷ []) ≡ answered (9 ∷ 1 ∷ 2 ∷ 1 ∷ 2 ∷ [])
   pub continues-constant : continued (2 ∷ []) [] ≡ answered (9 ∷ 0 ∷ 0 ∷ 0 ∷ 0 ∷ [])
@@ -112,6 +114,8 @@ multiple-rows =
       irreducible = refl;
       has-factors = refl;
       of-degree-one = refl;
+      asked-leading-zero = refl;
+      asked-leading-p = refl;
       continues = refl;
       continues-constant = refl;
       continues-zero = refl;

@@ -1,7 +1,7 @@
-// The order of x modulo a polynomial over GF(2), which is a word: bit i is the coefficient of x^i. The first
-// 1,024 powers of x are made one by one. Where none of them is 1, they are noted, and the further ones are
-// looked at in steps of 1,024: where a power among those between two steps is 1, the step after it is one of
-// the noted powers. Assumes a degree from 1 to 32.
+// The order of x modulo a polynomial over GF(2), which is a word: bit i is the coefficient of x^i. The powers
+// from x^1 to x^1024 are made one by one. Where none of them is 1, those from x^0 to x^1023 are noted, and of
+// the further ones each 1,024th is made: where a power between two of these is 1, or the later of the two,
+// this one is a noted power. Assumes a degree from 1 to 32.
 ghost use mathlib.Core.Path.{_≡_};
 ghost use Prim.Native.Nat.{_+_, _*_, _^_, _<_, _≤_};
 ghost use lib.ListN.{length};
@@ -42,7 +42,7 @@ fn multiply(f: u64, d: u64, a: u64, b: u64) -> u64
 }
 
 // The order of x modulo f, of degree d, or 0 where it exceeds the limit or there is none. The word w is
-// x^from modulo f, and none of the powers up to it is 1.
+// x^from modulo f, and none of the powers from x^1 to it is 1.
 fn walk(f: u64, d: u64, w: u64, from: usize, limit: usize) -> usize
     requires { ⌜ Modulus f d ⌝ }
     requires { ⌜ Reached f d from w ⌝ }
@@ -81,7 +81,7 @@ fn note_powers(f: u64, d: u64, notes: &mut [u64]) -> u64
 }
 
 // The order of x modulo f, of degree d, or 0 where it exceeds 1,024·steps or there is none. The word y is
-// x^1024, of the powers before it, which are noted, only x^0 is 1.
+// x^1024, and none of the powers from x^1 to it is 1; those before it are noted.
 fn leap(f: u64, d: u64, notes: &[u64], y: u64, steps: usize) -> usize
     requires { ⌜ Modulus f d ⌝ }
     requires { ⌜ PowersNoted f d 1024 (now notes) y ⌝ }

@@ -1,5 +1,6 @@
-// Keys that were noted, in 16,384 bits, which are 256 words (a Bloom filter): a key is noted by three bits, and
-// counts as noted where they are 1. So no noted key is missed, and few that were not noted count as noted.
+// Keys that were noted, in 16,384 bits, which are 256 words (a Bloom filter): a key is noted by three bits,
+// and counts as noted where they are 1. So no noted key is missed, and few that were not noted count as
+// noted.
 ghost use mathlib.Core.Path.{_≡_};
 ghost use Prim.Native.Nat.{_<_};
 ghost use lib.ListN.{length};

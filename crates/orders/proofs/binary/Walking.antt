@@ -56,7 +56,7 @@ module _ {f d : ℕ} (x : Modulus f d) where
   pub power-small : (n : ℕ) → powerWord f d n < 2 ^ d
   power-small n = subst (λ e. wordAt g n < 2 ^ e) degree-g (word-small g monic n)
 
-  pub power-first : 1 ≡ powerWord f d 0
+  power-first : 1 ≡ powerWord f d 0
   power-first = sym (word-first g monic positive)
 
   pub next-power :

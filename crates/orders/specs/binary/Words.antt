@@ -6,8 +6,8 @@
 --   Multiplied f d a b r == r has d bits, and is congruent to a·b modulo f
 --   powerWord f d n    == x^n modulo f
 --   Reached f d n w    == w is x^n modulo f, and none of the powers from x^1 to x^n is 1
---   PowersNoted f d m l w == in the places l of the notes the powers from x^0 to x^(m − 1) are noted, and w
---                         is x^m modulo f
+--   PowersNoted f d m l w == in the words l of the notes the powers from x^0 to x^(m − 1) are noted, and w is
+--                         x^m modulo f
 use Prim.Native.Nat.{ℕ, suc, _*_, _^_, _≤_, _<_}
 use mathlib.Core.Path.{_≡_}
 use mathlib.Core.Logic.{_≢_}
