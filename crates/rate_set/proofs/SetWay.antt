@@ -4,13 +4,13 @@
 --   set-refused      == the monic multiples are refused by one of the conditions 12 to 16
 --   set-lent, set-input == what an accepted call may hand on
 --   set-seventeen    == refused by 17
---   set-powers-input, set-powered == the powers that are found can be written as a product, and tell the
---                       repeat length
+--   set-powers-eight, set-powers-input, set-powered == the powers that are found stand in eight places, can
+--                       be written as a product, and tell the repeat length
 --   set-rated        == rated
 -- Assumes nothing.
 use Prim.Native.Nat.{ℕ, _≤_}
 use mathlib.Core.Path.{_≡_, refl, sym, ap, subst, _∙_}
-use mathlib.Core.Bool.{true, false, not}
+use mathlib.Core.Bool.{Bool, true, false, not}
 use mathlib.Core.List.{List}
 use mathlib.Core.Option.{some}
 use lib.ListN.{length, replicate}
@@ -44,12 +44,11 @@ use Rattle.refusals.specs.Verdicts.{numberIn, multiplesTable, powersTable, lent
 use Rattle.refusals.proofs.Settled.{verdict-passes, settle-early, settle-last, settle-over, set-last}
 use Rattle.refusals.proofs.Ways.{set-rest}
 use Rattle.powers.specs.product.Writing.{ProductInput, ProductWritten}
-use Rattle.set_way.specs.declared.SetPowers.{SetPowers}
 use Rattle.set_way.specs.actions.SetActions.{SetInput}
 use Rattle.set_way.specs.SetWay.{SetFound}
 use Rattle.set_way.proofs.actions.Inputs.{input-monics}
 use Rattle.set_way.proofs.Answers.{answer-annihilated, answer-powers}
-use Rattle.set_way.proofs.Sizes.{set-count, set-product, named-padded}
+use Rattle.set_way.proofs.Sizes.{set-count, set-eight, set-product, named-padded}
 use Rattle.bridge.proofs.Accepted.{lent-enough}
 use Rattle.refusals.proofs.Lent.{clearingIn, never-clears, lent-refused, lent-seventeen}
 use Rattle.refusals.proofs.Lent.{lent-rated}
@@ -183,22 +182,28 @@ module _ (p : ℕ) (fs : List Polynomial) (us ts : List ℕ) (answer work : ℕ)
         pub set-input : SetInput F fs us ts
         set-input = subst (λ G. SetInput G fs us ts) (sym h) accepted-input
 
-        module _ (I : IsField F) {r : SetPowers} {w w′ : List ℕ} (y : SetFound F fs us ts w w′ r) where
+        module _ (I : IsField F) {b : Bool} {w w′ powers : List ℕ}
+            (y : SetFound F fs us ts w w′ b powers) where
           powers-exist : (rs : List ℕ) × (setPowers F (named fs us) ts ≡ some rs)
           powers-exist =
               setPowers-exists I (named fs us) (monics-nonempty F (named fs us) (input-monics set-input)) ts
 
-          decided : annihilatesKnown (prime p) (product (prime p) (named fs us)) ts ≡ r .annihilated
+          decided : annihilatesKnown (prime p) (product (prime p) (named fs us)) ts ≡ b
           decided =
               sym (answer-annihilated I set-input y
               ∙ ap (λ G. annihilatesKnown G (product G (named fs us)) ts) h)
 
-          pub set-powers-input : r .annihilated ≡ true → ProductInput F fs (r .powers)
+          pub set-powers-eight : b ≡ true → 8 ≡ length powers
+          set-powers-eight n =
+              let (rs, s) = powers-exist in
+              sym (ap length (answer-powers I set-input y n s) ∙ set-eight I set-input s)
+
+          pub set-powers-input : b ≡ true → ProductInput F fs powers
           set-powers-input n =
               let (rs, s) = powers-exist in
               subst (ProductInput F fs) (sym (answer-powers I set-input y n s)) (set-product I set-input s)
 
-          pub set-powered : r .annihilated ≡ true → PoweredFactors F fs (r .powers)
+          pub set-powered : b ≡ true → PoweredFactors F fs powers
           set-powered n = product-powered (set-powers-input n) (accepted-degrees m)
 
 module _ (p : ℕ) (fs : List Polynomial) (us ts answer work : List ℕ) (m : Multiples p fs ts)
@@ -214,17 +219,17 @@ module _ (p : ℕ) (fs : List Polynomial) (us ts answer work : List ℕ) (m : Mu
       refused-call o k
       (lent-refused k (never-clears _ (none-clears p fs us ts (length answer) (length work)) e q))
 
-  module _ (q : v ≡ Verdict.Accepted) {F : Field} (h : F ≡ prime p) (I : IsField F) {r : SetPowers}
-      {work′ : List ℕ} (y : SetFound F fs us ts work work′ r) where
+  module _ (q : v ≡ Verdict.Accepted) {F : Field} (h : F ≡ prime p) (I : IsField F) {b : Bool}
+      {work′ powers : List ℕ} (y : SetFound F fs us ts work work′ b powers) where
     input : SetInput F fs us ts
     input = set-input p fs us ts (length answer) (length work) m e q h
 
-    tried : annihilatesKnown (prime p) (product (prime p) (named fs us)) ts ≡ r .annihilated
+    tried : annihilatesKnown (prime p) (product (prime p) (named fs us)) ts ≡ b
     tried = decided p fs us ts (length answer) (length work) m e q h I y
 
     pub set-seventeen :
         {s : SetRating}
-        → r .annihilated ≡ false
+        → b ≡ false
         → (s .outcome ≡ SetOutcome.Refused Refusal.NotAnnihilated) × (s .powers ≡ replicate 8 0)
         → SetRatedAs (setAnswer p false false (named fs us) ts (length answer) (length work)) answer work s
         answer work′
@@ -234,15 +239,15 @@ module _ (p : ℕ) (fs : List Polynomial) (us ts answer work : List ℕ) (m : Mu
         refused-call o k (lent-seventeen k (y .work))
 
     pub set-rated :
-        {answer′ : List ℕ} {d b k : ℕ} {t : SetRating}
-        → r .annihilated ≡ true
+        {answer′ : List ℕ} {d r k : ℕ} {t : SetRating}
+        → b ≡ true
         → k ≡ length fs
-        → ProductWritten F fs (r .powers) answer answer′ d
-        → b ≡ repeatByOrders F (named fs (r .powers))
-        → (t .outcome ≡ SetOutcome.Rated d b k) × (t .powers ≡ r .powers)
+        → ProductWritten F fs powers answer answer′ d
+        → r ≡ repeatByOrders F (named fs powers)
+        → (t .outcome ≡ SetOutcome.Rated d r k) × (t .powers ≡ powers)
         → SetRatedAs (setAnswer p false false (named fs us) ts (length answer) (length work)) answer work t
         answer′ work′
-    set-rated {answer′} {d} {b} n k z j o =
+    set-rated {answer′} {d} n k z j o =
         let (rs, s) = powers-exist p fs us ts (length answer) (length work) m e q h I y in
         let i = answer-powers I input y n s in
         let size = set-count I input s in

@@ -70,9 +70,8 @@ fn rate_multiples(
     match set_verdict(p, multiples, uppers, terms, answer.len(), work.len()) {
         Verdict::Refused(r) => refused(r),
         Verdict::Accepted => {
-            let found = set_powers(field, work, multiples, uppers, terms);
-            if found.annihilated {
-                let powers = found.powers;
+            let mut powers = [0u64; 8];
+            if set_powers(field, work, multiples, uppers, terms, &mut powers) {
                 let degree = write_product(field, answer, multiples, &powers);
                 let repeat = repeat_length(field, multiples, &powers);
                 let count = multiples.len() as u64;

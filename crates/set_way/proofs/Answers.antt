@@ -4,7 +4,7 @@
 --   setPowers-front   == the powers are those of the first D terms
 --   found-powers, found-nothing == the answer of the set way where the product annihilates, and where not
 --   answer-annihilated == an answer says whether the product annihilates the terms
---   answer-powers     == and then its eight places are the powers, and zeros after them
+--   answer-powers     == and then the eight places are the powers, and zeros after them
 --
 -- Assumes nothing.
 use Prim.Native.Nat.{ℕ, _-_, _≤_, min}
@@ -31,7 +31,6 @@ use Rattle.bridge.proofs.Continuations.{take-elements}
 use Rattle.bridge.proofs.Portions.{setPowers-exists}
 use Rattle.poly.proofs.factors.Totals.{total-known}
 use Rattle.lent.proofs.halves.Bytes.{kept-trans, cleared-kept}
-use Rattle.set_way.specs.declared.SetPowers.{SetPowers}
 use Rattle.set_way.specs.actions.SetActions.{SetInput, SetDecided}
 use Rattle.set_way.proofs.actions.Inputs.{input-monics}
 use Rattle.set_way.specs.search.SetSearch.{PowersSearched}
@@ -109,7 +108,7 @@ module _ {F : Field} {fs : List Polynomial} {us ts : List ℕ} (x : SetInput F f
         → SetDecided F fs us ts w w₁ b
         → b ≡ true
         → PowersSearched F fs us (take (d - 0) (drop 0 ts)) w₁ w₂ powers
-        → SetSearched F fs us ts w w₂ (record { annihilated = true; powers = powers })
+        → SetSearched F fs us ts w w₂ true powers
     unfolding toldPowers
     found-powers decided h y =
         record {
@@ -126,7 +125,7 @@ module _ {F : Field} {fs : List Polynomial} {us ts : List ℕ} (x : SetInput F f
       {w w₁ : List ℕ} (powers : List ℕ) {b : Bool}
       → SetDecided F fs us ts w w₁ b
       → b ≡ false
-      → SetSearched F fs us ts w w₁ (record { annihilated = false; powers = powers })
+      → SetSearched F fs us ts w w₁ false powers
   unfolding toldPowers mapOption
   found-nothing powers decided h =
       record {
@@ -137,42 +136,42 @@ module _ {F : Field} {fs : List Polynomial} {us ts : List ℕ} (x : SetInput F f
       }
 
 pub cleared-set :
-    {F : Field} {fs : List Polynomial} {us ts w w₁ w₂ : List ℕ} {r : SetPowers}
-    → SetSearched F fs us ts w w₁ r
+    {F : Field} {fs : List Polynomial} {us ts w w₁ w₂ powers : List ℕ} {b : Bool}
+    → SetSearched F fs us ts w w₁ b powers
     → w₂ ≡ cleared w₁
-    → SetFound F fs us ts w w₂ r
+    → SetFound F fs us ts w w₂ b powers
 cleared-set x e = record { powers = x .powers; work = e ∙ cleared-kept (x .kept) }
 
 -- What an answer says
-told-some : (r : SetPowers) → r .annihilated ≡ true → toldPowers r ≡ some (r .powers)
+told-some : (b : Bool) (powers : List ℕ) → b ≡ true → toldPowers b powers ≡ some powers
 unfolding toldPowers
-told-some r h = rw (h, toldPowers)
+told-some b powers h = rw (h, toldPowers)
 
-told-none : (r : SetPowers) → r .annihilated ≡ false → toldPowers r ≡ none
+told-none : (b : Bool) (powers : List ℕ) → b ≡ false → toldPowers b powers ≡ none
 unfolding toldPowers
-told-none r h = rw (h, toldPowers)
+told-none b powers h = rw (h, toldPowers)
 
 some-none : {A : Type 0} {a : A} → ¬ (_≡_ {A = Option A} (some a) none)
 some-none {A} {a} e = let z : _≡_ {A = ℕ} 0 1 = cc in omega arith
 
-module _ {F : Field} (I : IsField F) {fs : List Polynomial} {us ts w w′ : List ℕ} {r : SetPowers}
-    (x : SetInput F fs us ts) (y : SetFound F fs us ts w w′ r) where
+module _ {F : Field} (I : IsField F) {fs : List Polynomial} {us ts w w′ powers : List ℕ} {b : Bool}
+    (x : SetInput F fs us ts) (y : SetFound F fs us ts w w′ b powers) where
   nonempties : Nonempties (named fs us)
   nonempties = monics-nonempty F (named fs us) (input-monics x)
 
-  pub answer-annihilated : r .annihilated ≡ annihilatesKnown F (product F (named fs us)) ts
-  answer-annihilated = go (r .annihilated) (annihilatesKnown F (product F (named fs us)) ts) refl refl
+  pub answer-annihilated : b ≡ annihilatesKnown F (product F (named fs us)) ts
+  answer-annihilated = go b (annihilatesKnown F (product F (named fs us)) ts) refl refl
     where
       go :
-          (b c : Bool)
-          → r .annihilated ≡ b
+          (a c : Bool)
+          → b ≡ a
           → annihilatesKnown F (product F (named fs us)) ts ≡ c
-          → b ≡ c
+          → a ≡ c
       go true true e h = refl
       go false false e h = refl
       go true false e h =
           absurd (some-none
-          (sym (told-some r e)
+          (sym (told-some b powers e)
           ∙ y .powers
           ∙ ap (mapOption padded) (powersFound-none F (named fs us) ts h)
           ∙ mapOption-none padded))
@@ -181,16 +180,16 @@ module _ {F : Field} (I : IsField F) {fs : List Polynomial} {us ts w w′ : List
           (sym (mapOption-some padded (setPowers-exists I (named fs us) nonempties ts .1))
           ∙ ap (mapOption padded) (sym (powersFound-some F (named fs us) ts h))
           ∙ sym (y .powers)
-          ∙ told-none r e))
+          ∙ told-none b powers e))
 
   pub answer-powers :
       {rs : List ℕ}
-      → r .annihilated ≡ true
+      → b ≡ true
       → setPowers F (named fs us) ts ≡ some rs
-      → r .powers ≡ padded rs
+      → powers ≡ padded rs
   answer-powers {rs} e h =
-      Option·some-injective (r .powers) (padded rs)
-      (sym (told-some r e)
+      Option·some-injective powers (padded rs)
+      (sym (told-some b powers e)
       ∙ y .powers
       ∙ ap (mapOption padded) (powersFound-some F (named fs us) ts (sym answer-annihilated ∙ e))
       ∙ mapOption-some padded h)

@@ -1,6 +1,7 @@
 -- The degree of the answer of the set way is at most 4,096: what the writer of products asks.
 --
 --   named-padded      == the powers in eight places are those of the factors
+--   set-eight         == they stand in eight places
 --   set-product       == the powers of a set can be written as a product
 --
 -- Assumes nothing.
@@ -10,7 +11,7 @@ use mathlib.Core.List.{List, [], _∷_, _++_}
 use mathlib.Core.Option.{some, Option·some-injective}
 use native.Mathlib.Nat as ℕ
 use native.Mathlib.Omega.{arith}
-use lib.ListN.{length, getD, replicate, length-append}
+use lib.ListN.{length, getD, replicate, length-append, length-replicate}
 use Rattle.meaning.specs.Field.{Field}
 use Rattle.meaning.specs.Polynomial.{Polynomial, degree}
 use Rattle.meaning.specs.Conditions.{named, totalDegree}
@@ -68,6 +69,12 @@ module _ {F : Field} (I : IsField F) {fs : List Polynomial} {us ts : List ℕ} (
   module _ {rs : List ℕ} (e : setPowers F (named fs us) ts ≡ some rs) where
     pub set-count : length rs ≡ length fs
     set-count = setPowers-places I (named fs us) nonempties ts e .0 ∙ length-named fs us
+
+    pub set-eight : length (padded rs) ≡ 8
+    unfolding padded
+    set-eight =
+        length-append rs (replicate (8 - length rs) 0)
+        ∙ omega (arith, set-count, x .eight, length-replicate {A = ℕ} (8 - length rs) 0)
 
     set-below : (i : ℕ) → i < length fs → getD rs i 0 ≤ getD us i 0
     set-below i k =

@@ -1,12 +1,12 @@
 -- What the contracts of the set way cite. fs are the factors, us their upper powers.
 --
 --   powersFound F l ts == the powers of the pairs l where their product annihilates the terms, else none
---   toldPowers r      == the powers in eight places that an answer tells, or none
---   SetSearched, SetFound F fs us ts w w′ r == r tells the powers that are found; the first 8,192 work bytes
---                        are 0
+--   toldPowers b rs   == the eight places rs where the answer b is true, or none
+--   SetSearched, SetFound F fs us ts w w′ b rs == the answer b and the eight places rs tell the powers that
+--                        are found; SetFound: the first 8,192 work bytes are 0
 use Prim.Native.Nat.{ℕ}
 use mathlib.Core.Path.{_≡_}
-use mathlib.Core.Bool.{true, false}
+use mathlib.Core.Bool.{Bool, true, false}
 use mathlib.Core.List.{List}
 use mathlib.Core.Option.{Option, none, some}
 use Rattle.meaning.specs.Search.{mapOption}
@@ -18,18 +18,19 @@ use Rattle.meaning.specs.Conditions.{named}
 use Rattle.meaning.specs.Portion.{setPowers}
 use Rattle.meaning.specs.Answers.{padded}
 use Rattle.lent.specs.halves.Kept.{Kept}
-use Rattle.set_way.specs.declared.SetPowers.{SetPowers}
 
 unfoldable pub powersFound : Field → List (Polynomial × ℕ) → List ℕ → Option (List ℕ)
 powersFound F l ts = elim (annihilatesKnown F (product F l) ts) [ true ↦ setPowers F l ts | false ↦ none ]
 
-unfoldable pub toldPowers : SetPowers → Option (List ℕ)
-toldPowers r = elim (r .annihilated) [ true ↦ some (r .powers) | false ↦ none ]
+unfoldable pub toldPowers : Bool → List ℕ → Option (List ℕ)
+toldPowers b rs = elim b [ true ↦ some rs | false ↦ none ]
 
-pub record SetSearched (F : Field) (fs : List Polynomial) (us ts w w′ : List ℕ) (r : SetPowers) : Type 0 where
-  pub powers : toldPowers r ≡ mapOption padded (powersFound F (named fs us) ts)
+pub record SetSearched (F : Field) (fs : List Polynomial) (us ts w w′ : List ℕ) (b : Bool) (rs : List ℕ)
+    : Type 0 where
+  pub powers : toldPowers b rs ≡ mapOption padded (powersFound F (named fs us) ts)
   pub kept : Kept w w′
 
-pub record SetFound (F : Field) (fs : List Polynomial) (us ts w w′ : List ℕ) (r : SetPowers) : Type 0 where
-  pub powers : toldPowers r ≡ mapOption padded (powersFound F (named fs us) ts)
+pub record SetFound (F : Field) (fs : List Polynomial) (us ts w w′ : List ℕ) (b : Bool) (rs : List ℕ)
+    : Type 0 where
+  pub powers : toldPowers b rs ≡ mapOption padded (powersFound F (named fs us) ts)
   pub work : w′ ≡ cleared w

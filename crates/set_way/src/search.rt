@@ -7,7 +7,7 @@ use powers::digit_search::least_power;
 use powers::levels::level_reaching;
 ghost use mathlib.Core.Path.{_≡_};
 ghost use Prim.Native.Nat.{_≤_, _<_};
-ghost use lib.ListN.{length};
+ghost use lib.ListN.{length, replicate};
 ghost use Rattle.meaning.specs.Conditions.{named, totalDegree};
 ghost use Rattle.arith.specs.Represented.{fieldOf, WellFormed};
 ghost use Rattle.meaning.specs.Slices.{listsOf};
@@ -39,28 +39,28 @@ fn power_at(
     least_power(field, work, left.half, left.count, factors[i], level) as u64
 }
 
-// The least powers of the factors by the first D terms, and zeros after them. Uses both halves of the work
-// bytes, and leaves all beyond them as it was.
+// Leaves the least powers of the factors by the first D terms in eight places that are 0 before, and zeros
+// after them. Uses both halves of the work bytes, and leaves all beyond them as it was.
 pub fn least_powers(
     field: GaloisField,
     work: &mut [u8],
     factors: &[&[u8]],
     uppers: &[u64],
     first: &[u8],
-) -> [u64; 8]
+    powers: &mut [u64; 8],
+)
     requires { ⌜ WellFormed field ⌝ }
     requires { ⌜ 8192 ≤ length (now work) ⌝ }
     requires { ⌜ SetInput (fieldOf field) (listsOf (now factors)) (now uppers) (now first) ⌝ }
     requires { ⌜ length (now first) ≡ totalDegree (named (listsOf (now factors)) (now uppers)) ⌝ }
-    ensures { λ r. ⌜ PowersSearched (fieldOf field) (listsOf (now (factors .entry))) (now (uppers .entry))
-        (now (first .entry)) (now (work .entry)) (now (work .exit)) r ⌝ }
+    requires { ⌜ now powers ≡ replicate 8 0 ⌝ }
+    ensures { λ _. ⌜ PowersSearched (fieldOf field) (listsOf (now (factors .entry))) (now (uppers .entry))
+        (now (first .entry)) (now (work .entry)) (now (work .exit)) (now (powers .exit)) ⌝ }
 {
-    let mut powers = [0u64; 8];
     // the powers of the factors before i, and zeros
     let mut i = 0;
     while i < factors.len() {
         powers[i] = power_at(field, work, factors, uppers, first, i);
         i += 1;
     }
-    powers
 }

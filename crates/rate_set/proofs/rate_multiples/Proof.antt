@@ -1,11 +1,11 @@
 -- `rate_multiples` meets its contract: the verdict refuses, or the search finds no powers, which is 17, or
 -- the powers that are found are written as a product. Assumes nothing.
-use mathlib.Core.Path.{sym}
+use mathlib.Core.Path.{refl, sym}
 use borrow.Author.Needs.{needs}
 use Rattle.arith.proofs.Represented.{field-isField}
 use Rattle.meaning.proofs.Slices.{lists-length}
 use Rattle.rate_set.proofs.SetWay.{set-refused, set-lent, set-input, set-seventeen}
-use Rattle.rate_set.proofs.SetWay.{set-powers-input, set-powered, set-rated}
+use Rattle.rate_set.proofs.SetWay.{set-powers-eight, set-powers-input, set-powered, set-rated}
 use Rattle.rate_set.proofs.rate_multiples.Statement.{statement}
 use Rattle.rate_set.proofs.rate_multiples.Tie as tie
 
@@ -26,25 +26,32 @@ enum-told c = search needs
 
 set-powers-requires : tie.Need-set-powers-requires
 set-powers-requires c κs =
-    let a = c .before in
+    let a = c .before .before in
     let v = a .before .before in
     let s = start v in
     let e = v .set-verdict .ensures in (
       s .pre .0 .wellFormed,
       (
         set-lent _ _ _ _ _ _ (s .pre .1) e (a .enum-told .given .1) .1,
-        set-input _ _ _ _ _ _ (s .pre .1) e (a .enum-told .given .1) (s .pre .0 .isField),
+        (set-input _ _ _ _ _ _ (s .pre .1) e (a .enum-told .given .1) (s .pre .0 .isField), refl),
       ),
     )
 
 slice-aggregate-write-product : tie.Need-slice-aggregate-write-product
-slice-aggregate-write-product c = search needs
+slice-aggregate-write-product c =
+    let t = c .before .before in
+    let y = t .before .before .before in
+    let a = y .before .before .before in
+    let v = a .before .before in
+    let s = start v in
+    set-powers-eight _ _ _ _ _ _ (s .pre .1) (v .set-verdict .ensures) (a .enum-told .given .1)
+    (s .pre .0 .isField) (field-isField (s .pre .0 .wellFormed)) (y .set-powers .ensures) (t .if1 .taken)
 
 write-product-requires : tie.Need-write-product-requires
 write-product-requires c κs =
-    let t = c .before .before .before in
+    let t = c .before .before in
     let y = t .before .before .before in
-    let a = y .before .before in
+    let a = y .before .before .before in
     let v = a .before .before in
     let s = start v in
     let e = v .set-verdict .ensures in (
@@ -57,13 +64,20 @@ write-product-requires c κs =
     )
 
 slice-aggregate-repeat-length : tie.Need-slice-aggregate-repeat-length
-slice-aggregate-repeat-length c = search needs
+slice-aggregate-repeat-length c =
+    let t = c .before .before .before .before .before .before in
+    let y = t .before .before .before in
+    let a = y .before .before .before in
+    let v = a .before .before in
+    let s = start v in
+    set-powers-eight _ _ _ _ _ _ (s .pre .1) (v .set-verdict .ensures) (a .enum-told .given .1)
+    (s .pre .0 .isField) (field-isField (s .pre .0 .wellFormed)) (y .set-powers .ensures) (t .if1 .taken)
 
 repeat-length-requires : tie.Need-repeat-length-requires
 repeat-length-requires c κs =
-    let t = c .before .before .before .before .before .before .before in
+    let t = c .before .before .before .before .before .before in
     let y = t .before .before .before in
-    let a = y .before .before in
+    let a = y .before .before .before in
     let v = a .before .before in
     let s = start v in
     let e = v .set-verdict .ensures in (
@@ -94,9 +108,9 @@ returns-2 : tie.Need-returns-2
 returns-2 c =
     let b = c .before in
     let w = b .before .before .before .before in
-    let t = w .before .before .before .before in
+    let t = w .before .before .before in
     let y = t .before .before .before in
-    let a = y .before .before in
+    let a = y .before .before .before in
     let v = a .before .before in
     let s = start v in
     set-rated _ _ _ _ _ _ (s .pre .1) (v .set-verdict .ensures) (a .enum-told .given .1) (s .pre .0 .isField)
@@ -114,7 +128,7 @@ returns-3 : tie.Need-returns-3
 returns-3 c =
     let t = c .before in
     let y = t .before .before .before in
-    let a = y .before .before in
+    let a = y .before .before .before in
     let v = a .before .before in
     let s = start v in
     set-seventeen _ _ _ _ _ _ (s .pre .1) (v .set-verdict .ensures) (a .enum-told .given .1)

@@ -141,16 +141,17 @@ pub record Gathering (F : Field) (fs : List Polynomial) (us ts w₀ w powers : L
   pub kept : Kept w₀ w
 
 pub gathering-start :
-    (F : Field) (fs : List Polynomial) (us ts w : List ℕ)
+    (F : Field) (fs : List Polynomial) (us ts w : List ℕ) {powers : List ℕ}
     → 8192 ≤ length w
-    → Gathering F fs us ts w w (replicate 8 0) 0
-gathering-start F fs us ts w h =
+    → powers ≡ replicate 8 0
+    → Gathering F fs us ts w w powers 0
+gathering-start F fs us ts w h e =
     record {
       enough = h;
-      size = length-replicate {A = ℕ} 8 0;
+      size = ap length e ∙ length-replicate {A = ℕ} 8 0;
       before = omega arith;
       found = λ j k. absurd (omega arith);
-      rest = λ j _. allZero-getD (replicate 8 0) (replicate-allZero 8) j;
+      rest = λ j _. ap (λ l. getD l j 0) e ∙ allZero-getD (replicate 8 0) (replicate-allZero 8) j;
       kept = kept-same w;
     }
 

@@ -1,7 +1,5 @@
 -- `set_way::search_set` meets its contract. Assumes nothing.
-use mathlib.Core.Path.{_∙_}
 use native.Mathlib.Omega.{arith}
-use lib.ListN.{replicate}
 use borrow.Author.Needs.{needs}
 use Rattle.set_way.proofs.Answers.{front-end, lent-input, lent-length, found-powers, found-nothing}
 use Rattle.set_way.proofs.search_set.Statement.{statement}
@@ -22,42 +20,40 @@ part-least-powers-start c = search needs
 part-least-powers-end : tie.Need-part-least-powers-end
 part-least-powers-end c =
     let d = c .before in
-    front-end (d .before .before .before .before .before .before .before .before .before .pre .1 .1)
+    front-end (d .before .before .before .before .before .before .before .before .before .pre .1 .1 .0)
     (d .total-degree .ensures)
 
 least-powers-requires : tie.Need-least-powers-requires
 least-powers-requires c κs =
-    let d = c .before .before in
+    let d = c .before .before .before in
     let s = d .before .before .before .before .before .before .before .before .before in (
       s .pre .0,
       (
         omega (arith, s .pre .1 .0, d .before .before .before .before .annihilates .ensures .kept .size),
         (
-          lent-input (s .pre .1 .1) (d .total-degree .ensures),
-          lent-length (s .pre .1 .1) (d .total-degree .ensures),
+          lent-input (s .pre .1 .1 .0) (d .total-degree .ensures),
+          (lent-length (s .pre .1 .1 .0) (d .total-degree .ensures), s .pre .1 .1 .1),
         ),
       ),
     )
 
 same-length : tie.Need-same-length
-same-length c =
-    let a = c .before .before .before .before .before .before .before .before .before in
-    c .before .before .least-powers .ensures .kept .size ∙ a .annihilates .ensures .kept .size
+same-length c = search needs
 
 returns : tie.Need-returns
 returns c =
-    let d = c .before .before .before .before .before in
-    found-powers (d .before .before .before .before .before .before .before .before .before .pre .1 .1)
+    let d = c .before .before .before .before .before .before in
+    found-powers (d .before .before .before .before .before .before .before .before .before .pre .1 .1 .0)
     (d .total-degree .ensures) (d .before .before .before .before .annihilates .ensures)
     (d .before .if1 .taken) (c .before .before .least-powers .ensures)
 
 same-length-2 : tie.Need-same-length-2
-same-length-2 c = c .before .before .before .annihilates .ensures .kept .size
+same-length-2 c = search needs
 
 returns-2 : tie.Need-returns-2
 returns-2 c =
-    found-nothing (c .before .before .before .before .before .before .before .before .pre .1 .1)
-    (replicate 8 0) (c .before .before .before .annihilates .ensures) (c .if1 .left)
+    found-nothing (c .before .before .before .before .before .before .before .before .pre .1 .1 .0)
+    _ (c .before .before .before .annihilates .ensures) (c .if1 .left)
 
 pub search-set-spec : {M : Type 1} → statement M
 search-set-spec =

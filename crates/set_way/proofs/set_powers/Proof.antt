@@ -1,5 +1,4 @@
 -- `set_way::set_powers` meets its contract. Assumes nothing.
-use mathlib.Core.Path.{_∙_}
 use native.Mathlib.Omega.{arith}
 use borrow.Author.Needs.{needs}
 use Rattle.set_way.proofs.Answers.{cleared-set}
@@ -11,13 +10,12 @@ search-set-requires c κs = search needs
 
 clear-requires : tie.Need-clear-requires
 clear-requires c κs =
-    let s = c .before .before .before in
-    omega (arith, s .before .before .before .before .before .pre .1 .0, s .search-set .ensures .kept .size)
+    let y = c .before .before .before in
+    let s = y .before .before .before .before .before .before in
+    omega (arith, s .pre .1 .0, y .search-set .ensures .kept .size)
 
 same-length : tie.Need-same-length
-same-length c =
-    c .before .before .clear .kept .0
-    ∙ c .before .before .before .before .before .before .search-set .ensures .kept .size
+same-length c = search needs
 
 returns : tie.Need-returns
 returns c =

@@ -22,14 +22,14 @@ loop-holds : tie.Need-loop-holds Inv-loop μ-loop
 loop-holds c =
     let s = c .before .before .before in
     gathering-start (fieldOf (s .args .field)) (listsOf (s .args .factors .now)) (s .args .uppers .now)
-    (s .args .first .now) (s .args .work .now) (s .pre .1 .0)
+    (s .args .first .now) (s .args .work .now) (s .pre .1 .0) (s .pre .1 .1 .1 .1)
 
 power-at-requires : tie.Need-power-at-requires Inv-loop μ-loop
 power-at-requires c κs =
     let i = c .before in
     let s = i .before .before .before .before .before in (
       s .pre .0,
-      (i .before .loop .inv .enough, (s .pre .1 .1 .0, (s .pre .1 .1 .1, i .loop-test .taken))),
+      (i .before .loop .inv .enough, (s .pre .1 .1 .0, (s .pre .1 .1 .1 .0, i .loop-test .taken))),
     )
 
 -- there are at most eight factors
@@ -42,8 +42,8 @@ eight c =
 mul-powers : tie.Need-mul-powers Inv-loop μ-loop
 mul-powers c = omega (arith, eight c)
 
-array-write-powers : tie.Need-array-write-powers Inv-loop μ-loop
-array-write-powers c = omega (arith, eight c, c .before .before .before .before .before .loop .inv .size)
+element-write-powers : tie.Need-element-write-powers Inv-loop μ-loop
+element-write-powers c = omega (arith, eight c, c .before .before .before .before .before .loop .inv .size)
 
 add-i : tie.Need-add-i Inv-loop μ-loop
 add-i c = omega arith
@@ -76,7 +76,7 @@ least-powers-spec =
     loop-holds
     power-at-requires
     mul-powers
-    array-write-powers
+    element-write-powers
     add-i
     loop-less
     loop-again
