@@ -19,11 +19,11 @@ same-length c = search needs
 
 returns : tie.Need-returns
 returns c =
-    let s = c .before .before .before .before .before .before .before .before .before .before .before .before .before in
+    let c2 = c .before .before .before .before .before .before in
+    let c1 = c2 .before .before .before .before in
+    let s = c1 .before .before .before in
     noted-made (now (s .args .notes)) (s .args .key)
-    (c .before .before .before .before .before .before .before .before .before .before .mark .ensures)
-    (c .before .before .before .before .before .before .mark2 .ensures)
-    (c .before .before .mark3 .ensures)
+    (c1 .mark .ensures) (c2 .mark2 .ensures) (c .before .before .mark3 .ensures)
 
 pub note-spec : {M : Type 1} → statement M
 note-spec = tie.close (tie.spec mark-requires mark-requires-2 mark-requires-3 same-length returns)
