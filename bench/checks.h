@@ -42,7 +42,7 @@ static inline bool degree_out_of_range(uint64_t p, slice f) {
     return false;
 }
 
-// 11
+// 11, for the monic factors that all jobs have
 static inline bool not_monic(uint64_t p, slice f) {
     return f.length == 0 || out_of_field(p, f) || f.at[f.length - 1] != 1;
 }

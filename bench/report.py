@@ -638,9 +638,9 @@ the other in the same round: **below 1 the rater is faster**.
 
 {agreement}
 
-- *C plain*, *C bytes* and *C best* (`bench/ways.c`): the same calls in C, with the same checks, product and clearing of the lent
-  bytes, by the same compiler at -O3 for any x86-64, which is what the proved functions are compiled for. Each answers every job
-  as the rater does, or the run ends.
+- *C plain*, *C bytes* and *C best* (`bench/ways.c`): the same calls in C, on monic factors alone, with the same checks, product
+  and clearing of the lent bytes, by the same compiler at -O3 for any x86-64, which is what the proved functions are compiled
+  for. Each answers every job as the rater does, or the run ends.
   - Plain: bytes, and a remainder by `%` at each product; its free way is the textbook's, and it asks whether factors are
     irreducible by trial division.
   - Bytes (*C tuned* on earlier pages): a coefficient in a byte for every p, 2 too; sums in 16 and 32 bits with few remainders,

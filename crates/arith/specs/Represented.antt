@@ -5,7 +5,6 @@
 --   WellFormed f      == the size of f is a prime in range, and its multiplier is right: so is whatever the
 --                        constructor makes, and every operation requires it
 --   FieldOfPrime p f  == f is well-formed and stands for GF(p)
---   SameField f g     == g is well-formed and stands for the field that f stands for
 use Prim.Native.Nat.{ℕ, _/_}
 use mathlib.Core.Path.{_≡_}
 use lib.Dec.{T}
@@ -25,7 +24,3 @@ pub record WellFormed (f : GaloisField) : Type 0 where
 pub record FieldOfPrime (p : ℕ) (f : GaloisField) : Type 0 where
   pub wellFormed : WellFormed f
   pub isField : fieldOf f ≡ prime p
-
-pub record SameField (f g : GaloisField) : Type 0 where
-  pub wellFormed : WellFormed g
-  pub same : fieldOf g ≡ fieldOf f

@@ -16,7 +16,7 @@ use mathlib.Core.Option.{Option, some}
 use lib.ListN.{length, length-map}
 use lib.Dec.{T, T-not, eqb, ltb, ltb→lt, lt→ltb, eqb→eq}
 use Rattle.meaning.specs.Search.{bind, isNone, holdsForSome}
-use Rattle.meaning.specs.Field.{Field, prime, primeInRange, areElements}
+use Rattle.meaning.specs.Field.{prime, primeInRange, areElements}
 use Rattle.meaning.specs.Polynomial.{Polynomial, degree, power, product, monicMultiple}
 use Rattle.meaning.specs.Sequence.{annihilatesKnown}
 use Rattle.meaning.specs.Result.{answered, Rated}

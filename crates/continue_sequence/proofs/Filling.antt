@@ -11,7 +11,7 @@ use lib.Seq.{length-take-le}
 use borrow.Author.Tests.{ltb-false, eqb-true, not-false}
 use Rattle.meaning.specs.declared.Refusal.{Refusal}
 use Rattle.meaning.specs.declared.Filling.{Filling}
-use Rattle.meaning.specs.Field.{Field, prime, primeInRange}
+use Rattle.meaning.specs.Field.{prime, primeInRange}
 use Rattle.meaning.specs.Polynomial.{Polynomial, degree, monicMultiple}
 use Rattle.meaning.specs.Sequence.{continuation, cut}
 use Rattle.meaning.specs.Result.{Result, firstOf, mapResult, valueOf}
@@ -45,18 +45,18 @@ module _ (p : ℕ) (g : Polynomial) (start : List ℕ) (place size : ℕ) {v : V
       ltb-false size place
       (or-false (ltb size place) (countOutOfRange (size - place)) (passes .countInRange) .0)
 
-  pub continue-accepted : {F : Field} → F ≡ prime p → Continuable F g start
+  pub continue-accepted : Continuable (prime p) g start
   unfolding continueTable continuationDegreeOutOfRange startUnlikeDegree
-  continue-accepted h =
+  continue-accepted =
       let few : degree g ≤ 4096 = ltb-false 4096 (degree g) (passes .degreesInRange) in
       let t = not-false (eqb (length start) (degree g)) (passes .enoughTerms) in
       let same : length start ≡ degree g = eqb-true (length start) (degree g) t in
-      rw h (record {
+      record {
         leads = coefficients-lead (prime p) g (passes .coefficientsInRange);
         elements = terms-accepted p start (passes .termsInField);
         enough = same;
         few = omega arith;
-      })
+      }
 
 to-end : (l : List ℕ) (a : ℕ) → drop (length l - a) (drop a l) ≡ []
 to-end l a = drop-of-length-le (drop a l) {i = length l - a} (rw length-drop (le-refl (length l - a)))
@@ -84,15 +84,14 @@ module _ (p : ℕ) (g : Polynomial) (start buffer : List ℕ) (place : ℕ) wher
     continue-refused q = told (settle-refused (continueTable p g start place (length buffer)) _ e q) refl
 
     -- the part that the filler was lent runs to the end of the buffer, and comes back as ys
-    pub continue-filled : {F : Field} {ys : List ℕ}
+    pub continue-filled : {ys : List ℕ}
         → v ≡ Verdict.Accepted
-        → F ≡ prime p
         → ys
-        ≡ cut (continuation F (monicMultiple F g) start) 0
+        ≡ cut (continuation (prime p) (monicMultiple (prime p) g) start) 0
         (length (take (length buffer - place) (drop place buffer)))
         → ContinueCall p g start buffer place Filling.Filled
         (take place buffer ++ (ys ++ drop (length buffer - place) (drop place buffer)))
     unfolding toldFilling continueSequence filled mapResult bufferAfter valueOf
-    continue-filled q h i =
-        rw (to-end buffer place, append-nil, i, to-end-length buffer place, h)
+    continue-filled q i =
+        rw (to-end buffer place, append-nil, i, to-end-length buffer place)
         (told (settle-accepted (continueTable p g start place (length buffer)) _ e q) refl)

@@ -3,7 +3,6 @@ pub mod continuation;
 mod monic;
 
 use crate::continuation::fill;
-use arith::GaloisField;
 use meaning::Filling;
 use refusals::Verdict;
 use refusals::continue_verdict;
@@ -25,8 +24,7 @@ pub fn continue_sequence(
     match continue_verdict(p, polynomial, start, place, buffer.len()) {
         Verdict::Refused(r) => Filling::Refused(r),
         Verdict::Accepted => {
-            let field = GaloisField::of_prime(p);
-            fill(&mut buffer[place..], field, polynomial, start);
+            fill(&mut buffer[place..], p, polynomial, start);
             Filling::Filled
         }
     }

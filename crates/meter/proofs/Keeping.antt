@@ -13,18 +13,17 @@
 --
 -- Assumes nothing.
 use Prim.Native.Nat.{ℕ, zero, suc, _+_, _*_, _-_, _≤_, _<_}
-use mathlib.Core.Path.{_≡_, refl, sym, ap, ap₂, subst, _∙_}
+use mathlib.Core.Path.{_≡_, sym, ap, ap₂, subst, _∙_}
 use mathlib.Core.Bool.{true, false}
 use mathlib.Core.List.{List, [], _∷_, _++_}
 use native.Mathlib.Nat as ℕ
-use native.Mathlib.Numerals.{add-one}
 use native.Mathlib.Decide.{decLt}
 use native.Mathlib.Omega.{arith}
 use lib.ListN.{length, getD, take, drop, set, length-append, length-drop, take-append-drop, List·getD-append}
 use lib.Seq.{take-at, drop-at, take-all, getD-take, getD-set-same, getD-set-other, getD-append-add}
 use lib.Dec.{T, leb, ltb, ltb→lt, lt→ltb}
 use Rattle.meaning.specs.declared.Meter.{Meter}
-use Rattle.meaning.specs.Field.{Field, prime, primeInRange}
+use Rattle.meaning.specs.Field.{prime, primeInRange}
 use Rattle.meaning.specs.Result.{answered, firstOf, settle, valueOf}
 use Rattle.meaning.specs.Conditions.{notPrime}
 use Rattle.meaning.specs.Free.{isUnique}

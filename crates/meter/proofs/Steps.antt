@@ -6,9 +6,9 @@
 --   term-unusable, term-refused, term-taken == the contract of a term, by its three ends
 --
 -- Assumes nothing.
-use Prim.Native.Nat.{ℕ, _+_, _<_}
-use mathlib.Core.Path.{_≡_, refl, sym, ap, ap₂, subst, subst₂, _∙_}
-use mathlib.Core.Bool.{Bool, true, false}
+use Prim.Native.Nat.{ℕ, _<_}
+use mathlib.Core.Path.{_≡_, refl, sym, ap, ap₂, subst, _∙_}
+use mathlib.Core.Bool.{true, false}
 use mathlib.Core.List.{List, [], _∷_, _++_}
 use native.Mathlib.Omega.{arith}
 use lib.ListN.{length, take, set}
@@ -23,7 +23,7 @@ use Rattle.meaning.specs.Result.{refused, answered, mapResult, firstOf, settle,
 use Rattle.meaning.specs.Conditions.{notPrime}
 use Rattle.meaning.specs.Meter.{startMeter, termTable, takeTerm, Holding, unlessRefused}
 use Rattle.meaning.specs.Answers.{numberOf, toldFree, toldStart}
-use Rattle.meaning.specs.Calls.{StartCall, TermTaken, TermCall, ReadingCall}
+use Rattle.meaning.specs.Calls.{StartCall, TermCall, ReadingCall}
 use Rattle.meaning.proofs.Passes.{Passes}
 use Rattle.bridge.proofs.MasseySteps.{masseyAfter}
 use Rattle.bridge.proofs.Meters.{open-below, holding-more, reading-taken}

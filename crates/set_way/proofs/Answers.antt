@@ -9,12 +9,12 @@
 -- Assumes nothing.
 use Prim.Native.Nat.{ℕ, _-_, _≤_, min}
 use mathlib.Core.Path.{_≡_, refl, sym, ap, subst, fun-ext, _∙_}
-use mathlib.Core.Bool.{Bool, true, false}
+use mathlib.Core.Bool.{Bool, true, false, true≢false}
 use mathlib.Core.List.{List, [], map}
 use mathlib.Core.Option.{Option, none, some, Option·some-injective}
 use native.Mathlib.Nat as ℕ
 use native.Mathlib.Omega.{arith}
-use lib.ListN.{length, getD, take, drop}
+use lib.ListN.{length, getD, take, drop, replicate}
 use lib.Seq.{take-take, length-take-le}
 use Rattle.meaning.specs.Search.{range, mapOption, together, least}
 use Rattle.meaning.specs.Field.{Field}
@@ -118,20 +118,23 @@ module _ {F : Field} {fs : List Polynomial} {us ts : List ℕ} (x : SetInput F f
               ∙ sym (setPowers-front F (named fs us) ts)
               ∙ ap (setPowers F (named fs us)) (sym lent-front))
               ∙ y .powers);
+          untold = λ e. absurd (true≢false e);
           kept = kept-trans (decided .kept) (y .kept);
         }
 
   pub found-nothing :
-      {w w₁ : List ℕ} (powers : List ℕ) {b : Bool}
+      {w w₁ powers : List ℕ} {b : Bool}
       → SetDecided F fs us ts w w₁ b
       → b ≡ false
+      → powers ≡ replicate 8 0
       → SetSearched F fs us ts w w₁ false powers
   unfolding toldPowers mapOption
-  found-nothing powers decided h =
+  found-nothing decided h zeros =
       record {
         powers =
             sym
             (ap (mapOption padded) (powersFound-none F (named fs us) ts (sym (decided .annihilated) ∙ h)));
+        untold = λ _. zeros;
         kept = decided .kept;
       }
 
@@ -140,7 +143,8 @@ pub cleared-set :
     → SetSearched F fs us ts w w₁ b powers
     → w₂ ≡ cleared w₁
     → SetFound F fs us ts w w₂ b powers
-cleared-set x e = record { powers = x .powers; work = e ∙ cleared-kept (x .kept) }
+cleared-set x e =
+    record { powers = x .powers; untold = x .untold; work = e ∙ cleared-kept (x .kept) }
 
 -- What an answer says
 told-some : (b : Bool) (powers : List ℕ) → b ≡ true → toldPowers b powers ≡ some powers

@@ -3,12 +3,14 @@
 --   powersFound F l ts == the powers of the pairs l where their product annihilates the terms, else none
 --   toldPowers b rs   == the eight places rs where the answer b is true, or none
 --   SetSearched, SetFound F fs us ts w w′ b rs == the answer b and the eight places rs tell the powers that
---                        are found; SetFound: the first 8,192 work bytes are 0
+--                        are found, and where none are the places are 0; SetFound: the first 8,192 work
+--                        bytes are 0
 use Prim.Native.Nat.{ℕ}
 use mathlib.Core.Path.{_≡_}
 use mathlib.Core.Bool.{Bool, true, false}
 use mathlib.Core.List.{List}
 use mathlib.Core.Option.{Option, none, some}
+use lib.ListN.{replicate}
 use Rattle.meaning.specs.Search.{mapOption}
 use Rattle.meaning.specs.Field.{Field}
 use Rattle.meaning.specs.Polynomial.{Polynomial, product}
@@ -28,9 +30,11 @@ toldPowers b rs = elim b [ true ↦ some rs | false ↦ none ]
 pub record SetSearched (F : Field) (fs : List Polynomial) (us ts w w′ : List ℕ) (b : Bool) (rs : List ℕ)
     : Type 0 where
   pub powers : toldPowers b rs ≡ mapOption padded (powersFound F (named fs us) ts)
+  pub untold : b ≡ false → rs ≡ replicate 8 0
   pub kept : Kept w w′
 
 pub record SetFound (F : Field) (fs : List Polynomial) (us ts w w′ : List ℕ) (b : Bool) (rs : List ℕ)
     : Type 0 where
   pub powers : toldPowers b rs ≡ mapOption padded (powersFound F (named fs us) ts)
+  pub untold : b ≡ false → rs ≡ replicate 8 0
   pub work : w′ ≡ cleared w

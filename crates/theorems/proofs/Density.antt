@@ -10,7 +10,7 @@ use native.Mathlib.Nat.{le-antisymm}
 use lib.ListN.{take}
 use Rattle.meaning.specs.Sequence.{Sequence, periodic, Period, LeastPeriod}
 use Rattle.meaning.specs.Result.{Result, refused, answered}
-use Rattle.meaning.specs.Route.{RouteRecord, Mode, periodMode, modeOf, byteOf, boxOf}
+use Rattle.meaning.specs.Route.{RouteRecord, periodMode, modeOf, byteOf, boxOf}
 use Rattle.meaning.specs.File.{termsOf}
 use Rattle.meaning.specs.Print.{text, decimal, joined, header}
 use Rattle.meaning.specs.Answers.{FileTold, withPowers, withOne, withSome}

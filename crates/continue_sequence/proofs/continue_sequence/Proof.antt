@@ -21,24 +21,18 @@ enum-known-r c = search needs
 enum-told : tie.Need-enum-told
 enum-told c = search needs
 
-of-prime-requires : tie.Need-of-prime-requires
-of-prime-requires c κs =
-    continue-prime _ _ _ _ _ (c .before .before .continue-verdict .ensures) (c .enum-told .given .1)
-
 sub-fill : tie.Need-sub-fill
 sub-fill c =
-    let a = c .before in
     omega (
       arith,
-      continue-place _ _ _ _ _ (a .before .before .continue-verdict .ensures) (a .enum-told .given .1),
+      continue-place _ _ _ _ _ (c .before .before .continue-verdict .ensures) (c .enum-told .given .1),
     )
 
 part-fill-start : tie.Need-part-fill-start
 part-fill-start c =
-    let a = c .before in
     omega (
       arith,
-      continue-place _ _ _ _ _ (a .before .before .continue-verdict .ensures) (a .enum-told .given .1),
+      continue-place _ _ _ _ _ (c .before .before .continue-verdict .ensures) (c .enum-told .given .1),
     )
 
 part-fill-end : tie.Need-part-fill-end
@@ -46,11 +40,10 @@ part-fill-end c = search needs
 
 fill-requires : tie.Need-fill-requires
 fill-requires c κs =
-    let f = c .before in
-    let a = f .before in (
-      f .of-prime .ensures .wellFormed,
-      continue-accepted _ _ _ _ _ (a .before .before .continue-verdict .ensures) (a .enum-told .given .1)
-          (f .of-prime .ensures .isField),
+    let a = c .before in
+    let e = a .before .before .continue-verdict .ensures in (
+      continue-prime _ _ _ _ _ e (a .enum-told .given .1),
+      continue-accepted _ _ _ _ _ e (a .enum-told .given .1),
     )
 
 returns : tie.Need-returns
@@ -63,10 +56,8 @@ same-length c = search needs
 returns-2 : tie.Need-returns-2
 returns-2 c =
     let b = c .before .before in
-    let f = b .before .before in
-    let a = f .before in
+    let a = b .before .before in
     continue-filled _ _ _ _ _ (a .before .before .continue-verdict .ensures) (a .enum-told .given .1)
-    (f .of-prime .ensures .isField)
     (b .fill .ensures)
 
 pub continue-sequence-spec : {M : Type 1} → statement M
@@ -76,7 +67,6 @@ continue-sequence-spec =
     continue-verdict-requires
     enum-known-r
     enum-told
-    of-prime-requires
     sub-fill
     part-fill-start
     part-fill-end

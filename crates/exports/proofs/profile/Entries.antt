@@ -6,9 +6,9 @@
 --   entry-unique, entry-several, entry-missing == the entry of what a meter shows
 --   term-entered     == the term is handed in and its entry written
 -- Assumes nothing.
-use Prim.Native.Nat.{ℕ, _/_, _%_, _<_, _≤_}
+use Prim.Native.Nat.{ℕ, _/_, _%_, _<_}
 use mathlib.Core.Path.{_≡_, refl, sym, ap, subst, _∙_}
-use mathlib.Core.Bool.{Bool, true, false}
+use mathlib.Core.Bool.{true, false}
 use mathlib.Core.List.{List, [], _∷_, _++_}
 use native.Mathlib.Omega.{arith}
 use lib.ListN.{length, take, set, length-set}
@@ -23,7 +23,6 @@ use Rattle.meaning.specs.Meter.{readingEntry}
 use Rattle.meaning.specs.Answers.{numberOf, toldFree}
 use Rattle.meaning.specs.Calls.{TermCall, TermTaken, ReadingCall}
 use Rattle.meaning.specs.Exports.{statusOf}
-use Rattle.meaning.proofs.Passes.{Passes}
 use Rattle.bridge.proofs.Searches.{settle-answered, answered-same, never-answered}
 use Rattle.bridge.proofs.Meters.{holding-more}
 use Rattle.meter.specs.Model.{meterModel}

@@ -7,7 +7,7 @@
 --   entered-none, entered-more, entered-all == before the first term, after one more, after all
 --   profile-refused, profile-told == the exported call
 -- Assumes nothing.
-use Prim.Native.Nat.{ℕ, suc, _+_, _*_, _-_, _/_, _<_, _≤_, min}
+use Prim.Native.Nat.{ℕ, _+_, _*_, _-_, _/_, _<_, _≤_, min}
 use mathlib.Core.Path.{_≡_, refl, sym, ap, ap₂, subst, _∙_}
 use mathlib.Core.List.{List, [], _∷_, _++_, append-assoc, append-nil}
 use native.Mathlib.Numerals.{add-one}
@@ -18,14 +18,14 @@ use lib.Seq.{take-suc, take-all, take-at, drop-at, drop-drop}
 use Rattle.meaning.specs.declared.Refusal.{Refusal}
 use Rattle.meaning.specs.declared.Meter.{Meter}
 use Rattle.meaning.specs.declared.MeterStart.{MeterStart}
-use Rattle.meaning.specs.Result.{Result, refused, answered, mapResult, written}
+use Rattle.meaning.specs.Result.{Result, refused, answered, written}
 use Rattle.meaning.specs.Free.{FreeFigures}
 use Rattle.meaning.specs.Meter.{startMeter, termTable, takeTerm, meterReading, unlessRefused}
 use Rattle.meaning.specs.Meter.{profileEntry, readingEntry, profileOf}
 use Rattle.meaning.specs.Answers.{numberOf, toldStart}
 use Rattle.meaning.specs.Calls.{StartCall}
 use Rattle.meaning.specs.Exports.{statusOf, ProfileExported}
-use Rattle.bridge.proofs.Searches.{settle-answered, answered-same, map-answered, map-refused}
+use Rattle.bridge.proofs.Searches.{settle-answered, map-answered, map-refused}
 use Rattle.bridge.proofs.Meters.{holding-none, reading-taken}
 use Rattle.meter.specs.Model.{meterModel}
 use Rattle.exports.specs.profile.Entries.{heldWith, heldAfter, entryOf, Ready, TermEntered}

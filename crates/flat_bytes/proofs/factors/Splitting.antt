@@ -5,7 +5,7 @@
 --   split-length, part-beyond == there are as many parts as lengths, and beyond them the empty one
 --   rated-parts      == nine slices that hold the parts, cut to the number of parts, are the first nine parts
 -- Assumes nothing.
-use Prim.Native.Nat.{ℕ, zero, suc, _+_, _-_, _≤_, _<_, min}
+use Prim.Native.Nat.{ℕ, suc, _+_, _-_, _≤_, _<_, min}
 use mathlib.Core.Path.{_≡_, refl, sym, ap, subst, _∙_}
 use mathlib.Core.List.{List, [], _∷_}
 use native.Mathlib.Nat as ℕ
@@ -13,7 +13,7 @@ use native.Mathlib.Numerals.{add-one}
 use native.Mathlib.Decide.{decLt}
 use native.Mathlib.Omega.{arith}
 use lib.ListN.{length, getD, take, drop, length-drop, drop-of-length-le, List·getD-eq-default}
-use lib.Seq.{drop-cons, drop-drop, take-all, take-nil}
+use lib.Seq.{drop-cons, drop-drop, take-all}
 use denote.Ref.{RefT}
 use Rattle.meaning.specs.Slices.{listsOf}
 use Rattle.meaning.specs.FlatBytes.{split}

@@ -10,13 +10,12 @@ use Prim.Native.Nat.{ℕ, zero, suc, _+_, _*_, _-_, _^_, _/_, _%_, _<_, _≤_, m
 use mathlib.Core.Path.{_≡_, refl, sym, ap, ap₂, subst, _∙_}
 use mathlib.Core.List.{List, [], _∷_, _++_, append-assoc, append-nil}
 use native.Mathlib.Nat as ℕ
-use native.Mathlib.Nat.{lt-of-lt-of-le}
 use native.Mathlib.Numerals.{add-one}
 use native.Mathlib.Decide.{decLt}
 use native.Mathlib.Omega.{arith}
 use lib.ListN.{length, getD, set, take, drop, drop-of-length-le, length-append, length-set, length-take}
 use lib.ListN.{List·getD-eq-default}
-use lib.Pow.{pow-add, pow-mono}
+use lib.Pow.{pow-add}
 use lib.Seq.{drop-cons, drop-drop, take-at, drop-at, take-suc, take-suc-set, take-all, take-nil}
 use lib.Seq.{take-length, take-append-add}
 use lib.Seq.{getD-set-same, getD-set-other}

@@ -1,6 +1,5 @@
 -- `rate_free` meets its contract: the verdict refuses, or the shortest recurrence answers, by the two words.
 -- Assumes nothing.
-use native.Mathlib.Omega.{arith}
 use borrow.Author.Needs.{needs}
 use Rattle.massey.proofs.FreeWay.{free-told}
 use Rattle.rate_free.proofs.FreeAnswer.{free-open, free-allowed, free-refused}

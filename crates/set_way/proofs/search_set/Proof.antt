@@ -52,8 +52,9 @@ same-length-2 c = search needs
 
 returns-2 : tie.Need-returns-2
 returns-2 c =
-    found-nothing (c .before .before .before .before .before .before .before .before .pre .1 .1 .0)
-    _ (c .before .before .before .annihilates .ensures) (c .if1 .left)
+    let s = c .before .before .before .before .before .before .before .before in
+    found-nothing (s .pre .1 .1 .0) (c .before .before .before .annihilates .ensures) (c .if1 .left)
+    (s .pre .1 .1 .1)
 
 pub search-set-spec : {M : Type 1} → statement M
 search-set-spec =

@@ -1,6 +1,5 @@
 -- `enter_term` meets its contract: the term is handed in, and its entry written. Assumes nothing.
 use Rattle.exports.proofs.profile.Entries.{term-entered}
-use native.Mathlib.Omega.{arith}
 use borrow.Author.Needs.{needs}
 use Rattle.exports.proofs.profile.enter_term.Statement.{statement}
 use Rattle.exports.proofs.profile.enter_term.Tie as tie

@@ -6,7 +6,7 @@ use Rattle.bridge.proofs.Polynomials.{monic-length}
 use denote.Ref.{now}
 use mathlib.Core.Path.{sym, _∙_}
 use Prim.Native.Nat.{_-_}
-use mathlib.Core.Path.{_≡_, refl}
+use mathlib.Core.Path.{_≡_}
 use Rattle.meaning.specs.Polynomial.{degree}
 use Rattle.irreducible.proofs.frobenius.Filling.{Filling, filling-start, filling-next, filling-end}
 use borrow.Author.Needs.{needs}

@@ -7,7 +7,6 @@ use Rattle.lent.proofs.Parts.{front-fits, front-room, front-copied}
 use Rattle.irreducible.specs.frobenius.Table.{Summed}
 use Rattle.lent.proofs.Parts.{zeros-length, zeros-lent}
 use denote.Ref.{now}
-use native.Mathlib.Omega.{arith}
 use borrow.Author.Needs.{needs}
 use Rattle.irreducible.proofs.frobenius.raise.Statement.{statement}
 use Rattle.irreducible.proofs.frobenius.raise.Tie as tie

@@ -1,6 +1,5 @@
 -- `products::multiply` meets its contract. The invariant is `Multiplying`, and the measure b.
 -- Assumes nothing.
-use Prim.Native.Nat.{_-_}
 use native.Mathlib.Omega.{arith}
 use borrow.Author.Needs.{needs}
 use Rattle.arith.specs.Represented.{fieldOf}
