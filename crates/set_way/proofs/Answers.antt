@@ -112,13 +112,16 @@ module _ {F : Field} {fs : List Polynomial} {us ts : List ℕ} (x : SetInput F f
     unfolding toldPowers
     found-powers decided h y =
         record {
-          powers =
-              sym (ap (mapOption padded)
-              (powersFound-some F (named fs us) ts (sym (decided .annihilated) ∙ h)
-              ∙ sym (setPowers-front F (named fs us) ts)
-              ∙ ap (setPowers F (named fs us)) (sym lent-front))
-              ∙ y .powers);
-          untold = λ e. absurd (true≢false e);
+          told =
+              record {
+                powers =
+                    sym (ap (mapOption padded)
+                    (powersFound-some F (named fs us) ts (sym (decided .annihilated) ∙ h)
+                    ∙ sym (setPowers-front F (named fs us) ts)
+                    ∙ ap (setPowers F (named fs us)) (sym lent-front))
+                    ∙ y .powers);
+                untold = λ e. absurd (true≢false e);
+              };
           kept = kept-trans (decided .kept) (y .kept);
         }
 
@@ -131,10 +134,14 @@ module _ {F : Field} {fs : List Polynomial} {us ts : List ℕ} (x : SetInput F f
   unfolding toldPowers mapOption
   found-nothing decided h zeros =
       record {
-        powers =
-            sym
-            (ap (mapOption padded) (powersFound-none F (named fs us) ts (sym (decided .annihilated) ∙ h)));
-        untold = λ _. zeros;
+        told =
+            record {
+              powers =
+                  sym
+                  (ap (mapOption padded)
+                  (powersFound-none F (named fs us) ts (sym (decided .annihilated) ∙ h)));
+              untold = λ _. zeros;
+            };
         kept = decided .kept;
       }
 
@@ -143,8 +150,7 @@ pub cleared-set :
     → SetSearched F fs us ts w w₁ b powers
     → w₂ ≡ cleared w₁
     → SetFound F fs us ts w w₂ b powers
-cleared-set x e =
-    record { powers = x .powers; untold = x .untold; work = e ∙ cleared-kept (x .kept) }
+cleared-set x e = record { told = x .told; work = e ∙ cleared-kept (x .kept) }
 
 -- What an answer says
 told-some : (b : Bool) (powers : List ℕ) → b ≡ true → toldPowers b powers ≡ some powers
@@ -176,14 +182,14 @@ module _ {F : Field} (I : IsField F) {fs : List Polynomial} {us ts w w′ powers
       go true false e h =
           absurd (some-none
           (sym (told-some b powers e)
-          ∙ y .powers
+          ∙ y .told .powers
           ∙ ap (mapOption padded) (powersFound-none F (named fs us) ts h)
           ∙ mapOption-none padded))
       go false true e h =
           absurd (some-none
           (sym (mapOption-some padded (setPowers-exists I (named fs us) nonempties ts .1))
           ∙ ap (mapOption padded) (sym (powersFound-some F (named fs us) ts h))
-          ∙ sym (y .powers)
+          ∙ sym (y .told .powers)
           ∙ told-none b powers e))
 
   pub answer-powers :
@@ -194,6 +200,6 @@ module _ {F : Field} (I : IsField F) {fs : List Polynomial} {us ts w w′ powers
   answer-powers {rs} e h =
       Option·some-injective powers (padded rs)
       (sym (told-some b powers e)
-      ∙ y .powers
+      ∙ y .told .powers
       ∙ ap (mapOption padded) (powersFound-some F (named fs us) ts (sym answer-annihilated ∙ e))
       ∙ mapOption-some padded h)

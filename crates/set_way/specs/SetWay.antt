@@ -2,9 +2,10 @@
 --
 --   powersFound F l ts == the powers of the pairs l where their product annihilates the terms, else none
 --   toldPowers b rs   == the eight places rs where the answer b is true, or none
---   SetSearched, SetFound F fs us ts w w′ b rs == the answer b and the eight places rs tell the powers that
---                        are found, and where none are the places are 0; SetFound: the first 8,192 work
---                        bytes are 0
+--   PowersTold F fs us ts b rs == the answer b and the eight places rs tell the powers that are found, and
+--                        where none are the places are 0
+--   SetSearched, SetFound F fs us ts w w′ b rs == they do, and the work bytes w became w′: changed in their
+--                        first 8,192 alone, and those are 0
 use Prim.Native.Nat.{ℕ}
 use mathlib.Core.Path.{_≡_}
 use mathlib.Core.Bool.{Bool, true, false}
@@ -27,14 +28,17 @@ powersFound F l ts = elim (annihilatesKnown F (product F l) ts) [ true ↦ setPo
 unfoldable pub toldPowers : Bool → List ℕ → Option (List ℕ)
 toldPowers b rs = elim b [ true ↦ some rs | false ↦ none ]
 
-pub record SetSearched (F : Field) (fs : List Polynomial) (us ts w w′ : List ℕ) (b : Bool) (rs : List ℕ)
+pub record PowersTold (F : Field) (fs : List Polynomial) (us ts : List ℕ) (b : Bool) (rs : List ℕ)
     : Type 0 where
   pub powers : toldPowers b rs ≡ mapOption padded (powersFound F (named fs us) ts)
   pub untold : b ≡ false → rs ≡ replicate 8 0
+
+pub record SetSearched (F : Field) (fs : List Polynomial) (us ts w w′ : List ℕ) (b : Bool) (rs : List ℕ)
+    : Type 0 where
+  pub told : PowersTold F fs us ts b rs
   pub kept : Kept w w′
 
 pub record SetFound (F : Field) (fs : List Polynomial) (us ts w w′ : List ℕ) (b : Bool) (rs : List ℕ)
     : Type 0 where
-  pub powers : toldPowers b rs ≡ mapOption padded (powersFound F (named fs us) ts)
-  pub untold : b ≡ false → rs ≡ replicate 8 0
+  pub told : PowersTold F fs us ts b rs
   pub work : w′ ≡ cleared w
