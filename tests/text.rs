@@ -1,4 +1,5 @@
-// tools/route: the shipped examples, texts of any file, and a clear error for bad text.
+// tools/route: the shipped examples, texts of any file, a clear error for bad text, the longest inputs, and
+// arguments.
 mod common;
 
 use common::random::Random;
@@ -77,6 +78,7 @@ fn files_come_back() -> Outcome {
             1 => file.extend(random.bytes(5)),
             _ => {}
         }
+        file.truncate(route::MOST_BYTES);
         let text = well("show", &file)?;
         expect(well("write", &text)?, file, || {
             String::from_utf8_lossy(&text).into_owned()
@@ -161,6 +163,55 @@ fn bad_texts() -> Outcome {
     Ok(bad.len() as u64 + 2)
 }
 
+// One line that begins so, and the status.
+fn stops(command: &mut Command, input: &[u8], status: i32, begin: &str) -> Result<(), String> {
+    let output = output_of(command, input)?;
+    let said = String::from_utf8_lossy(&output.stderr).into_owned();
+    let one = said.lines().count() == 1 && said.starts_with(begin);
+    expect(
+        (output.status.code(), output.stdout.len(), one),
+        (Some(status), 0, true),
+        || format!("{begin}: {said}"),
+    )
+}
+
+// The longest file and the longest text, one byte more, and inputs without an end.
+fn longest() -> Outcome {
+    let verbs = [("show", 16384, "16,384"), ("write", 131072, "131,072")];
+    for (verb, most, named) in verbs {
+        let blanks = vec![b' '; most + 1];
+        well(verb, &blanks[..most])?;
+        let long = |name: &str| format!("{name}: it has more than {named} bytes");
+        let mut command = Command::new(TOOL);
+        stops(command.arg(verb), &blanks, 1, &long("standard input"))?;
+        let bounded = format!("ulimit -v 1000000; exec {TOOL} {verb} /dev/zero");
+        let mut command = Command::new("sh");
+        stops(command.args(["-c", &bounded]), &[], 1, &long("/dev/zero"))?;
+    }
+    let shown = well("show", &[3, 1].repeat(8192))?;
+    expect(shown.len() <= 131072, true, || "the longest text".into())?;
+    Ok(3 * verbs.len() as u64 + 1)
+}
+
+fn arguments() -> Outcome {
+    let helps: [&[&str]; 3] = [&["--help"], &["-h"], &["show", "--help"]];
+    for words in helps {
+        let output = output_of(Command::new(TOOL).args(words), &[])?;
+        let help = String::from_utf8_lossy(&output.stdout).into_owned();
+        expect(
+            (output.status.code(), output.stderr.len()),
+            (Some(0), 0),
+            || format!("{words:?}"),
+        )?;
+        expect(help.contains("tools/route show"), true, || help)?;
+    }
+    let wrong: [&[&str]; 3] = [&[], &["shows"], &["show", "a", "b"]];
+    for words in wrong {
+        stops(Command::new(TOOL).args(words), &[], 2, "route: ")?;
+    }
+    Ok((helps.len() + wrong.len()) as u64)
+}
+
 fn main() {
     common::run(
         "text",
@@ -169,6 +220,8 @@ fn main() {
             ("files come back from their texts", files_come_back),
             ("statements", statements),
             ("bad texts", bad_texts),
+            ("the longest inputs", longest),
+            ("arguments", arguments),
         ],
     )
 }

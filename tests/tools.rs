@@ -1,13 +1,17 @@
-// The tools that call the library as a shared object, tools/profile and tools/find: one program, since a test takes the
-// shared object away.
+// The tools that call the library as a shared object, tools/profile and tools/find, and tools/library, which
+// makes it: one program, since tests take the shared object away.
 mod common;
 #[path = "tools/find.rs"]
 mod find;
+#[path = "tools/library.rs"]
+mod library;
 #[path = "tools/profile.rs"]
 mod profile;
 
 use common::{expect, output_of};
 use std::process::Command;
+
+pub const SHARED: &str = "target/staticlib/libexports.so";
 
 // How a tool ended: its status, and what it wrote to its two outputs.
 pub type Ended = (Option<i32>, String, String);
@@ -35,5 +39,6 @@ pub fn stops(found: Ended, status: i32, begin: &str, end: &str) -> Result<(), St
 }
 
 fn main() {
-    common::run("tools", &[&profile::TESTS[..], &find::TESTS[..]].concat())
+    let tests = [&profile::TESTS[..], &find::TESTS[..], &library::TESTS[..]];
+    common::run("tools", &tests.concat())
 }

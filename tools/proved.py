@@ -4,9 +4,10 @@ import pathlib
 import subprocess
 import sys
 
+from route_files import MOST_BYTES
+
 ROOT = pathlib.Path(__file__).resolve().parent.parent
 LIBRARY = ROOT / "target/staticlib/libexports.so"
-MOST_BYTES = 16384
 MOST_TERMS = 4096
 REASONS = {
     1: f"it has more than {MOST_BYTES:,} bytes",

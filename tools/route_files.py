@@ -1,6 +1,8 @@
-"""Route files: their records, a readable text for them, and the reading and writing of bytes. tools/route says what the
-statements of the text are."""
+"""Route files: their records, a readable text for them, and the reading and writing of bytes, with the line
+that says what is wrong. tools/route says what the statements of the text are."""
+import os
 
+MOST_BYTES = 16384
 MODES = {"period": 1, "set": 2, "free": 3}
 LENGTHS = {1: 4, 2: 1, 3: 1, 4: 35, 5: 64, 6: 1, 7: 8, 8: 0}
 MOST_COEFFICIENTS = 32
@@ -217,3 +219,11 @@ def put(made, path=None):
             out.write(made)
     except OSError as what:
         raise Lost(f"{'standard output' if path is None else path}: {what.strerror}") from what
+
+
+def say(line):
+    """Writes a line to standard error. If that is closed or full nobody is told."""
+    try:
+        os.write(2, f"{line}\n".encode(errors="surrogateescape"))
+    except OSError:
+        pass

@@ -1,5 +1,5 @@
-// tools/find: known periods as bits and as route files, a line where nothing is found or the file has no binary period,
-// and arguments.
+// tools/find: known periods as bits and as route files, a line if nothing is found or the file has no binary
+// period or is neither bits nor a route file, and arguments.
 use super::{ended, stops, Ended};
 use crate::common::route::{file_with, Contents, Factor};
 use crate::common::{expect, Outcome, Test};
@@ -80,8 +80,19 @@ fn nothing_found() -> Outcome {
         none,
         "more than 65,536 bytes",
     )?;
+    let texts: [(&[u8], &str); 5] = [
+        (b"0012", "'2'"),
+        (b"0, 1\n", "','"),
+        (b"bits\n", "'b'"),
+        ("01\u{e9}".as_bytes(), "'\\xe9'"),
+        (b"01\0", "'\\x00'"),
+    ];
+    for (text, other) in texts {
+        let begin = format!("{none}period: it is not bits, since it has {other}, ");
+        stops(tool(&[], text)?, 4, &begin, "and not a route file")?;
+    }
     stops(
-        tool(&[], b"0012")?,
+        tool(&[], &[1, 0, 0, 0, 7, b'0'])?,
         4,
         &format!("{none}period: refused by 2, "),
         "1 to 8",
@@ -104,7 +115,7 @@ fn nothing_found() -> Outcome {
         none,
         "its p is 3, not 2",
     )?;
-    Ok(10)
+    Ok(10 + texts.len() as u64)
 }
 
 fn arguments() -> Outcome {

@@ -1,6 +1,6 @@
 // tools/profile: the shipped example, files against the second rater, a line where a file has no profile,
 // arguments and outputs, and no C compiler.
-use super::{ended, stops, Ended};
+use super::{ended, stops, Ended, SHARED};
 use crate::common::random::Random;
 use crate::common::route::{self, file_with, Contents, Factor};
 use crate::common::{expect, primes, rater, sequence, Outcome, Test};
@@ -11,7 +11,6 @@ use std::process::Command;
 
 const TOOL: &str = "tools/profile";
 const EXAMPLE: &str = "examples/profile.route";
-const SHARED: &str = "target/staticlib/libexports.so";
 const BUILT: &str = "target/tests";
 const RANDOM_FILES: u64 = 20;
 
