@@ -50,6 +50,11 @@ static void tell(void *task_, answer *a) {
         case IRREDUCIBLE:                                                                                             \
             a->status = VERSION##_is_irreducible(j->p, j->coefficients, j->bytes, &yes);                              \
             break;                                                                                                    \
+        case CONTINUE:                                                                                                \
+            a->status = VERSION##_continue_sequence(j->p, j->polynomial, j->degree + 1, j->terms, j->degree,          \
+                                                    a->polynomial, j->count, 0);                                      \
+            degree = j->count - 1;                                                                                    \
+            break;                                                                                                    \
         }                                                                                                             \
         a->degree = degree;                                                                                           \
         a->yes = yes;                                                                                                 \

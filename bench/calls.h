@@ -23,15 +23,16 @@
     uint64_t VERSION##_rate_free(uint64_t p, const uint8_t *terms, size_t count, uint8_t *answer,                     \
                                  size_t answer_bytes, uint8_t *work, size_t work_bytes, uint64_t *degree,             \
                                  uint8_t *unique);                                                                    \
-    uint64_t VERSION##_is_irreducible(uint64_t p, const uint8_t *f, size_t coefficients, uint8_t *yes);
+    uint64_t VERSION##_is_irreducible(uint64_t p, const uint8_t *f, size_t coefficients, uint8_t *yes);               \
+    uint64_t VERSION##_continue_sequence(uint64_t p, const uint8_t *polynomial, size_t coefficients,                  \
+                                         const uint8_t *start, size_t count, uint8_t *buffer, size_t bytes,           \
+                                         size_t place);
 
 #ifdef __cplusplus
 extern "C" {
 #endif
 DECLARE_CALLS(rater)
 uint64_t rater_profile(uint64_t p, const uint8_t *terms, size_t count, uint8_t *profile, size_t bytes);
-uint64_t rater_continue_sequence(uint64_t p, const uint8_t *polynomial, size_t coefficients, const uint8_t *start,
-                                 size_t count, uint8_t *buffer, size_t bytes, size_t place);
 DECLARE_CALLS(plain)
 DECLARE_CALLS(bytes)
 DECLARE_CALLS(best)

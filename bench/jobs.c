@@ -240,6 +240,18 @@ static void irreducibility(uint32_t p, size_t degree) {
     snprintf(j->name, sizeof j->name, "irreducible or not, degree %zu over GF(%u)", degree, p);
 }
 
+// 4,096 terms of a register, from its random starting terms
+static void continuation(uint32_t p, size_t degree) {
+    job *j = add("continuation", CONTINUE, p);
+    j->count = 4096;
+    j->degree = degree;
+    j->polynomial[0] = 1 + below(p - 1);
+    for (size_t i = 1; i < degree; i++) j->polynomial[i] = below(p);
+    j->polynomial[degree] = 1;
+    random_terms(j, 0, degree);
+    snprintf(j->name, sizeof j->name, "continuation to 4,096 terms, degree %zu over GF(%u)", degree, p);
+}
+
 static const size_t sizes[4] = {512, 1024, 2048, 4096};
 
 static void fill(void) {
@@ -280,6 +292,10 @@ static void fill(void) {
     irreducibility(5, 13);
     irreducibility(7, 11);
     irreducibility(251, 5);
+    for (size_t degree = 8; degree <= 512; degree *= 8) {
+        continuation(2, degree);
+        continuation(251, degree);
+    }
     free_digits("10");
     free_digits("01");
     free_digits("001");

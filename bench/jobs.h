@@ -9,10 +9,11 @@
 extern "C" {
 #endif
 
-enum way { FREE, PERIOD, SET, IRREDUCIBLE };
+enum way { FREE, PERIOD, SET, IRREDUCIBLE, CONTINUE };
 
-// One job. A set has one factor to eight, which stand one after the other, constants first. Jobs of one family take
-// turns in a round; `compared` jobs are there for their answers, and not timed.
+// One job. A set has one factor to eight, which stand one after the other, constants first. A continuation to `count`
+// terms has its polynomial apart, and as many starting terms as the degree. Jobs of one family take turns in a round;
+// `compared` jobs are there for their answers, and not timed.
 typedef struct {
     const char *family;
     char name[100];
@@ -22,9 +23,12 @@ typedef struct {
     size_t count, factors, bytes;
     uint64_t lengths[8], uppers[8];
     uint8_t coefficients[8 * 33], terms[4096];
+    uint8_t polynomial[4097];
+    size_t degree;
 } job;
 
-// An answer: for a question its yes or no, for a rating a polynomial of the degree, constant first.
+// An answer: for a question its yes or no, for a rating a polynomial of the degree, constant first, and for a
+// continuation its terms in the place of the polynomial.
 typedef struct {
     uint64_t status;
     bool yes;

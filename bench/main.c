@@ -66,6 +66,7 @@ static const char *verdict(const job *j, const answer *ours, const answer *their
         snprintf(words, room, "%s", theirs->yes ? "irreducible" : "reducible");
         return "different";
     }
+    if (j->way == CONTINUE) return "same"; // held to the last term by `hold`
     if (theirs->status != ours->status) {
         snprintf(words, room, "status %d", (int)theirs->status);
         return "different";
@@ -113,7 +114,7 @@ static void hold(const job *j, const contestant *c, const answer *ours, const an
 
 // ---- one job
 
-static const char *const ways[] = {"free", "period", "set", "irreducible"};
+static const char *const ways[] = {"free", "period", "set", "irreducible", "continue"};
 
 // A job and its contestants: tasks, calls in a batch, and rounds to take part in.
 typedef struct {
@@ -248,7 +249,7 @@ int main(int argc, char **argv) {
             show(&jobs[number]);
             return 0;
         }
-        if (strcmp(argv[i], "--route") == 0 && number < count && jobs[number].way != IRREDUCIBLE) {
+        if (strcmp(argv[i], "--route") == 0 && number < count && jobs[number].way < IRREDUCIBLE) {
             route(&jobs[number]);
             return 0;
         }

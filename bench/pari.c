@@ -57,6 +57,7 @@ static GEN power_of_x(long n, ulong p) {
 }
 
 static void *prepare(const job *j) {
+    if (j->way == CONTINUE) return NULL;
     static int begun;
     if (!begun) {
         pari_init_opts(1 << 28, 0, INIT_DFTm);

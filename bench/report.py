@@ -227,6 +227,9 @@ def limits(jobs, agreed):
         if j.way == 'irreducible':
             known = [r for r in (best_ratio(j, who) for who in PEERS) if r is not None]
             row(j.name + ', over the best of NTL, FLINT, PARI', max(known, default=None), 1)
+    for j in jobs:
+        if j.way == 'continue':
+            over(j, 'bytes', 2)
     leaves = read_leaves()
     for p in [2, 251]:
         for leaf in ['sum of products modulo %d' % p, 'update a + c*b modulo %d' % p]:
@@ -379,6 +382,7 @@ GROUPS = {'free 2': 'free way over GF(2)', 'free': 'free way over GF(3) and GF(2
           'one 2': 'set of one factor over GF(2)', 'one': 'set of one factor over other fields',
           'set 2': 'set of eight factors over GF(2)', 'set': 'set of eight factors over other fields',
           'irreducible 2': 'irreducible or not, over GF(2)', 'irreducible': 'irreducible or not, over other fields',
+          'continue 2': 'continuation over GF(2)', 'continue': 'continuation over other fields',
           'route': 'whole route files'}
 
 
@@ -394,12 +398,11 @@ COPIES = ('both work on words. C best adds up a discrepancy where it needs it, f
           'corrects all that are to come with f, which are more words as long as f is short; and C best packs 16 terms at a '
           'time by movemask and unpacks eight at a time, the rater one by one')
 PACKED = 'C best has 64 coefficients of GF(2) in a word, and the rater one in a byte'
-SHARED = ('C best lets one half of the factors act once for the other half, over fields other than GF(2) by their product '
-          'where that is quicker; in the rater each factor acts anew for each other, as often as the digits of its upper '
-          'power say')
-GCD = ('the peers multiply the upper powers out and take one gcd; in the rater each factor acts for each other, as often '
-       'as the digits of its upper power say, which costs where the digits are large. The peers are not asked whether the '
-       'factors are irreducible, nor for the powers')
+SHARED = ('both let one half of the factors act once for the other half; C best does it over fields other than GF(2) by '
+          'their product where that is quicker, and the rater factor by factor, as often as the digits of the upper power say')
+GCD = ('the peers multiply the upper powers out and take one gcd; in the rater one half of the factors acts for the other, '
+       'each as often as the digits of its upper power say, which costs where the digits are large. The peers are not asked '
+       'whether the factors are irreducible, nor for the powers')
 ROWS = ('in products modulo the polynomial and in the sums of rows the C versions add up in 32-bit numbers and take one '
         'remainder for each coefficient, and the rater one after each product; C takes one after each product only in '
         'Euclid\'s algorithm and in products with x')

@@ -1,10 +1,11 @@
-// The orders of crates/orders, by the leaves: the order of x modulo a polynomial against the sequence that the polynomial
-// continues 0…01 to, run until it comes again, and the least common multiple against a table of multiples.
+// The orders of crates/repeat, by the leaves: the order of x modulo an irreducible polynomial against the sequence that
+// the polynomial continues 0…01 to, run until it comes again, and the least common multiple against a table of multiples.
 mod common;
 
-use common::poly::{monics, to_bytes};
+use common::inputs::{divisor, irreducible};
+use common::poly::{is_irreducible, monics, of_bytes, product, to_bytes};
 use common::random::Random;
-use common::{expect, list, primes, run, Outcome, NO_PRIMES};
+use common::{expect, largest_degree, list, primes, run, Outcome, NO_PRIMES};
 
 mod exported {
     extern "C" {
@@ -54,57 +55,115 @@ fn sum_of_powers(exponents: &[usize]) -> Vec<u8> {
     f
 }
 
-fn order_agrees(p: u64, f: &[u8], limit: usize) -> Result<usize, String> {
-    let expected = if f[0] == 0 { 0 } else { returns(p, f, limit) };
+fn order_is(p: u64, f: &[u8], limit: usize, expected: usize) -> Result<(), String> {
     expect(order(p, f, limit), expected, || {
         format!("p {p}, {}, limit {limit}", list(f))
-    })?;
-    Ok(expected)
+    })
 }
 
-// Every monic polynomial of a small degree, reducible ones and multiples of x among them, and limits on both sides of the
-// order
+// The order of x modulo an irreducible f, and 0 for a reducible f and for x, with limits at the order, one below it, and
+// beside it.
+fn order_agrees(p: u64, f: &[u8]) -> Result<usize, String> {
+    let counted = f[0] != 0 && is_irreducible(p, &of_bytes(f));
+    let n = if counted { returns(p, f, LONGEST) } else { 0 };
+    order_is(p, f, LONGEST, n)?;
+    order_is(p, f, 0, 0)?;
+    if n > 0 {
+        order_is(p, f, n, n)?;
+        order_is(p, f, n - 1, 0)?;
+        order_is(p, f, (n + 1).min(LONGEST), n)?;
+        order_is(p, f, n / 2, 0)?;
+    }
+    Ok(n)
+}
+
+// Every monic polynomial of a small degree, irreducible and reducible
 fn all_small() -> Outcome {
     let mut cases = 0;
     for (p, last) in [(2, 10), (3, 6), (5, 4), (7, 3), (11, 2), (251, 1)] {
         for d in 1..=last {
             for f in monics(p, d) {
-                let f = to_bytes(&f);
-                let n = order_agrees(p, &f, LONGEST)?;
+                order_agrees(p, &to_bytes(&f))?;
                 cases += 1;
-                if n > 0 {
-                    for (limit, expected) in [(n, n), (n - 1, 0), (0, 0)] {
-                        expect(order(p, &f, limit), expected, || {
-                            format!("p {p}, {}, limit {limit}", list(&f))
-                        })?;
-                        cases += 1;
-                    }
-                }
             }
         }
     }
     Ok(cases)
 }
 
-// Long orders and orders beyond the limit, over each prime and at each degree that fits
-fn long() -> Outcome {
+// Random irreducible polynomials over each prime and at each degree of a list that fits, to the largest
+fn all_fields() -> Outcome {
     let mut random = Random::of_seed(81);
     let mut cases = 0;
     for p in primes() {
-        for d in [1, 2, 3, 5, 8, 13, 21, 31, 32] {
-            let mut f = random.monic(p, d);
-            f[0] = random.between(1, p - 1) as u8;
-            order_agrees(p, &f, 5000)?;
+        let largest = largest_degree(p);
+        for d in [1, 2, 3, 4, 5, 7, 8, 11, 13, 16, 21, 24, 31, 32] {
+            if d <= largest {
+                order_agrees(p, &to_bytes(&irreducible(&mut random, p, d)))?;
+                cases += 1;
+            }
+        }
+    }
+    Ok(cases)
+}
+
+// Irreducible polynomials with two or three terms
+fn sparse() -> Outcome {
+    let mut random = Random::of_seed(84);
+    let mut cases = 0;
+    for p in [2, 3, 5, 7, 13, 31, 61, 127, 193, 229, 251] {
+        for d in 2..=largest_degree(p) {
+            for _ in 0..8 {
+                let mut f = vec![0; d + 1];
+                f[random.below(d as u64) as usize] = random.below(p) as u8;
+                f[0] = random.between(1, p - 1) as u8;
+                f[d] = 1;
+                cases += (order_agrees(p, &f)? > 0) as u64;
+            }
+        }
+    }
+    Ok(cases)
+}
+
+// The pairs (d, e), e up to the longest and not divisible by p, for which d is the least number with p^d ≡ 1 modulo e, and
+// an accepted degree over GF(p).
+fn roots_of_one(p: u64) -> Vec<(usize, u64)> {
+    let degree = |e: u64| {
+        let mut power = 1;
+        (1..=largest_degree(p)).find(|_| {
+            power = power * p % e;
+            power == 1 % e
+        })
+    };
+    (1..=LONGEST as u64)
+        .filter(|e| e % p != 0)
+        .filter_map(|e| degree(e).map(|d| (d, e)))
+        .collect()
+}
+
+// Irreducible polynomials with orders within the longest: divisors of x^e − 1
+fn within() -> Outcome {
+    let mut random = Random::of_seed(85);
+    let mut cases = 0;
+    for p in [2, 3, 5, 7, 13, 31, 61, 127, 193, 251] {
+        let pairs = roots_of_one(p);
+        for _ in 0..40 {
+            let (d, e) = random.one_of(&pairs);
+            let f = to_bytes(&divisor(&mut random, p, d, e));
+            let n = order_agrees(p, &f)?;
+            expect(e as usize % n, 0, || {
+                format!("p {p}, {}, x^{e} is 1", list(&f))
+            })?;
             cases += 1;
         }
     }
     Ok(cases)
 }
 
-// Orders at the borders of the window of residues and of the steps of 1,024 powers over GF(2) and of 512 elsewhere, and the
-// first beyond the longest: 2^k + 1 in degree 2k
-fn borders() -> Outcome {
-    let binary: [(usize, &[usize]); 5] = [
+// Known orders: 2^k + 1 in degree 2k, the last of them beyond the longest, 2^16 − 1 and 2^17 − 1, and some over other
+// fields
+fn known() -> Outcome {
+    let binary: [(usize, &[usize]); 7] = [
         (1025, &[0, 1, 3, 8, 9, 10, 11, 12, 17, 19, 20]),
         (2049, &[0, 2, 4, 11, 18, 20, 22]),
         (
@@ -125,6 +184,8 @@ fn borders() -> Outcome {
                 0, 6, 7, 8, 10, 11, 14, 15, 16, 17, 18, 21, 22, 24, 25, 26, 32,
             ],
         ),
+        (65535, &[0, 2, 3, 5, 16]),
+        (131071, &[0, 3, 17]),
     ];
     let mut all = vec![
         (19, vec![18, 0, 12, 1], 127),
@@ -132,101 +193,25 @@ fn borders() -> Outcome {
         (7, vec![1, 6, 3, 0, 6, 3, 1], 129),
         (127, vec![126, 0, 98, 0, 1], 512),
         (7, vec![3, 0, 0, 0, 0, 0, 2, 0, 0, 1], 513),
-        (127, vec![126, 0, 0, 0, 33, 0, 0, 0, 1], 1024),
     ];
     for (n, places) in binary {
         all.push((2, sum_of_powers(places), n));
     }
-    // x^n − 1 has the order n
-    for n in [1, 2, 31, 32] {
-        let mut f = vec![0; n + 1];
-        f[0] = 2;
-        f[n] = 1;
-        all.push((3, f, n));
+    for (p, f, n) in &all {
+        let told = if *n > LONGEST { 0 } else { *n };
+        expect(order_agrees(*p, f)?, told, || list(f))?;
+        order_is(*p, f, LONGEST + 1, 0)?;
     }
-    let mut cases = 0;
-    for (p, f, n) in all {
-        let told = if n > LONGEST { 0 } else { n };
-        expect(order_agrees(p, &f, LONGEST)?, told, || list(&f))?;
-        for (limit, expected) in [(n - 1, 0), (n.min(LONGEST), told)] {
-            expect(order(p, &f, limit), expected, || {
-                format!("p {p}, {}, limit {limit}", list(&f))
-            })?;
-        }
-        cases += 3;
-    }
-    Ok(cases)
+    Ok(all.len() as u64)
 }
 
-// Orders of all sizes up to the longest, and beyond it, with limits on both sides of each
-fn stepped() -> Outcome {
-    let mut random = Random::of_seed(84);
-    let mut cases = 0;
-    let binary = [11, 12, 13, 14, 15, 16, 17, 20, 24, 31, 32].map(|d| (2, d));
-    let ternary = [7, 8, 9, 10, 11, 16, 21].map(|d| (3, d));
-    let others = [
-        (5, 5),
-        (5, 6),
-        (5, 7),
-        (7, 4),
-        (7, 5),
-        (13, 3),
-        (13, 4),
-        (31, 2),
-        (31, 3),
-        (61, 2),
-        (61, 3),
-        (127, 2),
-        (251, 2),
-        (251, 3),
-        (251, 5),
-    ];
-    for (p, d) in binary.into_iter().chain(ternary).chain(others) {
-        for _ in 0..8 {
-            let mut f = random.monic(p, d);
-            f[0] = random.between(1, p - 1) as u8;
-            let n = order_agrees(p, &f, LONGEST)?;
-            cases += 1;
-            if n > 0 {
-                expect(order(p, &f, n), n, || {
-                    format!("p {p}, {}, limit {n}", list(&f))
-                })?;
-                expect(order(p, &f, n - 1), 0, || {
-                    format!("p {p}, {}, limit {n} less 1", list(&f))
-                })?;
-                cases += 2;
-            }
-        }
-    }
-    Ok(cases)
-}
-
-// x^16 + x^5 + x^3 + x^2 + 1 has the order 2^16 − 1, x^17 + x^3 + 1 the order 2^17 − 1, and over GF(3) x^10 + x^2 + x + 2
-// one of at most 3^10 − 1
-fn registers() -> Outcome {
-    let sixteen = sum_of_powers(&[0, 2, 3, 5, 16]);
-    let seventeen = sum_of_powers(&[0, 3, 17]);
-    expect(order(2, &sixteen, 65535), 65535, || "degree 16".into())?;
-    expect(order(2, &sixteen, 65534), 0, || {
-        "degree 16, a limit less".into()
-    })?;
-    expect(order(2, &seventeen, LONGEST), 0, || "degree 17".into())?;
-    expect(order(2, &sixteen, 65537), 0, || {
-        "a limit beyond 65,536".into()
-    })?;
-    order_agrees(2, &sixteen, LONGEST)?;
-    let mut ten = sum_of_powers(&[0, 1, 2, 10]);
-    ten[0] = 2;
-    order_agrees(3, &ten, LONGEST)?;
-    Ok(6)
-}
-
+// What is no prime, no monic polynomial of an accepted degree, or reducible has no order
 fn no_orders() -> Outcome {
     let mut random = Random::of_seed(82);
     let mut cases = 0;
     let mut none = |p: u64, f: &[u8]| {
         cases += 1;
-        expect(order(p, f, LONGEST), 0, || format!("p {p}, {}", list(f)))
+        order_is(p, f, LONGEST, 0)
     };
     for n in NO_PRIMES {
         none(n, &[1, 1])?;
@@ -234,7 +219,7 @@ fn no_orders() -> Outcome {
     for p in primes() {
         none(p, &[])?;
         none(p, &[1])?;
-        // degree 33, no leading 1, a coefficient that is no element, and a multiple of x
+        // degree 33, no leading 1, a coefficient that is no element, x, and a multiple of x
         let mut f = random.monic(p, 33);
         f[0] = 1;
         none(p, &f)?;
@@ -244,7 +229,19 @@ fn no_orders() -> Outcome {
         }
         none(p, &[p as u8, 1])?;
         none(p, &[255, 1])?;
+        none(p, &[0, 1])?;
         none(p, &[0, 1, 1])?;
+        // x^n − 1, and the square of an irreducible polynomial
+        for n in 2..=largest_degree(p) {
+            let mut f = vec![0; n + 1];
+            f[0] = (p - 1) as u8;
+            f[n] = 1;
+            none(p, &f)?;
+        }
+        for d in 1..=largest_degree(p) / 2 {
+            let f = irreducible(&mut random, p, d);
+            none(p, &to_bytes(&product(p, &f, &f)))?;
+        }
     }
     Ok(cases)
 }
@@ -305,10 +302,10 @@ fn main() {
         "orders",
         &[
             ("all small polynomials", all_small),
-            ("long orders", long),
-            ("orders at the borders", borders),
-            ("orders of all sizes", stepped),
-            ("registers", registers),
+            ("polynomials over all fields", all_fields),
+            ("sparse polynomials", sparse),
+            ("orders within the longest", within),
+            ("known orders", known),
             ("where no order is told", no_orders),
             ("common multiples", multiples),
         ],

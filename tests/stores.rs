@@ -21,13 +21,9 @@ use refusals::numbering::refusal_number;
 const ANSWER: usize = 4097 + 13;
 const HALVES: usize = 8192;
 const WORK: usize = HALVES + 13;
-// the only arrays of the search: the 32 or 256 sums of a block, of 16 bits each, and over GF(2) 256 of 8, and the files in
-// which they are made
-const SUMS: [(&str, usize); 3] = [
-    ("/lent/blocks.rs", 64),
-    ("/lent/blocks.rs", 512),
-    ("/action/bits.rs", 256),
-];
+// the only arrays of the search: the 256 sums of a block, of 16 bits each, and over GF(2) 256 of 8, and the files in which
+// they are made
+const SUMS: [(&str, usize); 2] = [("/lent/blocks.rs", 512), ("/action/bits.rs", 256)];
 
 // A period with one factor, and how it is to be rated.
 struct Period {
@@ -221,7 +217,7 @@ fn file(period: &Period) -> Vec<u8> {
 }
 
 // How often terms are stored more when a period is rated as a file: what is stored elsewhere, less what the call stores
-// there on the terms themselves, and less the coefficients of the factor. File and call answer alike, and store alike into
+// there on the terms themselves. Both store the coefficients of the factor there once, answer alike, and store alike into
 // the work bytes.
 fn more_in_a_file(period: &Period) -> Result<usize, String> {
     let name = || format!("a file, {}", period.name());
@@ -238,9 +234,7 @@ fn more_in_a_file(period: &Period) -> Result<usize, String> {
     expect(found, expected.map_err(|r| *r), name)?;
     let called = counts(rate_period::rate_period, period);
     expect(stored.work == called.work, true, name)?;
-    let more = stored
-        .elsewhere
-        .checked_sub(called.elsewhere + period.f.len());
+    let more = stored.elsewhere.checked_sub(called.elsewhere);
     more.ok_or_else(|| format!("{}: fewer stores than the call", name()))
 }
 

@@ -6,7 +6,7 @@ ghost use Prim.Native.Nat.{_+_, _≤_, _<_};
 ghost use lib.ListN.{length, replicate};
 ghost use Rattle.meaning.specs.Field.{prime};
 ghost use Rattle.meaning.specs.Sequence.{cut, periodic};
-ghost use Rattle.bridge.proofs.KnownActions.{allZero};
+ghost use Rattle.bridge.proofs.Sequences.KnownActions.{allZero};
 ghost use Rattle.arith.specs.Represented.{fieldOf, WellFormed};
 ghost use Rattle.arith.specs.Slices.{combined};
 ghost use Rattle.lent.specs.blocks.Blocks.{blockOnPeriod, Places, Block, BlockActed};
@@ -16,12 +16,12 @@ use lent::blocks::act_block;
 use lent::blocks::advance;
 use lent::smaller;
 
-// Leaves in the place of each sum the exclusive or of it and its term, as far as the terms s go.
+// Replaces each sum by the exclusive or of it and its term, as far as the terms s go.
 fn add_run(sums: &mut [u8], s: &[u8])
     requires { ⌜ length (now s) ≤ length (now sums) ⌝ }
     ensures { λ _. ⌜ now (sums .exit) ≡ combined bytes (now (sums .entry)) 1 (now (s .entry)) ⌝ }
 {
-    // the first i sums have their term added, and the others are as they were
+    // Invariant: the first i sums have their term added, and the others are as they were.
     for i in 0..s.len() {
         sums[i] = sums[i] ^ s[i];
     }
@@ -52,15 +52,14 @@ fn add_cyclic(sums: &mut [u8], c: u8, ts: &[u8], at: usize)
     add_runs(sums, &ts[at..at + n], &ts[0..rest]);
 }
 
-// Leaves in the sums, which are 0, the action of f with the stride `step` on the period ts, from the place i
-// on.
+// Adds to the sums, which are 0, the action of f with the stride `step` on the period ts from the place i on.
 fn sum_up(sums: &mut [u8], ts: &[u8], i: usize, f: &[u8], step: usize)
     requires { ⌜ now sums ≡ replicate (length (now sums)) 0 ⌝ }
     requires { ⌜ (i < length (now ts)) × (length (now sums) ≤ length (now ts)) × (step < length (now ts)) ⌝ }
     ensures { λ _. ⌜ bitsOf (now (sums .exit)) ≡ blockOnPeriod (prime 2) (now (f .entry)) step
         (now (ts .entry)) i (length (now (sums .entry))) ⌝ }
 {
-    // sums + the action of the coefficients from j on at the place `at` is the whole action
+    // Invariant: sums + the action of the coefficients from j on at the place `at` is the whole action.
     let mut at = i;
     for j in 0..f.len() {
         add_cyclic(sums, f[j], ts, at);
@@ -68,12 +67,12 @@ fn sum_up(sums: &mut [u8], ts: &[u8], i: usize, f: &[u8], step: usize)
     }
 }
 
-// Leaves in `out` the elements that the sums stand for, and answers whether all of them are 0.
+// Writes to `out` the elements that the sums stand for, and returns whether all of them are 0.
 fn store(sums: &[u8], out: &mut [u8]) -> bool
     requires { ⌜ length (now sums) ≡ length (now out) ⌝ }
     ensures { λ r. ⌜ (now (out .exit) ≡ bitsOf (now (sums .entry))) × (r ≡ allZero (now (out .exit))) ⌝ }
 {
-    // the first i elements are in out, and `any` is 0 where they are all 0
+    // Invariant: the first i elements are in out, and `any` is 0 exactly if they are.
     let mut any: u8 = 0;
     for i in 0..out.len() {
         let value = sums[i] % 2;
@@ -87,7 +86,7 @@ fn store(sums: &[u8], out: &mut [u8]) -> bool
 fn are_zero(sums: &[u8]) -> bool
     ensures { λ r. ⌜ r ≡ allZero (bitsOf (now (sums .entry))) ⌝ }
 {
-    // `any` is 0 where the first i elements are all 0
+    // Invariant: `any` is 0 exactly if the first i elements are.
     let mut any: u8 = 0;
     for i in 0..sums.len() {
         any = any | (sums[i] % 2);
@@ -125,8 +124,8 @@ fn act_bits(
     store(&sums[0..m], &mut w[to..to + m])
 }
 
-// Acts with f and the stride q on the n numbers of w from `from` on as a period, and leaves the m values from
-// the place i on in w from `to` on, and all other bytes as they were. Answers whether these values are all 0.
+// Acts with f and the stride q on the n numbers of w from `from` on as a period: writes the m values from
+// the place i on to w from `to` on, and returns whether they are all 0. All other bytes stay.
 pub(crate) fn act_part(
     field: GaloisField,
     w: &mut [u8],

@@ -4,6 +4,9 @@
 --   field-size        == its size
 --   binary-field      == it is GF(2) where its size is 2
 --   size-power        == it is a power of the characteristic
+--   field-characteristic == its characteristic
+--   characteristic-least, characteristic-most == which is from 2 to 251
+--   field-raised      == raising to the characteristic leaves elements as they are
 --   size-prime        == the size is prime
 --   size-least, size-most == and from 2 to 251
 --   remainder-small   == a remainder by the size is below 251
@@ -16,15 +19,22 @@
 use Prim.Native.Nat.{ℕ, _+_, _*_, _^_, _%_, _≤_, _<_}
 use mathlib.Core.Path.{_≡_, sym, ap, _∙_}
 use mathlib.Core.Bool.{Bool, true}
-use native.Mathlib.Nat.{mod-lt, mod-mod, zero-mod}
+use mathlib.Core.List.{List, map}
+use native.Mathlib.Nat.{mod-lt, mod-mod, zero-mod, pow-zero, pow-suc, one-mul}
 use native.Mathlib.Omega.{arith}
-use lib.Dec.{eqb}
+use lib.Dec.{T, eqb}
 use borrow.Author.Tests.{eqb-true}
-use Rattle.meaning.specs.Field.{prime}
-use Rattle.bridge.proofs.Interpretation.{IsField, Prime, prime-size, inRange-isField, inRange-prime}
-use Rattle.bridge.proofs.Interpretation.{prime-size-power, prime-add, prime-add-product, prime-add-remainder}
+use Rattle.meaning.specs.Field.{prime, areElements}
+use Rattle.bridge.proofs.Basics.Interpretation.{IsField, Prime, prime-size, inRange-isField, inRange-prime}
+use Rattle.bridge.proofs.Basics.Interpretation.{prime-characteristic-number}
+use Rattle.bridge.proofs.Lists.Spread.{raise, raises-same}
+use Rattle.bridge.proofs.Basics.Interpretation.{prime-size-power, prime-add}
+use Rattle.bridge.proofs.Basics.Interpretation.{prime-add-product, prime-add-remainder}
 use Rattle.arith.specs.Represented.{fieldOf, elementOf, WellFormed}
 use Rattle.arith.specs.declared.field.GaloisField.{GaloisField}
+
+power-one : (m : ℕ) → m ^ 1 ≡ m
+power-one m = pow-suc m 0 ∙ ap (λ (k : ℕ). k * m) (pow-zero m) ∙ one-mul m
 
 pub field-size : (f : GaloisField) → fieldOf f .size ≡ f .size
 unfolding fieldOf
@@ -76,6 +86,28 @@ module _ {f : GaloisField} (w : WellFormed f) where
 
   pub size-most : f .size ≤ 251
   size-most = inRange-prime (f .size) (w .sizeIsPrime) .0
+
+  pub field-characteristic : fieldOf f .characteristic ≡ f .characteristic
+  field-characteristic = sym (w .characteristicIsRight)
+
+  -- for a prime the characteristic is the size
+  size-characteristic : fieldOf f .size ≡ fieldOf f .characteristic
+  unfolding fieldOf
+  size-characteristic = prime-size (f .size) ∙ sym (prime-characteristic-number (f .size))
+
+  pub characteristic-least : 2 ≤ f .characteristic
+  characteristic-least = omega (arith, field-characteristic, size-characteristic, field-size f, size-least)
+
+  pub characteristic-most : f .characteristic ≤ 251
+  characteristic-most = omega (arith, field-characteristic, size-characteristic, field-size f, size-most)
+
+  pub field-raised :
+      (a : List ℕ)
+      → T (areElements (fieldOf f) a)
+      → map (raise (fieldOf f) (fieldOf f .characteristic)) a ≡ a
+  field-raised a h =
+      ap (λ n. map (raise (fieldOf f) n) a) (sym (power-one (fieldOf f .characteristic)))
+      ∙ raises-same field-isField 1 size-characteristic a h
 
   pub remainder-small : (x : ℕ) → x % f .size < 251
   remainder-small x = omega (arith, size-most, mod-lt x {m = f .size} (omega (arith, size-least)))

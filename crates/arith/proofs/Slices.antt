@@ -18,8 +18,8 @@ use lib.Seq.{paste, length-take-le, length-paste, length-paste-head, getD-append
 use lib.Seq.{ext-getD}
 use Rattle.meaning.specs.Field.{Field}
 use Rattle.meaning.specs.Polynomial.{plus, scale}
-use Rattle.bridge.proofs.Polynomials.{length-scale}
-use Rattle.bridge.proofs.Padding.{getD-plus, getD-scale, length-plus-left}
+use Rattle.bridge.proofs.Lists.Polynomials.{length-scale}
+use Rattle.bridge.proofs.Basics.Padding.{getD-plus, getD-scale, length-plus-left}
 use Rattle.arith.specs.Slices.{part, combined}
 
 -- Parts

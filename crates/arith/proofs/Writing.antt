@@ -24,8 +24,8 @@ use lib.ListN.{length, getD, set, take, drop, length-set, take-append-drop, drop
 use lib.Seq.{paste, paste-zero, paste-suc}
 use Rattle.meaning.specs.Field.{Field}
 use Rattle.meaning.specs.Polynomial.{scale}
-use Rattle.bridge.proofs.Polynomials.{length-scale}
-use Rattle.bridge.proofs.Padding.{getD-scale}
+use Rattle.bridge.proofs.Lists.Polynomials.{length-scale}
+use Rattle.bridge.proofs.Basics.Padding.{getD-scale}
 use Rattle.arith.specs.Slices.{part, combined, combinedWithin, Places}
 use Rattle.arith.proofs.Slices.{length-part, getD-part, getD-paste-before, getD-paste-after}
 use Rattle.arith.proofs.Slices.{length-combined, getD-combined, drop-combined}

@@ -4,5 +4,3 @@ pub mod Slices
 pub mod primes
 pub mod sums
 pub mod products
-pub mod negation
-pub mod recurrence

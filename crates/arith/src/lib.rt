@@ -3,10 +3,8 @@
 // takes any bytes, and a byte that is no element counts as the one that it stands for. All but the
 // constructor and the prime test assume a well-formed struct.
 mod field;
-mod negation;
 pub mod primes;
 mod products;
-mod recurrence;
 pub mod sums;
 mod vectors;
 

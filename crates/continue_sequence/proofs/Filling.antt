@@ -11,7 +11,7 @@ use lib.Seq.{length-take-le}
 use borrow.Author.Tests.{ltb-false, eqb-true, not-false}
 use Rattle.meaning.specs.declared.Refusal.{Refusal}
 use Rattle.meaning.specs.declared.Filling.{Filling}
-use Rattle.meaning.specs.Field.{prime, primeInRange}
+use Rattle.meaning.specs.Field.{Field, prime, primeInRange}
 use Rattle.meaning.specs.Polynomial.{Polynomial, degree, monicMultiple}
 use Rattle.meaning.specs.Sequence.{continuation, cut}
 use Rattle.meaning.specs.Result.{Result, firstOf, mapResult, valueOf}
@@ -21,9 +21,9 @@ use Rattle.meaning.specs.Continuation.{continueTable, filled, continueSequence}
 use Rattle.meaning.specs.Answers.{toldFilling}
 use Rattle.meaning.specs.Calls.{bufferAfter, ContinueCall}
 use Rattle.meaning.proofs.Passes.{Passes}
-use Rattle.bridge.proofs.Searches.{or-false}
-use Rattle.bridge.proofs.Accepted.{prime-accepted, terms-accepted}
-use Rattle.bridge.proofs.Multiples.{coefficients-lead}
+use Rattle.bridge.proofs.Basics.Searches.{or-false}
+use Rattle.bridge.proofs.Ways.Accepted.{prime-accepted, terms-accepted}
+use Rattle.bridge.proofs.Lists.Multiples.{coefficients-lead}
 use Rattle.refusals.specs.declared.Verdict.{Verdict}
 use Rattle.refusals.specs.Verdicts.{numberIn}
 use Rattle.refusals.proofs.Settled.{verdict-passes, settle-refused, settle-accepted}
@@ -45,12 +45,13 @@ module _ (p : ℕ) (g : Polynomial) (start : List ℕ) (place size : ℕ) {v : V
       ltb-false size place
       (or-false (ltb size place) (countOutOfRange (size - place)) (passes .countInRange) .0)
 
-  pub continue-accepted : Continuable (prime p) g start
+  pub continue-accepted : {F : Field} → F ≡ prime p → Continuable F g start
   unfolding continueTable continuationDegreeOutOfRange startUnlikeDegree
-  continue-accepted =
+  continue-accepted isPrime =
       let few : degree g ≤ 4096 = ltb-false 4096 (degree g) (passes .degreesInRange) in
       let t = not-false (eqb (length start) (degree g)) (passes .enoughTerms) in
       let same : length start ≡ degree g = eqb-true (length start) (degree g) t in
+      rw isPrime
       record {
         leads = coefficients-lead (prime p) g (passes .coefficientsInRange);
         elements = terms-accepted p start (passes .termsInField);
@@ -84,14 +85,15 @@ module _ (p : ℕ) (g : Polynomial) (start buffer : List ℕ) (place : ℕ) wher
     continue-refused q = told (settle-refused (continueTable p g start place (length buffer)) _ e q) refl
 
     -- the part that the filler was lent runs to the end of the buffer, and comes back as ys
-    pub continue-filled : {ys : List ℕ}
+    pub continue-filled : {F : Field} {ys : List ℕ}
         → v ≡ Verdict.Accepted
+        → F ≡ prime p
         → ys
-        ≡ cut (continuation (prime p) (monicMultiple (prime p) g) start) 0
+        ≡ cut (continuation F (monicMultiple F g) start) 0
         (length (take (length buffer - place) (drop place buffer)))
         → ContinueCall p g start buffer place Filling.Filled
         (take place buffer ++ (ys ++ drop (length buffer - place) (drop place buffer)))
     unfolding toldFilling continueSequence filled mapResult bufferAfter valueOf
-    continue-filled q i =
-        rw (to-end buffer place, append-nil, i, to-end-length buffer place)
+    continue-filled q isPrime i =
+        rw (to-end buffer place, append-nil, i, to-end-length buffer place, isPrime)
         (told (settle-accepted (continueTable p g start place (length buffer)) _ e q) refl)

@@ -1,2 +1,1 @@
 pub mod continuation
-pub mod monic

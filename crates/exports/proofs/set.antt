@@ -1,2 +1,3 @@
-pub mod Nine
+pub mod NineFactors
+pub mod Numbered
 pub mod SetStatus

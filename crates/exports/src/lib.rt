@@ -7,6 +7,7 @@
 pub mod catalogue;
 pub mod continuation;
 pub mod free;
+mod numbers;
 pub mod period;
 pub mod profile;
 pub mod questions;

@@ -1,11 +1,11 @@
 // The set way for programs in other languages, on any portion with one factor or more.
-use flat_bytes::factors::rate_concatenated;
-use flat_bytes::numbers::first_nine;
-use flat_bytes::numbers::number_count;
-use flat_bytes::numbers::write_eight;
+use crate::numbers::first_nine;
+use crate::numbers::number_count;
+use crate::numbers::write_eight;
 use lent::smaller;
 use meaning::SetOutcome;
 use meaning::SetRating;
+use poly::parts::nine_parts;
 use refusals::numbering::refusal_number;
 ghost use lib.ListN.{length};
 ghost use Rattle.meaning.specs.Portion.{rateSet};
@@ -28,12 +28,13 @@ fn rate_numbered_set(
         (numbersOf (now (uppers .entry))) (now (terms .entry)) (now (answer .entry)) (now (work .entry)) r
         (now (answer .exit)) (now (work .exit)) ⌝ }
 {
-    let mut parts = [0u64; 9];
+    let mut sizes = [0u64; 9];
     let mut powers = [0u64; 9];
-    first_nine(lengths, &mut parts);
+    first_nine(lengths, &mut sizes);
     first_nine(uppers, &mut powers);
+    let parts = nine_parts(factors, &sizes);
     let count = smaller(number_count(lengths), 9);
-    rate_concatenated(p, factors, &parts[0..count], &powers, terms, answer, work)
+    rater::rate_set(p, &parts[0..count], &powers, terms, answer, work)
 }
 
 // Rates a portion with one to eight factors: leaves the powers in the order of the factors, then zeros, the

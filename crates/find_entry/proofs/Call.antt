@@ -3,7 +3,7 @@
 --   entryChecks      == the refusals of the search without 19. Those of the free way for p = 2 decide them
 --                       (`entry-verdict`), since 2 is a prime
 --   entry-refused    == the call that the verdict refuses
---   room, searched-period == what the search asks
+--   work-enough, searched-period == what the search asks
 --   entry-call       == the call with what the search tells
 -- Assumes nothing.
 use Prim.Native.Nat.{ℕ, _≤_}
@@ -16,7 +16,7 @@ use lib.Dec.{T}
 use Rattle.meaning.specs.declared.EntryRating.{EntryRating}
 use Rattle.meaning.specs.declared.Refusal.{Refusal}
 use Rattle.meaning.specs.Search.{holdsForSome, isNone}
-use Rattle.meaning.specs.Field.{prime, primeInRange, areElements}
+use Rattle.meaning.specs.Field.{prime, areElements}
 use Rattle.meaning.specs.Result.{refused, Check, firstOf, valueOf, clearing, clears, workAfter}
 use Rattle.meaning.specs.Result.{cleared}
 use Rattle.meaning.specs.Conditions.{notPrime, countOutOfRange, termOutOfField, lentTooShort}
@@ -27,17 +27,13 @@ use Rattle.meaning.specs.Calls.{EntryCall}
 use Rattle.meaning.proofs.Computed.{computed}
 use Rattle.meaning.proofs.Tables.{firstOf-skip}
 use Rattle.meaning.proofs.Passes.{Passes}
-use Rattle.bridge.proofs.Accepted.{count-accepted, terms-accepted, lent-enough}
+use Rattle.bridge.proofs.Ways.Accepted.{count-accepted, terms-accepted, lent-enough}
 use Rattle.lent.proofs.halves.Bytes.{cleared-kept}
 use Rattle.refusals.specs.declared.Verdict.{Verdict}
 use Rattle.refusals.specs.Verdicts.{numberIn}
 use Rattle.refusals.proofs.Settled.{verdict-passes, settle-early, settle-last, settle-over}
 use Rattle.refusals.proofs.Lent.{never-clears}
 use Rattle.find_entry.specs.Search.{BinaryPeriod, foundIn, EntryFound}
-
-pub two-prime : T (primeInRange 2)
-unfolding computed
-two-prime = tt
 
 unfoldable entryChecks : List ℕ → ℕ → List Check
 entryChecks ts work =
@@ -57,8 +53,8 @@ entry-verdict :
 unfolding freeTable entryChecks
 entry-verdict ts work k = k ∙ firstOf-skip _ _ six-passes
 
-abbrev nineteen : List ℕ → Unit {0} → Bool
-nineteen ts _ = isNone (firstEntry ts)
+abbrev no-entry : List ℕ → Unit {0} → Bool
+no-entry ts _ = isNone (firstEntry ts)
 
 -- an answer and 19 leave the work bytes cleared
 work-found : (o : Option EntryFigures) (work : List ℕ) → workAfter (foundIn o) work ≡ cleared work
@@ -75,7 +71,7 @@ module _ (ts work : List ℕ) {v : Verdict} (k : numberIn v ≡ firstOf (freeTab
   unfolding findEntry entryTable entryChecks toldEntry clears clearing holdsForSome
   entry-refused {x} q =
       let e : findEntry ts (length work) ≡ refused (numberOf x) =
-      settle-early (entryChecks ts (length work)) (19, nineteen ts) (λ _. firstEntry ts)
+      settle-early (entryChecks ts (length work)) (19, no-entry ts) (λ _. firstEntry ts)
       (entry-verdict ts (length work) k) q in
       let h : clears (numberOf x) ≡ false =
       never-clears (entryChecks ts (length work)) refl (entry-verdict ts (length work) k) q in
@@ -88,36 +84,37 @@ module _ (ts work : List ℕ) {v : Verdict} (k : numberIn v ≡ firstOf (freeTab
     passes : Passes (entryChecks ts (length work))
     passes = verdict-passes (entryChecks ts (length work)) (entry-verdict ts (length work) k) q
 
-    count : (1 ≤ length ts) × (length ts ≤ 4096)
+    count-in-range : (1 ≤ length ts) × (length ts ≤ 4096)
     unfolding entryChecks
-    count = count-accepted (length ts) (passes .countInRange)
+    count-in-range = count-accepted (length ts) (passes .countInRange)
 
-    pub room : 8192 ≤ length work
+    pub work-enough : 8192 ≤ length work
     unfolding entryChecks
-    room = lent-enough 4097 (length work) (passes .lentEnough) .1
+    work-enough = lent-enough 4097 (length work) (passes .lentEnough) .1
 
-    binary : T (areElements (prime 2) ts)
+    terms-binary : T (areElements (prime 2) ts)
     unfolding entryChecks
-    binary = terms-accepted 2 ts (passes .termsInField)
+    terms-binary = terms-accepted 2 ts (passes .termsInField)
 
-    finds : findEntry ts (length work) ≡ foundIn (firstEntry ts)
+    findEntry-first : findEntry ts (length work) ≡ foundIn (firstEntry ts)
     unfolding findEntry entryTable entryChecks foundIn isNone valueOf
-    finds = go (firstEntry ts) refl
+    findEntry-first = go (firstEntry ts) refl
       where
         go : (o : Option EntryFigures) → firstEntry ts ≡ o
             → findEntry ts (length work) ≡ foundIn (firstEntry ts)
         go none e =
-            settle-last (entryChecks ts (length work)) (19, nineteen ts) (λ _. firstEntry ts)
+            settle-last (entryChecks ts (length work)) (19, no-entry ts) (λ _. firstEntry ts)
             (entry-verdict ts (length work) k) q (ap isNone e)
             ∙ ap foundIn (sym e)
         go (some a) e =
-            settle-over (entryChecks ts (length work)) (19, nineteen ts) (λ _. firstEntry ts)
+            settle-over (entryChecks ts (length work)) (19, no-entry ts) (λ _. firstEntry ts)
             (entry-verdict ts (length work) k) q (ap isNone e)
             ∙ ap valueOf e
             ∙ ap foundIn (sym e)
 
     pub searched-period : BinaryPeriod ts
-    searched-period = record { atLeastOne = count .0; notMany = count .1; binary = binary }
+    searched-period =
+        record { atLeastOne = count-in-range .0; notMany = count-in-range .1; binary = terms-binary }
 
     pub entry-call :
         {w₁ w₂ : List ℕ} {r : EntryRating}
@@ -126,10 +123,10 @@ module _ (ts work : List ℕ) {v : Verdict} (k : numberIn v ≡ firstOf (freeTab
         → EntryCall ts work r w₂
     entry-call found e =
         record {
-          finding = found .told ∙ sym finds;
+          finding = found .told ∙ sym findEntry-first;
           workBytes =
               e
               ∙ cleared-kept (found .kept)
               ∙ sym (work-found (firstEntry ts) work)
-              ∙ ap (λ x. workAfter x work) (sym finds);
+              ∙ ap (λ x. workAfter x work) (sym findEntry-first);
         }

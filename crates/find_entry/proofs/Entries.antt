@@ -6,7 +6,7 @@
 --   look-places      == the places of the first look are places of the period
 --   Searching ts w₀ w i == the entries before entry i have no power for the period ts, and the work bytes w₀
 --                       have become w: what is beyond the halves is as it was
---   searching-none, searching-room, searching-more == before the first entry; as many work bytes; one more
+--   searching-none, searching-enough, searching-more == before the first entry; as many work bytes; one more
 --   searching-found, searching-end == an entry with a power, and no entry left
 -- Assumes nothing.
 use Prim.Native.Nat.{ℕ, _+_, _-_, _≤_, _<_, min}
@@ -18,16 +18,18 @@ use native.Mathlib.Omega.{arith}
 use lib.ListN.{length, take, getD}
 use Rattle.meaning.specs.declared.EntryRating.{EntryRating}
 use Rattle.meaning.specs.declared.Refusal.{Refusal}
-use Rattle.meaning.specs.Field.{Field, prime}
+use Rattle.meaning.specs.Field.{Field}
 use Rattle.meaning.specs.Polynomial.{Polynomial}
 use Rattle.meaning.specs.Catalogue.{entryPolynomial, catalogue, entryPower}
 use Rattle.meaning.specs.Answers.{numberOf, toldEntry}
 use Rattle.meaning.specs.Calls.{CatalogueCall}
-use Rattle.bridge.proofs.Catalogue.{Listed, entry-length, entry-monic, entry-positive, entry-at, Passed}
-use Rattle.bridge.proofs.Catalogue.{passed-first, passed-next, passed-found, passed-all}
-use Rattle.bridge.proofs.CatalogueTable.{catalogue-count}
+use Rattle.bridge.proofs.Binary.Catalogue.{Listed, entry-length, entry-monic, entry-positive, entry-at}
+use Rattle.bridge.proofs.Binary.Catalogue.{Passed, passed-first, passed-next, passed-found, passed-all}
+use Rattle.bridge.proofs.Binary.CatalogueTable.{catalogue-count}
 use Rattle.arith.specs.declared.field.GaloisField.{GaloisField}
+use Rattle.bridge.proofs.Basics.Interpretation.{prime-characteristic-number}
 use Rattle.arith.specs.Represented.{fieldOf, FieldOfPrime}
+use Rattle.arith.proofs.Represented.{field-characteristic}
 use Rattle.lent.specs.blocks.Blocks.{Places}
 use Rattle.lent.specs.halves.Kept.{Kept}
 use Rattle.lent.proofs.halves.Bytes.{kept-same, kept-trans}
@@ -47,12 +49,14 @@ entry-coefficients {w = w} {c} x y =
     ap (λ k. take k w) (sub-zero c) ∙ y .front ∙ ap entryPolynomial (x .answer)
 
 module _ {field : GaloisField} (h : FieldOfPrime 2 field) where
-  size-two : field .size ≡ 2
-  unfolding fieldOf prime
-  size-two = ap (λ (F : Field). F .size) (h .isField)
+  characteristic-two : field .characteristic ≡ 2
+  characteristic-two =
+      sym (field-characteristic (h .wellFormed))
+      ∙ ap (λ (F : Field). F .characteristic) (h .isField)
+      ∙ prime-characteristic-number 2
 
-  pub binary-level : {n : ℕ} {level : Level} → Dividing 2 n level → Dividing (field .size) n level
-  binary-level {n} {level} = subst (λ p. Dividing p n level) (sym size-two)
+  pub binary-level : {n : ℕ} {level : Level} → Dividing 2 n level → Dividing (field .characteristic) n level
+  binary-level {n} {level} = subst (λ p. Dividing p n level) (sym characteristic-two)
 
   module _ {ts : List ℕ} (x : BinaryPeriod ts) {i : ℕ} (l : i < 226) {f : Polynomial}
       (e : f ≡ entryPolynomial (getD catalogue i 0)) where
@@ -97,8 +101,8 @@ pub searching-none : (ts w : List ℕ) → Searching ts w w 0
 searching-none ts w = record { few = omega arith; kept = kept-same w; passed = passed-first ts }
 
 module _ {ts w₀ w : List ℕ} {i : ℕ} (y : Searching ts w₀ w i) where
-  pub searching-room : 8192 ≤ length w₀ → 8192 ≤ length w
-  searching-room l = omega (arith, y .kept .size)
+  pub searching-enough : 8192 ≤ length w₀ → 8192 ≤ length w
+  searching-enough l = omega (arith, y .kept .size)
 
   module _ (l : i < 226) {w′ : List ℕ} {r : Found} (s : EntrySearched i ts w w′ r) where
     place : i < length catalogue

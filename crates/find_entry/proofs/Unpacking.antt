@@ -12,7 +12,7 @@ use native.Mathlib.Omega.{arith}
 use lib.ListN.{length, take, set, length-set}
 use lib.Seq.{take-suc-set}
 use Rattle.meaning.specs.Catalogue.{bitsUpTo, entryPolynomial}
-use Rattle.bridge.proofs.Catalogue.{bits-zero, bits-suc}
+use Rattle.bridge.proofs.Binary.Catalogue.{bits-zero, bits-suc}
 use Rattle.find_entry.specs.Search.{Unpacked}
 
 pub record Unpacking (n : ℕ) (w : List ℕ) (rest i : ℕ) : Type 0 where

@@ -17,7 +17,7 @@ ghost use mathlib.Core.Path.{_≡_};
 ghost use Prim.Native.Nat.{_+_, _≤_, _<_};
 ghost use lib.ListN.{length};
 ghost use Rattle.meaning.specs.Calls.{EntryCall};
-ghost use Rattle.arith.specs.Represented.{FieldOfPrime, fieldOf, WellFormed};
+ghost use Rattle.arith.specs.Represented.{FieldOfPrime, fieldOf};
 ghost use Rattle.lent.specs.blocks.Blocks.{Places};
 ghost use Rattle.powers.specs.levels.Levels.{Dividing};
 ghost use Rattle.period_way.specs.Period.{PeriodInput, PeriodSearched};
@@ -60,8 +60,8 @@ fn last_places(ts: &[u8], m: usize) -> usize
 }
 
 // The least power of f that annihilates the endless repetition of the terms, by a first look at the m places
-// from `at` on: where f^(p^w) leaves a term other than 0 there, no power annihilates it. Uses both halves of
-// the work bytes, and leaves all beyond them as it was.
+// from `at` on: where f^(2^w), which over GF(2) is f spread 2^w places apart, leaves a term other than 0
+// there, no power annihilates it. Uses both halves of the work bytes, and leaves all beyond them as it was.
 fn search_after_look(
     field: GaloisField,
     work: &mut [u8],
@@ -71,10 +71,10 @@ fn search_after_look(
     at: usize,
     m: usize,
 ) -> Found
-    requires { ⌜ WellFormed field ⌝ }
+    requires { ⌜ FieldOfPrime 2 field ⌝ }
     requires { ⌜ 8192 ≤ length (now work) ⌝ }
     requires { ⌜ PeriodInput (fieldOf field) (now f) (now terms) ⌝ }
-    requires { ⌜ Dividing (field .size) (length (now terms)) level ⌝ }
+    requires { ⌜ Dividing (field .characteristic) (length (now terms)) level ⌝ }
     requires { ⌜ Places (length (now terms)) at m ⌝ }
     ensures { λ r. ⌜ PeriodSearched (fieldOf field) (now (f .entry)) (now (terms .entry)) (now (work .entry))
         (now (work .exit)) r ⌝ }

@@ -15,7 +15,7 @@ ghost use Rattle.arith.specs.Represented.{fieldOf, WellFormed};
 ghost use Rattle.poly.specs.residues.Residues.{Modulus, Residue};
 ghost use Rattle.irreducible.specs.frobenius.Table.{Rows, Table, Summed};
 
-// Leaves row·y modulo f in the place of row.
+// Overwrites row with row·y modulo f.
 fn next_row(field: GaloisField, f: &[u8], y: &[u8], row: &mut [u8])
     requires { ⌜ WellFormed field ⌝ }
     requires { ⌜ Modulus (fieldOf field) (now f) ⌝ }
@@ -30,7 +30,7 @@ fn next_row(field: GaloisField, f: &[u8], y: &[u8], row: &mut [u8])
     multiply_modulo(field, f, &old[0..d], y, row);
 }
 
-// Leaves the rows in the table, where y is x^q modulo f.
+// Writes the rows to the table, where y is x^q modulo f.
 fn fill_rows(field: GaloisField, f: &[u8], y: &[u8], table: &mut [u8])
     requires { ⌜ WellFormed field ⌝ }
     requires { ⌜ Modulus (fieldOf field) (now f) ⌝ }
@@ -42,7 +42,7 @@ fn fill_rows(field: GaloisField, f: &[u8], y: &[u8], table: &mut [u8])
     let mut row = [0u8; 32];
     row[0] = 1;
     let mut j = 0;
-    // row: x^(j·q) modulo f; the table has those before it
+    // Invariant: row = x^(j·q) modulo f, and the table has those before it.
     while j < d {
         bytes::copy(&row[0..d], &mut table[32 * j..32 * j + d]);
         next_row(field, f, y, &mut row[0..d]);
@@ -50,7 +50,7 @@ fn fill_rows(field: GaloisField, f: &[u8], y: &[u8], table: &mut [u8])
     }
 }
 
-// Leaves the rows in the table.
+// Writes the rows to the table.
 pub fn fill(field: GaloisField, f: &[u8], table: &mut [u8])
     requires { ⌜ WellFormed field ⌝ }
     requires { ⌜ Modulus (fieldOf field) (now f) ⌝ }
@@ -64,7 +64,7 @@ pub fn fill(field: GaloisField, f: &[u8], table: &mut [u8])
     fill_rows(field, f, &y[0..n], table);
 }
 
-// Leaves in sum, where zeros stood, the rows times the coefficients of h.
+// Writes to sum, where zeros stood, the sum of the rows times the coefficients of h.
 fn add_rows(field: GaloisField, table: &[u8], h: &[u8], sum: &mut [u8])
     requires { ⌜ WellFormed field ⌝ }
     requires { ⌜ (length (now table) ≡ 1024) × (length (now h) ≤ 32) × (length (now sum) ≡ length (now h)) ⌝ }
@@ -72,13 +72,13 @@ fn add_rows(field: GaloisField, table: &[u8], h: &[u8], sum: &mut [u8])
     ensures { λ _. ⌜ Summed field (now (table .entry)) (now (h .entry)) (now (sum .exit)) ⌝ }
 {
     let d = h.len();
-    // sum: that of the rows before row j
+    // Invariant: sum is that of the rows before row j.
     for j in 0..d {
         field.add_multiple(sum, h[j], &table[32 * j..32 * j + d]);
     }
 }
 
-// Leaves h^q modulo f in h, where the table has the rows of f.
+// Overwrites h with h^q modulo f, where the table has the rows of f.
 pub fn raise(field: GaloisField, table: &[u8], h: &mut [u8])
     requires { ⌜ WellFormed field ⌝ }
     requires { ⌜ (length (now table) ≡ 1024) × (length (now h) ≤ 32) ⌝ }

@@ -1,23 +1,22 @@
--- Where a polynomial is a modulus, and numbers are small.
+-- Where a polynomial is suited, and numbers are small.
 -- Assumes nothing.
-use Prim.Native.Nat.{ℕ, _-_, _≤_, _<_}
-use mathlib.Core.Path.{_≡_, refl, sym, ap, subst}
+use Prim.Native.Nat.{ℕ, _≤_, _<_}
+use mathlib.Core.Path.{_≡_, refl, sym}
 use mathlib.Core.Bool.{Bool, true, false, not, _&&_}
 use mathlib.Core.List.{List}
-use native.Mathlib.Omega.{arith}
-use lib.ListN.{length, getD}
-use lib.Dec.{T, leb, leb→le, eqb}
+use lib.Dec.{T, leb}
 use borrow.Author.Tests.{lt-leb, le-leb}
-use Rattle.meaning.specs.Field.{prime, primeInRange, areElements}
-use Rattle.meaning.specs.Polynomial.{degree, leading, isMonicOver, isMonic}
-use Rattle.meaning.specs.Conditions.{termOutOfField}
-use Rattle.bridge.proofs.Searches.{T-and, and-T, T-true, false-T, not-false}
-use Rattle.bridge.proofs.Polynomials.{leading-getD}
+use Rattle.meaning.specs.Field.{prime, primeInRange}
+use Rattle.meaning.specs.Conditions.{notPrime, factorDegreeOutOfRange, notMonic, isReducible}
+use Rattle.bridge.proofs.Ways.Accepted.{prime-accepted}
+use Rattle.bridge.proofs.Lists.Irreducibles.{accepted-irreducible}
+use Rattle.bridge.proofs.Basics.Searches.{T-and, T-true, false-T, not-false}
 use Rattle.arith.specs.Represented.{fieldOf, FieldOfPrime}
 use Rattle.arith.specs.declared.field.GaloisField.{GaloisField}
-use Rattle.poly.specs.residues.Residues.{Modulus}
+use Rattle.repeat.specs.orders.Orders.{Suited}
+use Rattle.repeat.proofs.orders.Accepted.{accepted-suited}
 use Rattle.leaves.specs.Suited.{whereSuited}
-use Rattle.leaves.specs.Orderly.{isModulus, small}
+use Rattle.leaves.specs.Orderly.{isSuited, small}
 
 pub not-true : (b : Bool) → not b ≡ true → b ≡ false
 not-true true e = absurd (false-T (sym e) tt)
@@ -44,73 +43,57 @@ limit-beyond b {n} l = rw (lt-leb n 65536 l)
 pub limit-within : (b : Bool) {n : ℕ} → n ≤ 65536 → b ≡ (leb n 65536 && b)
 limit-within b {n} l = rw (le-leb n 65536 l)
 
--- The test of a modulus, from its parts
+-- The test, from its parts
 module _ (p : ℕ) (f : List ℕ) where
-  pub modulus-short : length f < 2 → false ≡ isModulus p f
-  unfolding isModulus
-  modulus-short l = rw (lt-leb 2 (length f) l)
+  pub suited-six : notPrime p ≡ true → false ≡ isSuited p f
+  unfolding isSuited
+  suited-six e = rw (e, isSuited)
 
-  module _ (l : 2 ≤ length f) where
-    pub modulus-long : 33 < length f → false ≡ isModulus p f
-    unfolding isModulus
-    modulus-long k = rw (le-leb 2 (length f) l, lt-leb (length f) 33 k)
+  module _ (six : notPrime p ≡ false) where
+    pub suited-ten : factorDegreeOutOfRange (prime p) f ≡ true → false ≡ isSuited p f
+    unfolding isSuited
+    suited-ten e = rw (six, e, isSuited)
 
-    module _ (k : length f ≤ 33) where
-      pub modulus-unprime : primeInRange p ≡ false → false ≡ isModulus p f
-      unfolding isModulus
-      modulus-unprime e = rw (le-leb 2 (length f) l, le-leb (length f) 33 k, e)
+    module _ (ten : factorDegreeOutOfRange (prime p) f ≡ false) where
+      pub suited-eleven : notMonic (prime p) f ≡ true → false ≡ isSuited p f
+      unfolding isSuited
+      suited-eleven e = rw (six, ten, e, isSuited)
 
-      module _ (e : primeInRange p ≡ true) where
-        pub modulus-beyond : termOutOfField (prime p) f ≡ true → false ≡ isModulus p f
-        unfolding isModulus termOutOfField
-        modulus-beyond t =
-            rw (le-leb 2 (length f) l, le-leb (length f) 33 k, e, not-true (areElements (prime p) f) t)
+      pub suited-twelve : notMonic (prime p) f ≡ false → not (isReducible p f) ≡ isSuited p f
+      unfolding isSuited
+      suited-twelve e = rw (six, ten, e, isSuited)
 
-        pub modulus-last :
-            termOutOfField (prime p) f ≡ false → eqb (getD f (length f - 1) 0) 1 ≡ isModulus p f
-        unfolding isModulus termOutOfField
-        modulus-last t =
-            rw (
-              le-leb 2 (length f) l,
-              le-leb (length f) 33 k,
-              e,
-              T-true {b = areElements (prime p) f} (not-false (areElements (prime p) f) t),
-              leading-getD f,
-            ) (ap (λ n. eqb (getD f n 0) 1) last)
-          where
-            last : length f - 1 ≡ degree f
-            last = unfold degree in refl
-
-  module _ (h : T (isModulus p f)) where
+  module _ (h : T (isSuited p f)) where
     first :
-        T (leb 2 (length f))
-        × T (leb (length f) 33 && (primeInRange p && (areElements (prime p) f && eqb (leading f) 1)))
-    unfolding isModulus
-    first = T-and (leb 2 (length f)) _ h
+        T (not (notPrime p))
+        × T (not (factorDegreeOutOfRange (prime p) f)
+        && (not (notMonic (prime p) f) && not (isReducible p f)))
+    unfolding isSuited
+    first = T-and (not (notPrime p)) _ h
 
-    second : T (leb (length f) 33) × T (primeInRange p && (areElements (prime p) f && eqb (leading f) 1))
-    second = T-and (leb (length f) 33) _ (first .1)
+    second : T (not (factorDegreeOutOfRange (prime p) f))
+        × T (not (notMonic (prime p) f) && not (isReducible p f))
+    second = T-and (not (factorDegreeOutOfRange (prime p) f)) _ (first .1)
 
-    third : T (primeInRange p) × T (areElements (prime p) f && eqb (leading f) 1)
-    third = T-and (primeInRange p) _ (second .1)
+    third : T (not (notMonic (prime p) f)) × T (not (isReducible p f))
+    third = T-and (not (notMonic (prime p) f)) (not (isReducible p f)) (second .1)
 
-    fourth : T (areElements (prime p) f) × T (eqb (leading f) 1)
-    fourth = T-and (areElements (prime p) f) (eqb (leading f) 1) (third .1)
+    six : notPrime p ≡ false
+    six = not-true _ (T-true (first .0))
 
-    pub modulus-prime : T (primeInRange p)
-    modulus-prime = third .0
+    ten : factorDegreeOutOfRange (prime p) f ≡ false
+    ten = not-true _ (T-true (second .0))
 
-    modulus : Modulus (prime p) f
-    unfolding degree isMonicOver isMonic
-    modulus =
-        record {
-          monic = and-T (eqb (leading f) 1) (areElements (prime p) f) (fourth .1) (fourth .0);
-          positive = omega (arith, leb→le 2 (length f) (first .0));
-          small = omega (arith, leb→le (length f) 33 (second .0));
-        }
+    eleven : notMonic (prime p) f ≡ false
+    eleven = not-true _ (T-true (third .0))
 
-    pub modulus-over : {field : GaloisField} → FieldOfPrime p field → Modulus (fieldOf field) f
-    modulus-over o = subst (λ F. Modulus F f) (sym (o .isField)) modulus
+    pub suited-prime : T (primeInRange p)
+    suited-prime = prime-accepted p six
+
+    pub suited-over : {field : GaloisField} → FieldOfPrime p field → Suited (fieldOf field) f
+    suited-over o =
+        accepted-suited (record { fieldExists = six; degreeInRange = ten; monicOver = eleven }) (o .isField)
+        (accepted-irreducible p f six ten eleven (not-true _ (T-true (third .1))))
 
 -- Small numbers
 module _ (m n b : ℕ) where

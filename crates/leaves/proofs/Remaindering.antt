@@ -10,7 +10,7 @@ use borrow.Author.Tests.{ne-eqb}
 use Rattle.meaning.specs.Field.{Field, prime, primeInRange, areElements}
 use Rattle.meaning.specs.Polynomial.{Polynomial, leading}
 use Rattle.meaning.specs.Conditions.{termOutOfField, coefficientOutOfRange}
-use Rattle.bridge.proofs.Searches.{T-true, false-T}
+use Rattle.bridge.proofs.Basics.Searches.{T-true, false-T}
 use Rattle.leaves.specs.Remaindered.{Remaindered}
 
 module _ (F : Field) where

@@ -6,7 +6,7 @@ use mathlib.Core.Bool.{Bool, true, false, _&&_}
 use lib.Dec.{T, leb, leb→le}
 use Rattle.meaning.specs.Field.{Field, primeInRange}
 use borrow.Author.Tests.{lt-leb, le-leb}
-use Rattle.bridge.proofs.Searches.{T-and}
+use Rattle.bridge.proofs.Basics.Searches.{T-and}
 use Rattle.leaves.specs.Suited.{suited, whereSuited}
 
 module _ (p m n : ℕ) {b : Bool} (e : b ≡ suited p m n) where

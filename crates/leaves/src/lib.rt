@@ -3,12 +3,16 @@
 // they were.
 use arith::GaloisField;
 use arith::primes::prime_in_range;
-use conditions::lists::coefficient_out_of_range;
-use conditions::lists::term_out_of_field;
-use orders::multiples::common_within;
-use orders::order_within;
 use poly::division::divide;
-use repetition::shortest_period;
+use refusals::conditions::lists::coefficient_out_of_range;
+use refusals::conditions::lists::factor_degree_out_of_range;
+use refusals::conditions::lists::not_monic;
+use refusals::conditions::lists::reducible;
+use refusals::conditions::lists::term_out_of_field;
+use refusals::conditions::numbers::not_prime;
+use repeat::multiples::common_within;
+use repeat::orders::order_within;
+use repeat::shortest::shortest_period;
 ghost use mathlib.Core.Path.{_≡_};
 ghost use mathlib.Core.Bool.{_&&_};
 ghost use lib.ListN.{length};
@@ -18,10 +22,10 @@ ghost use Rattle.meaning.specs.Sequence.{actAt, known};
 ghost use Rattle.meaning.specs.Repeat.{shortestPeriod};
 ghost use Rattle.arith.specs.Slices.{combined};
 ghost use Rattle.leaves.specs.Suited.{suited, whereSuited, whereFound};
-ghost use Rattle.bridge.proofs.Within.{commonWithin};
-ghost use Rattle.bridge.proofs.Orders.{orderWithin};
+ghost use Rattle.bridge.proofs.Basics.Within.{commonWithin};
+ghost use Rattle.bridge.proofs.Sequences.Orders.{orderWithin};
 ghost use Rattle.leaves.specs.Remaindered.{Remaindered};
-ghost use Rattle.leaves.specs.Orderly.{isModulus, small};
+ghost use Rattle.leaves.specs.Orderly.{isSuited, small};
 
 // Whether `first` is at most `second` and at most 65,536, and p is a prime in range.
 fn suits(p: u64, first: usize, second: usize) -> bool
@@ -91,36 +95,33 @@ pub extern "C" fn leaf_shortest_period(terms: &[u8]) -> usize
     shortest_period(terms, terms.len())
 }
 
-// Whether f is monic over GF(p), p a prime in range, and its degree is from 1 to 32.
-fn is_modulus(p: u64, f: &[u8]) -> bool
-    ensures { λ r. ⌜ r ≡ isModulus p (now (f .entry)) ⌝ }
+// Whether p is a prime in range, and f is monic over GF(p), of a degree in range, and irreducible.
+fn is_suited(p: u64, f: &[u8]) -> bool
+    ensures { λ r. ⌜ r ≡ isSuited p (now (f .entry)) ⌝ }
 {
-    if f.len() < 2 {
+    if not_prime(p) {
         return false;
     }
-    if 33 < f.len() {
+    if factor_degree_out_of_range(p, f) {
         return false;
     }
-    if !prime_in_range(p) {
+    if not_monic(p, f) {
         return false;
     }
-    if term_out_of_field(p, f) {
-        return false;
-    }
-    f[f.len() - 1] == 1
+    !reducible(p, f)
 }
 
-// The order of x modulo f, which is monic of degree 1 to 32, or 0 where it exceeds the limit, which is at
-// most 65,536, or there is none.
+// The order of x modulo f, which is monic, of a degree in range, and irreducible, or 0 where it exceeds the
+// limit, which is at most 65,536, or f is x.
 #[no_mangle]
 pub extern "C" fn leaf_order(p: u64, f: &[u8], limit: usize) -> usize
-    ensures { λ r. ⌜ r ≡ whereSuited (leb limit 65536 && isModulus p (now (f .entry)))
+    ensures { λ r. ⌜ r ≡ whereSuited (leb limit 65536 && isSuited p (now (f .entry)))
         (orderWithin (prime p) (now (f .entry)) limit) 0 ⌝ }
 {
     if 65536 < limit {
         return 0;
     }
-    if is_modulus(p, f) {
+    if is_suited(p, f) {
         order_within(GaloisField::of_prime(p), f, limit)
     } else {
         0

@@ -19,8 +19,8 @@ use lib.Seq.{take-all, take-add}
 use lib.Bits.{bitOr, or-add-and, or-zero-l, and-le-l, and-le-r}
 use lib.Dec.{T, eqb, eqb→eq, eqb-refl}
 use Rattle.meaning.specs.Search.{holdsForAll}
-use Rattle.bridge.proofs.Searches.{T-same, T-true, true-T, T-false, false-T}
-use Rattle.bridge.proofs.KnownActions.{allZero, allZero-nil, allZero-getD, getD-allZero}
+use Rattle.bridge.proofs.Basics.Searches.{T-same, T-true, true-T, T-false, false-T}
+use Rattle.bridge.proofs.Sequences.KnownActions.{allZero, allZero-nil, allZero-getD, getD-allZero}
 use Rattle.arith.specs.Slices.{part}
 use Rattle.arith.proofs.Slices.{getD-part}
 

@@ -1,2 +1,3 @@
 pub mod blocks
 pub mod halves
+pub mod raising

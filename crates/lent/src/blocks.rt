@@ -1,11 +1,11 @@
 // A block of the action of a polynomial on a period, at most 256 places of it. The products are added up in
-// sums on the stack; then each value is stored once, or none where the question is whether all are 0. Assumes
-// a well-formed field.
+// sums on the stack; then each value is stored once, or none if the question is whether all are 0. Assumes a
+// well-formed field.
 ghost use mathlib.Core.Path.{_≡_};
 ghost use Prim.Native.Nat.{_+_, _%_, _≤_, _<_};
 ghost use lib.ListN.{length, replicate};
 ghost use Rattle.meaning.specs.Sequence.{cut, periodic};
-ghost use Rattle.bridge.proofs.KnownActions.{allZero};
+ghost use Rattle.bridge.proofs.Sequences.KnownActions.{allZero};
 ghost use Rattle.arith.specs.Represented.{fieldOf, WellFormed};
 ghost use Rattle.arith.specs.sums.Sums.{Room, elementsOf, ProductsAdded};
 ghost use Rattle.lent.specs.blocks.Blocks.{blockOnPeriod, Places, Block, BlockActed};
@@ -21,8 +21,7 @@ pub fn advance(at: usize, step: usize, n: usize) -> usize
     if step < left { at + step } else { step - left }
 }
 
-// Adds c·s to the sums, s being the terms of the period ts from the place `at` on. Answers the room that is
-// left.
+// Adds c·s to the sums, s being the terms of the period ts from the place `at` on. Returns the room left.
 fn add_cyclic(field: GaloisField, sums: &mut [u16], room: u16, c: u8, ts: &[u8], at: usize) -> u16
     requires { ⌜ WellFormed field ⌝ }
     requires { ⌜ Room room (now sums) ⌝ }
@@ -35,8 +34,7 @@ fn add_cyclic(field: GaloisField, sums: &mut [u16], room: u16, c: u8, ts: &[u8],
     arith::sums::add_products(field, sums, room, c, &ts[at..at + n], &ts[0..rest])
 }
 
-// Leaves in the sums, which are 0, the action of f with the stride `step` on the period ts, from the place i
-// on.
+// Adds to the sums, which are 0, the action of f with the stride `step` on the period ts from the place i on.
 fn sum_up(field: GaloisField, sums: &mut [u16], ts: &[u8], i: usize, f: &[u8], step: usize)
     requires { ⌜ WellFormed field ⌝ }
     requires { ⌜ now sums ≡ replicate (length (now sums)) 0 ⌝ }
@@ -44,7 +42,7 @@ fn sum_up(field: GaloisField, sums: &mut [u16], ts: &[u8], i: usize, f: &[u8], s
     ensures { λ _. ⌜ elementsOf field (now (sums .exit)) ≡ blockOnPeriod (fieldOf field) (now (f .entry)) step
         (now (ts .entry)) i (length (now (sums .entry))) ⌝ }
 {
-    // sums + the action of the coefficients from j on at the place `at` is the whole action
+    // Invariant: sums + the action of the coefficients from j on at the place `at` is the whole action.
     let mut room = arith::sums::ALL_ROOM;
     let mut at = i;
     for j in 0..f.len() {
@@ -53,32 +51,8 @@ fn sum_up(field: GaloisField, sums: &mut [u16], ts: &[u8], i: usize, f: &[u8], s
     }
 }
 
-// Acts as `act_block` does, for as many values as there are sums, which are 0.
-fn act_with(
-    field: GaloisField,
-    sums: &mut [u16],
-    w: &mut [u8],
-    from: usize,
-    n: usize,
-    i: usize,
-    f: &[u8],
-    q: usize,
-    to: usize,
-) -> bool
-    requires { ⌜ WellFormed field ⌝ }
-    requires { ⌜ now sums ≡ replicate (length (now sums)) 0 ⌝ }
-    requires { ⌜ Block (now w) from n i to (length (now sums)) ⌝ }
-    ensures { λ r. ⌜ BlockActed (fieldOf field) (now (w .entry)) from n i (now (f .entry)) q to
-        (length (now (sums .entry))) (now (w .exit)) r ⌝ }
-{
-    let m = sums.len();
-    sum_up(field, sums, &w[from..from + n], i, f, q % n);
-    arith::sums::store(field, sums, &mut w[to..to + m])
-}
-
-// Acts with f and the stride q on the n numbers of w from `from` on as a period, and leaves the m values from
-// the place i on in w from `to` on, and all other bytes as they were. Answers whether these values are all 0.
-// A short block has a short array of sums, which costs less to make.
+// Acts with f and the stride q on the n numbers of w from `from` on as a period: writes the m values from
+// the place i on to w from `to` on, and returns whether they are all 0. All other bytes stay.
 pub fn act_block(
     field: GaloisField,
     w: &mut [u8],
@@ -95,12 +69,9 @@ pub fn act_block(
     ensures { λ r. ⌜ BlockActed (fieldOf field) (now (w .entry)) from n i (now (f .entry)) q to m
         (now (w .exit)) r ⌝ }
 {
-    if m <= 32 {
-        let mut sums = [0u16; 32];
-        return act_with(field, &mut sums[0..m], w, from, n, i, f, q, to);
-    }
     let mut sums = [0u16; 256];
-    act_with(field, &mut sums[0..m], w, from, n, i, f, q, to)
+    sum_up(field, &mut sums[0..m], &w[from..from + n], i, f, q % n);
+    arith::sums::store(field, &sums[0..m], &mut w[to..to + m])
 }
 
 // Whether the m values from the place i on of the action of f with the stride q on the period ts are all 0.

@@ -3,15 +3,15 @@
 ghost use mathlib.Core.Path.{_≡_};
 ghost use Prim.Native.Nat.{_-_};
 ghost use lib.ListN.{length};
-ghost use Rattle.bridge.proofs.KnownActions.{allZero};
+ghost use Rattle.bridge.proofs.Sequences.KnownActions.{allZero};
 ghost use Rattle.lent.specs.halves.Halves.{Halves, Placed};
 use crate::smaller;
 
-// Whether all bytes of a block are 0. There is one test for all of them.
+// Whether all bytes of a block are 0, by one test for all of them.
 fn block_zero(block: &[u8]) -> bool
     ensures { λ r. ⌜ r ≡ allZero (now (block .entry)) ⌝ }
 {
-    // `any` is 0 where the first i bytes are all 0
+    // Invariant: `any` is 0 exactly if the first i bytes are.
     let mut any: u8 = 0;
     for i in 0..block.len() {
         any = any | block[i];
@@ -19,12 +19,12 @@ fn block_zero(block: &[u8]) -> bool
     any == 0
 }
 
-// Whether all bytes of a part are 0. It ends with the first block that has another byte.
+// Whether all bytes of a part are 0. Stops at the first block that has another byte.
 pub fn all_zero(part: &[u8]) -> bool
     ensures { λ r. ⌜ r ≡ allZero (now (part .entry)) ⌝ }
 {
     let mut i = 0;
-    // the first i bytes are 0
+    // Invariant: the first i bytes are 0.
     while i < part.len() {
         let m = smaller(256, part.len() - i);
         if !block_zero(&part[i..i + m]) {

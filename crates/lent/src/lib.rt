@@ -1,7 +1,8 @@
-// What is shared by all who work in lent bytes: zeros in a part of them, the smaller of two sizes, the two
-// halves of the work bytes, and a block of an action.
+// What all who work in lent bytes share: zeros in a part of them, the smaller of two sizes, the two halves of
+// the work bytes, a block of an action, and raised coefficients.
 pub mod blocks;
 pub mod halves;
+pub mod raising;
 
 ghost use mathlib.Core.Path.{_≡_};
 ghost use Prim.Native.Nat.{_≤_, min};
@@ -15,18 +16,17 @@ pub fn smaller(a: usize, b: usize) -> usize
     if a < b { a } else { b }
 }
 
-// Leaves zeros in a part.
+// Fills a part with zeros.
 pub fn zero(part: &mut [u8])
     ensures { λ _. ⌜ now (part .exit) ≡ replicate (length (now (part .entry))) 0 ⌝ }
 {
-    // the first i bytes are 0, and the others as they were
+    // Invariant: the first i bytes are 0, and the others as they were.
     for i in 0..part.len() {
         part[i] = 0;
     }
 }
 
-// Leaves zeros in the first 8,192 work bytes, as every way of rating does at its end, and the others as they
-// were.
+// Fills the first 8,192 work bytes with zeros, as every way of rating does at its end. The others stay.
 pub fn clear(work: &mut [u8])
     requires { ⌜ 8192 ≤ length (now work) ⌝ }
     ensures { λ _. ⌜ now (work .exit) ≡ cleared (now (work .entry)) ⌝ }

@@ -1,4 +1,4 @@
 pub mod Lent
 pub mod Passing
-pub mod FreeWay
+pub mod Inverting
 pub mod Reducing

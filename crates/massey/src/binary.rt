@@ -1,10 +1,13 @@
-// The free way over GF(2), on words of bits, by the steps that it takes over any field: a correction is 1,
-// and a sum an exclusive or. The 66 words of f have its coefficients at the top, the leading one in bit
-// 4,159, and below them its discrepancies at the terms to come, that at t(n) in bit 4,095 − n. Those of g, an
-// earlier f, have what f had when it became g, also the 1 of the term that it did not fit, moved down by
-// whole words. So a correction is one sum, of f and of g moved down until the bits of the two terms meet, and
-// the next term that f does not fit is the next bit that is 1. Assumes at most 4,096 terms; a is the first
-// word that has the bit of one of them.
+// The free way over GF(2), on words of bits. It takes the steps that it takes over any field; a correction is
+// 1, and a sum an exclusive or. The 66 words of f, of degree L, from the highest bit down:
+//
+//     bit 4159: leading 1 | coefficients | bit 4158−L: zeros | … | bit 4095−n: discrepancy at term n | …
+//
+// There is a discrepancy for each term not yet seen, and a zero for each term seen. The words of g, an
+// earlier f, are those of f when it became g, moved down by whole words; the highest of their discrepancies
+// is the 1 at the term that it did not fit. So a correction adds g to f, moved down until the bits of the two
+// terms meet, and the next term that f does not fit is the next bit that is 1. Assumes at most 4,096 terms; a
+// is the lowest word that holds the bit of one of them.
 use crate::words::add_moved;
 use crate::words::bit_at;
 use crate::words::exchange;
@@ -35,7 +38,7 @@ pub struct Progress {
     pub aligned: usize,
 }
 
-// What is known after the first n terms, where f fits all from those seen on.
+// What is known after n terms, if f fits all of them that are not yet seen.
 fn reached(known: Progress, n: usize) -> Progress
     ensures { λ r. ⌜ r ≡ reachedWith known n ⌝ }
 {
@@ -47,7 +50,7 @@ fn reached(known: Progress, n: usize) -> Progress
     }
 }
 
-// What is known after a term for which the degree changes, and f becomes g.
+// What is known after a term for which the degree changes and f becomes g.
 fn changed(known: Progress) -> Progress
     requires { ⌜ (known .degree ≤ known .seen) × (known .seen < 4096) ⌝ }
     ensures { λ r. ⌜ r ≡ changedWith known ⌝ }
@@ -60,12 +63,13 @@ fn changed(known: Progress) -> Progress
     }
 }
 
-// Moves g down by whole words, until fewer than 64 bits are left for a correction at t(n), for n terms seen.
+// Moves g down by whole words, until it is fewer than 64 bits above its place for a correction at t(n), for n
+// terms seen.
 fn align(mut known: Progress, g: &mut [u64], a: usize) -> Progress
     requires { ⌜ Room (now g) × (a ≤ 65) × (known .aligned ≤ known .seen + 1) × (known .seen ≤ 8192) ⌝ }
     ensures { λ r. ⌜ Aligned known (now (g .entry)) a r (now (g .exit)) ⌝ }
 {
-    // g is moved by the words that `aligned` tells
+    // g is moved down by `aligned` − a₀ bits, for the number a₀ that `aligned` was at first
     while known.aligned + 64 <= known.seen + 1 {
         move_word(g, a);
         known.aligned = known.aligned + 64;
@@ -73,9 +77,9 @@ fn align(mut known: Progress, g: &mut [u64], a: usize) -> Progress
     known
 }
 
-// What is known after one term more, t(n) for n terms seen, which f does not fit. With m = n + 1 − L, the
-// degree where it changes: f becomes f + x^(L−m)·g where m is at most L, and where not x^(m−L)·f + g, and the
-// former f becomes g. In the words both are the sum of f and g moved down.
+// What is known after t(n), for n terms seen, which f does not fit. Let m = n + 1 − L. If m is at most L, f
+// becomes f + x^(L−m)·g. If not, f becomes x^(m−L)·f + g, of degree m, and the former f becomes g. In the
+// words both are the sum of f and g moved down.
 fn correct(known: Progress, f: &mut [u64], g: &mut [u64], a: usize) -> Progress
     requires { ⌜ WordsReady known (now f) (now g) a ⌝ }
     ensures { λ r. ⌜ ((ts : List ℕ) → WordsHold ts known (now (f .entry)) (now (g .entry)) a
@@ -93,8 +97,7 @@ fn correct(known: Progress, f: &mut [u64], g: &mut [u64], a: usize) -> Progress
     changed(known)
 }
 
-// What is known after the terms that f fits, from those seen on, and the next of the m terms, if there is
-// one.
+// What is known after the next term that f does not fit, or after all m terms, if f fits those left.
 fn step(known: Progress, m: usize, f: &mut [u64], g: &mut [u64], a: usize) -> Progress
     requires { ⌜ (known .seen < m) × (64 * a + m ≤ 4096) ⌝ }
     requires { ⌜ Room (now f) × Room (now g) ⌝ }
@@ -111,8 +114,8 @@ fn step(known: Progress, m: usize, f: &mut [u64], g: &mut [u64], a: usize) -> Pr
     correct(ready, f, g, a)
 }
 
-// What is known after all terms, whose bits are in f, for g with zeros. At the start f is 1 and g is 0, with
-// a discrepancy of 1 before the first term. Leaves the words of both.
+// What is known after all terms. Takes the bits of the terms in f, and zeros in g; leaves the words of f and
+// g. At the start f is 1 and g is 0, with a discrepancy of 1 before the first term.
 fn after_all(terms: &[u8], f: &mut [u64], g: &mut [u64], a: usize) -> Progress
     requires { ⌜ (64 * a + length (now terms) ≤ 4096) × TermsPacked (now terms) (now f) ⌝ }
     requires { ⌜ (length (now g) ≡ 66) × ((j : ℕ) → getD (now g) j 0 ≡ 0) ⌝ }
@@ -134,9 +137,9 @@ fn after_all(terms: &[u8], f: &mut [u64], g: &mut [u64], a: usize) -> Progress
     known
 }
 
-// A turn of the reduction, which counts on from the terms as if f did not fit any after them: for n so
-// counted leaves f + c·x^s·g in the place of f, s = 2·L − 1 − n, for the coefficient c of f at the place of
-// the leading one of x^s·g. Where c is not 0 g is aligned, as for a correction at t(n).
+// One reduction step: treats place n ≥ m as if a further term had failed there. Overwrites f with
+// f + c·x^s·g, s = 2·L − 1 − n, for the coefficient c of f at the place of the leading 1 of x^s·g. If c is 1,
+// g is aligned first, as for a correction at t(n). The number n is `seen`, counted on from the m terms.
 fn cancel(known: Progress, f: &mut [u64], g: &mut [u64], a: usize) -> Progress
     requires { ⌜ Reducible known (now f) (now g) a ⌝ }
     ensures { λ r. ⌜ Cancelled known (now (f .entry)) (now (g .entry)) a r (now (f .exit)) (now (g .exit)) ⌝ }
@@ -149,7 +152,7 @@ fn cancel(known: Progress, f: &mut [u64], g: &mut [u64], a: usize) -> Progress
     ready
 }
 
-// Leaves the first of the polynomials that fit in the place of f.
+// Overwrites f with the first of the polynomials that fit.
 fn reduce(terms: &[u8], mut known: Progress, f: &mut [u64], g: &mut [u64], a: usize)
     requires { ⌜ (64 * a + length (now terms) ≤ 4096) × (known .seen ≡ length (now terms)) ⌝ }
     requires { ⌜ WordsHold (now terms) known (now f) (now g) a ⌝ }
@@ -164,7 +167,7 @@ fn reduce(terms: &[u8], mut known: Progress, f: &mut [u64], g: &mut [u64], a: us
     }
 }
 
-// The shortest recurrence over GF(2), as `shortest_recurrence` answers it.
+// The shortest recurrence over GF(2), as `shortest_recurrence` has it.
 pub(crate) fn shortest(terms: &[u8], answer: &mut [u8], work: &mut [u8]) -> usize
     requires { ⌜ RoomFor (now terms) (now work) × (4097 ≤ length (now answer)) ⌝ }
     ensures { λ r. ⌜ ShortestRecurrence (prime 2) (now (terms .entry)) (now (answer .entry))

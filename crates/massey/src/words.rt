@@ -1,12 +1,12 @@
-// Words of 64 bits, the lowest first: bit i is bit i % 64 of word i / 64. The leaves of the free way over
-// GF(2), on lists of 66 words. Those that move and add change the words from a on, but not the last, which is
-// 0.
+// What the free way over GF(2) does with lists of 66 words of 64 bits, the lowest word first: bit i is bit
+// i % 64 of word i / 64. The functions that move and add change the words from a on, but not the last, which
+// is 0.
 use lent::smaller;
 ghost use mathlib.Core.Path.{_≡_};
 ghost use Prim.Native.Nat.{ℕ, _+_, _*_, _-_, _/_, _%_, _≤_, _<_};
 ghost use lib.ListN.{length, getD};
 ghost use Rattle.meaning.specs.Result.{written};
-ghost use Rattle.bridge.proofs.Monics.{digit};
+ghost use Rattle.bridge.proofs.Lists.Monics.{digit};
 ghost use Rattle.massey.specs.words.Words.{bitOf, bitsFrom, Window, Room, Moved, Added, Exchanged};
 ghost use Rattle.massey.specs.words.Words.{NextOne, TermsPacked};
 
@@ -41,7 +41,7 @@ pub(crate) fn add_moved(f: &mut [u64], g: &[u64], a: usize, k: u64)
     }
 }
 
-// The same, and leaves the former f in the place of g.
+// The same, and overwrites g with the former f.
 pub(crate) fn exchange(f: &mut [u64], g: &mut [u64], a: usize, k: u64)
     requires { ⌜ Room (now f) × Room (now g) × (a ≤ 65) × (k < 64) ⌝ }
     ensures { λ _. ⌜ Exchanged (now (f .entry)) (now (g .entry)) a k (now (f .exit)) (now (g .exit)) ⌝ }
@@ -54,8 +54,8 @@ pub(crate) fn exchange(f: &mut [u64], g: &mut [u64], a: usize, k: u64)
     }
 }
 
-// The first t from n on, and before m, whose bit is 1, or m where there is none. The bit of t is bit
-// 4,095 − t of f.
+// The first t from n on, and before m, whose bit is 1, or m if there is none. The bit of t is bit 4,095 − t
+// of f.
 pub(crate) fn next_one(f: &[u64], n: usize, m: usize) -> usize
     requires { ⌜ (length (now f) ≡ 66) × (n ≤ m) × (m ≤ 4096) ⌝ }
     ensures { λ r. ⌜ NextOne (now (f .entry)) n m r ⌝ }
@@ -86,7 +86,7 @@ fn packed(s: &[u8]) -> u64
     w << ((64 - n) as u64)
 }
 
-// Leaves the bits of the terms in f, which has zeros: that of t(n) is bit 4,095 − n.
+// Writes the bits of the terms into f, which is all zeros: that of t(n) is bit 4,095 − n.
 pub(crate) fn pack(terms: &[u8], f: &mut [u64])
     requires { ⌜ (length (now terms) ≤ 4096) × (length (now f) ≡ 66) × ((j : ℕ) → getD (now f) j 0 ≡ 0) ⌝ }
     ensures { λ _. ⌜ TermsPacked (now (terms .entry)) (now (f .exit)) ⌝ }
@@ -109,7 +109,7 @@ pub(crate) fn bit_at(w: &[u64], i: usize) -> u8
     ((w[i / 64] >> k) % 2) as u8
 }
 
-// Leaves the n bits from bit o on at the front of the answer, and the rest of it as it was.
+// Writes the n bits from bit o on at the front of the answer. The rest of it stays as it was.
 pub(crate) fn unpack(w: &[u64], o: usize, n: usize, answer: &mut [u8])
     requires { ⌜ (o + n ≤ 4224) × (length (now w) ≡ 66) × (n ≤ length (now answer)) ⌝ }
     ensures { λ _. ⌜ now (answer .exit) ≡ written (bitsFrom (now (w .entry)) o n) (now (answer .entry)) ⌝ }

@@ -1,5 +1,5 @@
--- Computed rows: how many terms the sequences of the marked rows take to repeat. Row D stands with x for its
--- factor, of which no power is in the answer.
+-- Computed rows: how many terms the sequences of the marked rows take to repeat, and the longest repeat
+-- length that is told. Row D stands with x for its factor, of which no power is in the answer.
 --
 --   RepeatLengthRows == the table: a field for each row      repeat-length-rows == every row holds
 -- Assumes nothing.
@@ -8,11 +8,12 @@ use mathlib.Core.List.{[], _∷_}
 use Rattle.meaning.specs.Field.{prime}
 use Rattle.meaning.specs.Polynomial.{product}
 use Rattle.meaning.specs.Sequence.{periodic}
-use Rattle.meaning.specs.RepeatLength.{repeatLength}
+use Rattle.meaning.specs.RepeatLength.{longestRepeat, repeatLength}
 use Rattle.meaning.specs.Portion.{onward}
 use Rattle.meaning.proofs.Computed.{computed}
 
 pub record RepeatLengthRows : Type 0 where
+  pub longest : longestRepeat ≡ 65536
   pub A :
       repeatLength (product (prime 2) ((1 ∷ 1 ∷ 0 ∷ 1 ∷ [], 4) ∷ []))
       (onward (prime 2) ((1 ∷ 1 ∷ 0 ∷ 1 ∷ [], 6) ∷ [])
@@ -31,4 +32,15 @@ pub record RepeatLengthRows : Type 0 where
 
 pub repeat-length-rows : RepeatLengthRows
 unfolding computed
-repeat-length-rows = record { A = refl; B = refl; C = refl; D = refl; E = refl; G = refl; J = refl; K = refl }
+repeat-length-rows =
+    record {
+      longest = refl;
+      A = refl;
+      B = refl;
+      C = refl;
+      D = refl;
+      E = refl;
+      G = refl;
+      J = refl;
+      K = refl;
+    }

@@ -10,7 +10,7 @@
 --   bytesOf k n        == the k least significant bytes of n, the least significant first
 --   bytesOfAll ns      == the bytes of the numbers, eight of each, one number after another. They hold ns:
 --                         `numbersOf (bytesOfAll ns)` is ns where all are below 2^64 (`numbers-of-bytes` of
---                         proofs/numbers/LittleEndian.antt of crate flat_bytes)
+--                         proofs/numbers/LittleEndian.antt of crate exports)
 use Prim.Native.Nat.{ℕ, zero, suc, _+_, _*_, _/_, _%_}
 use mathlib.Core.List.{List, [], _∷_, _++_}
 use lib.ListN.{length, take, drop}

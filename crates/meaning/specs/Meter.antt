@@ -9,6 +9,8 @@
 --                         from the prime and the terms held alone
 --   Holding model p ts m terms work == the meter m with these lent bytes was started for p and holds ts: they
 --                         are what the model says, and the terms stand at the front of theirs
+--   Remembers model    == the numbers of its meters are the prime, how many terms are held, and the least
+--                         degree for these
 --   unlessRefused r old new == what was lent, as it was where r is a refusal
 --   profileEntry n a   == the four bytes of a term in a profile: 0 or the number of its refusal, the degree
 --                         in two bytes, the less significant first, and 1 for `one` or 0 for `some`
@@ -63,6 +65,14 @@ pub record Holding (model : MeterModel) (p : ℕ) (ts : List ℕ) (m : Meter) (t
   pub numbers : m ≡ (model .meter) p ts
   pub front : take (length ts) terms ≡ ts
   pub bytes : work ≡ (model .work) p ts
+
+pub record Remembers (model : MeterModel) : Type 0 where
+  pub primeKept : (p : ℕ) (ts : List ℕ) → (model .meter) p ts .prime ≡ p
+  pub countKept : (p : ℕ) (ts : List ℕ) → (model .meter) p ts .held ≡ length ts
+  pub degreeKept : (p : ℕ) (ts : List ℕ)
+      → notPrime p ≡ false
+      → termOutOfField (prime p) ts ≡ false
+      → leastDegree (prime p) ts ≡ some ((model .meter) p ts .degree)
 
 unfoldable pub unlessRefused : {A B : Type 0} → Result A → B → B → B
 unlessRefused (refused n) old new = old

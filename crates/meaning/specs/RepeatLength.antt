@@ -7,9 +7,9 @@
 --   repeatLength g s   == the least n up to the longest repeat after which s comes again, by as many terms as
 --                         the degree of g; 0 where x divides g, or where there is none. For the polynomial 1
 --                         of the zero sequence it is 1
---   RepeatMeaning g s n == what n says in words: other than 0 it is the least period of s, at most the
---                         longest that is told; 0 says that x divides g, and then s has no period, or that
---                         the least period is longer
+--   RepeatMeaning g s n == what n says in words: other than 0 it is the least period of s, at most 65,536; 0
+--                         says that x divides g, and then s has no period, or that the least period exceeds
+--                         65,536
 use Prim.Native.Nat.{ℕ, _≤_, _<_}
 use mathlib.Core.Path.{_≡_}
 use mathlib.Core.Logic.{_⊎_}
@@ -35,6 +35,6 @@ repeatLength g s =
     elim (eqb (getD g 0 0) 0) [ true ↦ 0 | false ↦ leastWithin longestRepeat (comesAgain s (degree g)) ]
 
 pub record RepeatMeaning (g : Polynomial) (s : Sequence) (n : ℕ) : Type 0 where
-  pub exact : 0 < n → LeastPeriod s n × (n ≤ longestRepeat)
-  pub beyond : n ≡ 0 → (getD g 0 0 ≡ 0) ⊎ ((m : ℕ) × LeastPeriod s m × (longestRepeat < m))
+  pub exact : 0 < n → LeastPeriod s n × (n ≤ 65536)
+  pub beyond : n ≡ 0 → (getD g 0 0 ≡ 0) ⊎ ((m : ℕ) × LeastPeriod s m × (65536 < m))
   pub never : getD g 0 0 ≡ 0 → (m : ℕ) → Period s m → ⊥

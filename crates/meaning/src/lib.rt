@@ -88,14 +88,14 @@ pub enum FreeRating {
 
 // A meter that shows the rating of a portion alone after each term: the prime that it was started for, how
 // many terms it holds, the least degree for these, and what the next step needs beside the polynomials in the
-// lent work bytes: how many coefficients the earlier one has, its discrepancy, and the half in which the
-// present one stands.
+// lent work bytes: how many coefficients the earlier one has, the inverse of its discrepancy, and the half in
+// which the present one stands.
 pub struct Meter {
     pub prime: u64,
     pub held: usize,
     pub degree: usize,
     pub earlier: usize,
-    pub value: u8,
+    pub inverse: u8,
     pub half: usize,
 }
 

@@ -1,44 +1,44 @@
 -- What a meter keeps: the state of the model after the terms held, in its numbers and its lent bytes.
 --
---   meterOf p r       == the numbers of a recurrence as a meter for p
---   stands-meter, stands-bytes == where the state of the model stands in them, the meter and the work bytes
---                      are
---                        those of the model
+--   meter-remembers   == a meter's numbers are the prime, how many terms it holds, and their least degree, so
+--                        that some result meets the contracts of a term and of a reading
+--   stands-meter, stands-bytes == where the state of the model stands in numbers and bytes, the meter and the
+--                        work bytes are those of the model
 --   usable-no         == a meter whose numbers are out of range holds no terms
 --   holding-prime, holding-numbers == the numbers of a meter that holds terms are in range
 --   holding-reading   == its degree and the number of its terms give what it is to show
---   holding-holds     == the state of the model stands in its work bytes, for the lent terms with one stored
---                        after those held
---   next-stands, next-count == what stands there after the step is the state after that term
+--   stored-terms      == the lent terms up to one stored after those held
+--   holding-holds     == for these the state of the model stands in its work bytes
 --
 -- Assumes nothing.
 use Prim.Native.Nat.{ℕ, zero, suc, _+_, _*_, _-_, _≤_, _<_}
-use mathlib.Core.Path.{_≡_, sym, ap, ap₂, subst, _∙_}
+use mathlib.Core.Path.{_≡_, refl, sym, ap, ap₂, subst, _∙_}
 use mathlib.Core.Bool.{true, false}
 use mathlib.Core.List.{List, [], _∷_, _++_}
 use native.Mathlib.Nat as ℕ
-use native.Mathlib.Decide.{decLt}
 use native.Mathlib.Omega.{arith}
-use lib.ListN.{length, getD, take, drop, set, length-append, length-drop, take-append-drop, List·getD-append}
-use lib.Seq.{take-at, drop-at, take-all, getD-take, getD-set-same, getD-set-other, getD-append-add}
+use lib.ListN.{length, take, drop, set, length-drop, take-append-drop, List·getD-append}
+use lib.Seq.{take-at, drop-at, take-all}
 use lib.Dec.{T, leb, ltb, ltb→lt, lt→ltb}
 use Rattle.meaning.specs.declared.Meter.{Meter}
 use Rattle.meaning.specs.Field.{prime, primeInRange}
 use Rattle.meaning.specs.Result.{answered, firstOf, settle, valueOf}
 use Rattle.meaning.specs.Conditions.{notPrime}
 use Rattle.meaning.specs.Free.{isUnique}
-use Rattle.meaning.specs.Meter.{Holding, meterReading}
-use Rattle.bridge.proofs.Searches.{T-true, T-not-false}
-use Rattle.bridge.proofs.Accepted.{prime-accepted}
-use Rattle.bridge.proofs.Padding.{pad, length-pad}
-use Rattle.bridge.proofs.MasseySteps.{MasseyState, masseyAfter, massey-sizes, massey-half, after-local}
-use Rattle.bridge.proofs.MasseyAnswer.{massey-reading}
+use Rattle.meaning.specs.Meter.{Remembers, Holding, meterReading}
+use Rattle.bridge.proofs.Basics.Searches.{T-true, T-not-false}
+use Rattle.bridge.proofs.Basics.Interpretation.{inRange-isField}
+use Rattle.bridge.proofs.Ways.Accepted.{prime-accepted}
+use Rattle.bridge.proofs.Basics.Padding.{pad, length-pad}
+use Rattle.bridge.proofs.Massey.Steps.{MasseyState, masseyAfter, massey-sizes, massey-half, after-local}
+use Rattle.bridge.proofs.Massey.Answer.{massey-least, massey-reading}
+use Rattle.bridge.proofs.Massey.Meters.{take-stored}
 use Rattle.arith.specs.Inverse.{inverse}
 use Rattle.arith.specs.Slices.{part}
 use Rattle.massey.specs.declared.step.Recurrence.{Recurrence}
 use Rattle.massey.specs.step.Steps.{Stands, Holds}
-use Rattle.massey.proofs.FreeWay.{inverts-primes}
-use Rattle.meter.specs.Model.{stateAfter, meterBytes, meterModel, recurrenceOf, Usable}
+use Rattle.massey.proofs.Inverting.{inverts-primes}
+use Rattle.meter.specs.Model.{stateAfter, meterBytes, meterModel, meterOf, recurrenceOf, Usable}
 
 -- The two polynomials in the work bytes
 bytes-lower : (i : ℕ) (x : MasseyState) → i ≤ 1 → part (meterBytes i x) (4096 * i) 4096 ≡ pad 4096 (x .lower)
@@ -61,8 +61,8 @@ bytes-previous (suc zero) x l =
     take-at (pad 4096 (x .previous)) (pad 4096 (x .lower)) 4096 (length-pad 4096 (x .previous))
 bytes-previous (suc (suc i)) x l = absurd (omega arith)
 
-halves : (w : List ℕ) → length w ≡ 8192 → part w 0 4096 ++ part w 4096 4096 ≡ w
-halves w e =
+parts-whole : (w : List ℕ) → length w ≡ 8192 → part w 0 4096 ++ part w 4096 4096 ≡ w
+parts-whole w e =
     ap (λ u. take 4096 w ++ u) (take-all 4096 (drop 4096 w) (omega (arith, length-drop 4096 w)))
     ∙ take-append-drop 4096 w
 
@@ -71,22 +71,23 @@ bytes-stand : (i : ℕ) (x : MasseyState) (w : List ℕ) → i ≤ 1 → length 
     → part w (4096 * (1 - i)) 4096 ≡ pad 4096 (x .previous)
     → w ≡ meterBytes i x
 unfolding meterBytes
-bytes-stand zero x w l e a b = sym (halves w e) ∙ ap₂ _++_ a b
-bytes-stand (suc zero) x w l e a b = sym (halves w e) ∙ ap₂ _++_ b a
+bytes-stand zero x w l e a b = sym (parts-whole w e) ∙ ap₂ _++_ a b
+bytes-stand (suc zero) x w l e a b = sym (parts-whole w e) ∙ ap₂ _++_ b a
 bytes-stand (suc (suc i)) x w l e a b = absurd (omega arith)
 
--- The meter of a state
-abbrev pub meterOf : ℕ → Recurrence → Meter
-meterOf p r =
+-- The numbers of a meter: the prime, how many terms it holds, and their least degree
+pub meter-remembers : Remembers meterModel
+meter-remembers =
     record {
-      prime = p;
-      held = r .seen;
-      degree = r .degree;
-      earlier = r .earlier;
-      value = r .value;
-      half = r .half;
+      primeKept = λ p ts. refl;
+      countKept = λ p ts. refl;
+      degreeKept =
+          λ p ts six eight.
+          let q = prime-accepted p six in
+          massey-least (inRange-isField p q) (inverse (prime p)) (inverts-primes p q) ts;
     }
 
+-- The meter of a state
 module _ (p : ℕ) (ts : List ℕ) {w : List ℕ} {r : Recurrence} (h : Stands (stateAfter p ts) w r) where
   pub stands-meter : {q : ℕ} → q ≡ p → r .seen ≡ length ts → meterOf q r ≡ (meterModel .meter) p ts
   stands-meter e c i =
@@ -95,7 +96,7 @@ module _ (p : ℕ) (ts : List ℕ) {w : List ℕ} {r : Recurrence} (h : Stands (
         held = c i;
         degree = h .degree i;
         earlier = h .earlier i;
-        value = h .value i;
+        inverse = h .inverse i;
         half = h .half i;
       }
 
@@ -118,14 +119,14 @@ module _ {p : ℕ} {ts : List ℕ} {m : Meter} {terms work : List ℕ}
       subst (λ n. n ≤ 1) (sym (ap (λ m. m .half) (h .numbers)))
       (massey-half (prime p) (inverse (prime p)) ts (length ts))
 
-  stands : Stands x work (recurrenceOf m)
-  stands =
+  holding-stands : Stands x work (recurrenceOf m)
+  holding-stands =
       record {
         half = ap (λ m. m .half) (h .numbers);
         within = half-bound;
         degree = ap (λ m. m .degree) (h .numbers);
         earlier = ap (λ m. m .earlier) (h .numbers);
-        value = ap (λ m. m .value) (h .numbers);
+        inverse = ap (λ m. m .inverse) (h .numbers);
         current =
             ap₂ (λ w i. part w (4096 * i) 4096) (h .bytes) (ap (λ m. m .half) (h .numbers))
             ∙ bytes-lower (x .half) x (massey-half (prime p) (inverse (prime p)) ts (length ts));
@@ -160,58 +161,27 @@ module _ {p : ℕ} {ts : List ℕ} {m : Meter} {terms work : List ℕ}
       )
 
   -- another term is stored after those held
-  module _ (t : ℕ) (room : length ts < length terms) where
-    abbrev stored : List ℕ
-    stored = set terms (m .held) t
+  module _ (t : ℕ) where
+    abbrev next : List ℕ
+    next = ts ++ (t ∷ [])
 
     held-count : m .held ≡ length ts
     held-count = ap (λ m. m .held) (h .numbers)
 
-    stored-before : (i : ℕ) → i < length ts → getD stored i 0 ≡ getD ts i 0
-    stored-before i l =
-        getD-set-other terms (m .held) i t 0 (λ e. omega (arith, held-count))
-        ∙ sym (getD-take (length ts) terms i 0 l)
-        ∙ ap (λ u. getD u i 0) (h .front)
+    pub stored-terms : length ts < length terms → part (set terms (m .held) t) 0 (m .held + 1 - 0) ≡ next
+    stored-terms l =
+        let e : m .held + 1 - 0 ≡ suc (length ts) = omega (arith, held-count) in
+        ap₂ (λ n k. take k (set terms n t)) held-count e
+        ∙ take-stored (length ts) terms t l
+        ∙ ap (λ u. u ++ (t ∷ [])) (h .front)
 
-    stored-same : (i : ℕ) → i < suc (length ts) → getD stored i 0 ≡ getD (ts ++ (t ∷ [])) i 0
-    stored-same i l = elim (decLt i (length ts)) [
-      | yes k ↦ stored-before i k ∙ sym (List·getD-append ts (t ∷ []) 0 i k)
-      | no k ↦
-          let e : i ≡ m .held = omega (arith, held-count) in
-          let f : i ≡ length ts + 0 = omega arith in
-          ap (λ j. getD stored j 0) e
-          ∙ getD-set-same terms (m .held) t 0 (omega (arith, held-count))
-          ∙ sym (ap (λ j. getD (ts ++ (t ∷ [])) j 0) f ∙ getD-append-add ts (t ∷ []) 0 0)
-    ]
-
-    pub holding-holds : Holds (prime p) stored work (recurrenceOf m)
+    pub holding-holds : Holds (prime p) next work (recurrenceOf m)
     holding-holds =
         subst (λ s. Stands s work (recurrenceOf m))
-        (sym (ap (masseyAfter (prime p) (inverse (prime p)) stored) held-count
-        ∙ after-local (prime p) (inverse (prime p)) stored ts (length ts) stored-before))
-        stands
-
-    abbrev next : List ℕ
-    next = ts ++ (t ∷ [])
-
-    next-state : (n : ℕ) → n ≡ m .held + 1
-        → masseyAfter (prime p) (inverse (prime p)) stored n ≡ stateAfter p next
-    next-state n e =
-        let k : n ≡ suc (length ts) = omega (arith, held-count) in
-        let j : suc (length ts) ≡ length next = omega (arith, length-append ts (t ∷ [])) in
-        ap (masseyAfter (prime p) (inverse (prime p)) stored) k
-        ∙ after-local (prime p) (inverse (prime p)) stored next (suc (length ts)) stored-same
-        ∙ ap (masseyAfter (prime p) (inverse (prime p)) next) j
-
-    pub next-stands :
-        {r : Recurrence} {w : List ℕ}
-        → r .seen ≡ m .held + 1
-        → Holds (prime p) stored w r
-        → Stands (stateAfter p next) w r
-    next-stands {r} {w} e s = subst (λ x. Stands x w r) (next-state (r .seen) e) s
-
-    pub next-count : (n : ℕ) → n ≡ m .held + 1 → n ≡ length next
-    next-count n e = omega (arith, e, held-count, length-append ts (t ∷ []))
+        (sym (ap (masseyAfter (prime p) (inverse (prime p)) next) held-count
+        ∙ after-local (prime p) (inverse (prime p)) next ts (length ts)
+        (λ i l. List·getD-append ts (t ∷ []) 0 i l)))
+        holding-stands
 
 -- Whether a meter is usable
 abbrev pub InRange : Meter → Type 0

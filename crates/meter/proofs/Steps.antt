@@ -6,8 +6,8 @@
 --   term-unusable, term-refused, term-taken == the contract of a term, by its three ends
 --
 -- Assumes nothing.
-use Prim.Native.Nat.{ℕ, _<_}
-use mathlib.Core.Path.{_≡_, refl, sym, ap, ap₂, subst, _∙_}
+use Prim.Native.Nat.{ℕ, _+_, _-_, _<_}
+use mathlib.Core.Path.{_≡_, refl, sym, ap, ap₂, subst, subst₂, _∙_}
 use mathlib.Core.Bool.{true, false}
 use mathlib.Core.List.{List, [], _∷_, _++_}
 use native.Mathlib.Omega.{arith}
@@ -25,9 +25,10 @@ use Rattle.meaning.specs.Meter.{startMeter, termTable, takeTerm, Holding, unles
 use Rattle.meaning.specs.Answers.{numberOf, toldFree, toldStart}
 use Rattle.meaning.specs.Calls.{StartCall, TermCall, ReadingCall}
 use Rattle.meaning.proofs.Passes.{Passes}
-use Rattle.bridge.proofs.MasseySteps.{masseyAfter}
-use Rattle.bridge.proofs.Meters.{open-below, holding-more, reading-taken}
+use Rattle.bridge.proofs.Massey.Steps.{masseyAfter}
+use Rattle.bridge.proofs.Massey.Meters.{open-below, holding-more, reading-taken}
 use Rattle.arith.specs.Inverse.{inverse}
+use Rattle.arith.specs.Slices.{part}
 use Rattle.arith.specs.declared.field.GaloisField.{GaloisField}
 use Rattle.arith.specs.Represented.{fieldOf, FieldOfPrime}
 use Rattle.refusals.specs.declared.Verdict.{Verdict}
@@ -36,9 +37,9 @@ use Rattle.refusals.proofs.Settled.{settle-refused, verdict-passes}
 use Rattle.massey.specs.declared.step.Recurrence.{Recurrence}
 use Rattle.massey.specs.step.Steps.{Stands, Holds, Started, Stepped}
 use Rattle.massey.proofs.step.Standing.{started-holds}
-use Rattle.meter.specs.Model.{stateAfter, meterModel, recurrenceOf, Usable, Taken}
-use Rattle.meter.proofs.Keeping.{meterOf, stands-meter, stands-bytes, holding-holds, next-stands}
-use Rattle.meter.proofs.Keeping.{next-count, holding-reading}
+use Rattle.meter.specs.Model.{stateAfter, meterModel, meterOf, recurrenceOf, Usable, Taken}
+use Rattle.meter.proofs.Keeping.{stands-meter, stands-bytes, stored-terms, holding-holds}
+use Rattle.meter.proofs.Keeping.{holding-reading}
 
 -- A start
 refused-start : (p : ℕ) → notPrime p ≡ true → startMeter p ≡ refused 6
@@ -59,16 +60,17 @@ module _ (p : ℕ) {work : List ℕ} where
       }
 
   pub start-taken :
-      {work′ : List ℕ} {r : Recurrence}
+      {work′ : List ℕ} {r : Recurrence} {m : Meter}
       → notPrime p ≡ false
       → Started work work′ r
       → length work′ ≡ 8192
-      → StartCall meterModel p work (MeterStart.Started (meterOf p r)) work′
+      → m ≡ meterOf p r
+      → StartCall meterModel p work (MeterStart.Started m) work′
   unfolding toldStart mapResult unlessRefused
-  start-taken {work′} {r} e s l =
+  start-taken {work′} {r} e s l k =
       record {
         starting =
-            ap answered (stands-meter p [] stands refl (s .seen))
+            ap answered (k ∙ stands-meter p [] stands refl (s .seen))
             ∙ sym (ap (mapResult (λ _. (meterModel .meter) p [])) (accepted-start p e));
         workBytes =
             stands-bytes p [] stands l
@@ -81,10 +83,11 @@ module _ (p : ℕ) {work : List ℕ} where
           (started-holds s (prime p) [])
 
 -- A step
-module _ (m : Meter) (t : ℕ) {terms work work′ : List ℕ} {field : GaloisField} {r : Recurrence}
+module _ (m : Meter) (t : ℕ) {terms work work′ : List ℕ} {field : GaloisField} {k r : Recurrence}
     (f : FieldOfPrime (m .prime) field) (size : length terms ≡ 4096) (room : m .held < 4096)
-    (s : Holds (fieldOf field) (set terms (m .held) t) work (recurrenceOf m)
-    → Stepped (fieldOf field) (set terms (m .held) t) work (recurrenceOf m) work′ r)
+    (e : k ≡ recurrenceOf m) (n : r .seen ≡ length (part (set terms (m .held) t) 0 (m .held + 1 - 0)))
+    (s : Holds (fieldOf field) (part (set terms (m .held) t) 0 (m .held + 1 - 0)) work k
+    → Stepped (fieldOf field) (part (set terms (m .held) t) 0 (m .held + 1 - 0)) work work′ r)
     (kept : length work′ ≡ 8192) where
   module _ (p : ℕ) (ts : List ℕ) (h : Holding meterModel p ts m terms work) where
     same-prime : m .prime ≡ p
@@ -93,28 +96,31 @@ module _ (m : Meter) (t : ℕ) {terms work work′ : List ℕ} {field : GaloisFi
     same-field : fieldOf field ≡ prime p
     same-field = f .isField ∙ ap prime same-prime
 
-    fits : length ts < length terms
-    fits = omega (arith, size, room, ap (λ m. m .held) (h .numbers))
+    same-terms : part (set terms (m .held) t) 0 (m .held + 1 - 0) ≡ ts ++ (t ∷ [])
+    same-terms = stored-terms h t (omega (arith, size, room, ap (λ m. m .held) (h .numbers)))
 
-    stepped : Stepped (fieldOf field) (set terms (m .held) t) work (recurrenceOf m) work′ r
+    seen-all : r .seen ≡ length (ts ++ (t ∷ []))
+    seen-all = n ∙ ap length same-terms
+
+    stepped : Stepped (prime p) (ts ++ (t ∷ [])) work work′ r
     stepped =
-        s
-        (subst (λ F. Holds F (set terms (m .held) t) work (recurrenceOf m)) (sym same-field)
-        (holding-holds h t fits))
+        subst₂ (λ F v. Holds F v work k → Stepped F v work work′ r) same-field same-terms s
+        (subst (Holds (prime p) (ts ++ (t ∷ [])) work) (sym e) (holding-holds h t))
 
     stands : Stands (stateAfter p (ts ++ (t ∷ []))) work′ r
     stands =
-        next-stands h t fits (stepped .seen)
-        (subst (λ F. Holds F (set terms (m .held) t) work′ r) same-field (stepped .holds))
+        subst (λ n. Stands (masseyAfter (prime p) (inverse (prime p)) (ts ++ (t ∷ [])) n) work′ r) seen-all
+        (stepped .holds)
 
-  pub term-stepped : Taken m t terms work (meterOf (m .prime) r) (set terms (m .held) t) work′
-  term-stepped =
+  pub term-stepped :
+      {m′ : Meter} → m′ ≡ meterOf (m .prime) r → Taken m t terms work m′ (set terms (m .held) t) work′
+  term-stepped u =
       record {
         stored = refl;
         numbers =
             λ p ts h.
-            stands-meter p (ts ++ (t ∷ [])) (stands p ts h) (same-prime p ts h)
-            (next-count h t (fits p ts h) (r .seen) (stepped p ts h .seen));
+            u
+            ∙ stands-meter p (ts ++ (t ∷ [])) (stands p ts h) (same-prime p ts h) (seen-all p ts h);
         bytes = λ p ts h. stands-bytes p (ts ++ (t ∷ [])) (stands p ts h) kept;
       }
 
@@ -130,9 +136,9 @@ module _ (m : Meter) (t : ℕ) {terms work : List ℕ} where
       record { taken = λ p ts h. absurd (subst T (sym (u .holding p ts terms work h)) tt) }
 
   module _ (v : Verdict) (e : numberIn v ≡ firstOf (termTable (m .prime) (m .held) t)) where
-    told : {p : ℕ} {ts : List ℕ} → Holding meterModel p ts m terms work
+    verdict-holding : {p : ℕ} {ts : List ℕ} → Holding meterModel p ts m terms work
         → numberIn v ≡ firstOf (termTable p (length ts) t)
-    told h =
+    verdict-holding h =
         e
         ∙ ap₂ (λ p n. firstOf (termTable p n t)) (ap (λ m. m .prime) (h .numbers))
         (ap (λ m. m .held) (h .numbers))
@@ -143,7 +149,7 @@ module _ (m : Meter) (t : ℕ) {terms work : List ℕ} where
     term-refused {x} q =
         record {
           taken = λ p ts h.
-              let d = settle-refused (termTable p (length ts) t) _ (told h) q in
+              let d = settle-refused (termTable p (length ts) t) _ (verdict-holding h) q in
               record {
                 reading = sym d;
                 meter = sym (ap (λ r. unlessRefused r m ((meterModel .meter) p (ts ++ (t ∷ [])))) d);
@@ -156,15 +162,15 @@ module _ (m : Meter) (t : ℕ) {terms work : List ℕ} where
     module _ {m′ : Meter} {terms′ work′ : List ℕ} (q : v ≡ Verdict.Accepted) (size : length terms ≡ 4096)
         (s : Taken m t terms work m′ terms′ work′) where
       module _ (p : ℕ) (ts : List ℕ) (h : Holding meterModel p ts m terms work) where
-        passes : Passes (termTable p (length ts) t)
-        passes = verdict-passes (termTable p (length ts) t) (told h) q
+        term-passes : Passes (termTable p (length ts) t)
+        term-passes = verdict-passes (termTable p (length ts) t) (verdict-holding h) q
 
         stored : terms′ ≡ set terms (length ts) t
         stored = s .stored ∙ ap (λ n. set terms n t) (ap (λ m. m .held) (h .numbers))
 
-        after : Holding meterModel p (ts ++ (t ∷ [])) m′ terms′ work′
-        after =
-            let y = holding-more meterModel p h t size passes in
+        term-holding : Holding meterModel p (ts ++ (t ∷ [])) m′ terms′ work′
+        term-holding =
+            let y = holding-more meterModel p h t size term-passes in
             record {
               fieldExists = y .fieldExists;
               termsInField = y .termsInField;
@@ -181,10 +187,10 @@ module _ (m : Meter) (t : ℕ) {terms work : List ℕ} where
       term-taken c =
           record {
             taken = λ p ts h.
-                let d = reading-taken meterModel p ts t (passes p ts h) in
-                let i = d ∙ holding-reading (after p ts h) in
+                let d = reading-taken meterModel p ts t (term-passes p ts h) in
+                let i = d ∙ holding-reading (term-holding p ts h) in
                 record {
-                  reading = c .reading p (ts ++ (t ∷ [])) terms′ work′ (after p ts h) ∙ sym d;
+                  reading = c .reading p (ts ++ (t ∷ [])) terms′ work′ (term-holding p ts h) ∙ sym d;
                   meter =
                       s .numbers p ts h
                       ∙ sym (ap (λ r. unlessRefused r m ((meterModel .meter) p (ts ++ (t ∷ [])))) i);

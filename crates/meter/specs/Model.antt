@@ -4,7 +4,8 @@
 --   meterNumbers, meterBytes == the numbers of a state, and its two polynomials in two halves of 4,096 bytes
 --                        with zeros after them
 --   meterModel        == these after the terms held
---   recurrenceOf m    == the numbers of the meter m as those of the recurrence
+--   meterOf p r, recurrenceOf m == the numbers of a recurrence as a meter for p, and those of the meter m as
+--                        a recurrence
 --   Usable m r        == r says whether the prime of the meter is in range, its degree at most the number of
 --                        terms held, and its half 0 or 1; all of which it is where the meter holds terms
 --   Taken m t terms work m′ terms′ work′ == for every meter that holds terms: the term is stored after those
@@ -18,8 +19,8 @@ use lib.Dec.{T}
 use Rattle.meaning.specs.declared.Meter.{Meter}
 use Rattle.meaning.specs.Field.{prime, primeInRange}
 use Rattle.meaning.specs.Meter.{MeterModel, Holding}
-use Rattle.bridge.proofs.Padding.{pad}
-use Rattle.bridge.proofs.MasseySteps.{MasseyState, masseyAfter}
+use Rattle.bridge.proofs.Basics.Padding.{pad}
+use Rattle.bridge.proofs.Massey.Steps.{MasseyState, masseyAfter}
 use Rattle.arith.specs.Inverse.{inverse}
 use Rattle.massey.specs.declared.step.Recurrence.{Recurrence}
 
@@ -33,7 +34,7 @@ meterNumbers p n x =
       held = n;
       degree = length (x .lower);
       earlier = length (x .previous);
-      value = x .value;
+      inverse = x .inverse;
       half = x .half;
     }
 
@@ -48,9 +49,20 @@ meterModel =
       work = λ p ts. meterBytes (stateAfter p ts .half) (stateAfter p ts);
     }
 
+abbrev pub meterOf : ℕ → Recurrence → Meter
+meterOf p r =
+    record {
+      prime = p;
+      held = r .seen;
+      degree = r .degree;
+      earlier = r .earlier;
+      inverse = r .inverse;
+      half = r .half;
+    }
+
 abbrev pub recurrenceOf : Meter → Recurrence
 recurrenceOf m =
-    record { seen = m .held; degree = m .degree; earlier = m .earlier; value = m .value; half = m .half }
+    record { seen = m .held; degree = m .degree; earlier = m .earlier; inverse = m .inverse; half = m .half }
 
 pub record Usable (m : Meter) (r : Bool) : Type 0 where
   pub isPrime : r ≡ true → T (primeInRange (m .prime))

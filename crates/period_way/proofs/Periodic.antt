@@ -1,7 +1,8 @@
 -- The period way: what the action of f^(p^w) on the period says, and what the search in its first terms
 -- finds. Assumes nothing.
-use Prim.Native.Nat.{ℕ, _*_, _-_, _^_, _≤_, _<_, min}
+use Prim.Native.Nat.{ℕ, _*_, _-_, _^_, _%_, _≤_, _<_, min}
 use mathlib.Core.Path.{_≡_, sym, ap, subst, _∙_}
+use mathlib.Core.Logic.{_≢_}
 use mathlib.Core.Bool.{Bool, true, false, not}
 use mathlib.Core.List.{List}
 use mathlib.Core.Option.{Option, none, some}
@@ -15,17 +16,17 @@ use Rattle.meaning.specs.Sequence.{annihilatesPeriod}
 use Rattle.meaning.specs.Result.{cleared}
 use Rattle.meaning.specs.Period.{periodPower}
 use Rattle.meaning.proofs.Tables.{isNone-none}
-use Rattle.bridge.proofs.Searches.{true-T}
-use Rattle.bridge.proofs.Polynomials.{monic-nonempty, monic-elements}
-use Rattle.bridge.proofs.KnownActions.{allZero, strideOnKnown, strideOnPeriod, prime-annihilatesPeriod}
-use Rattle.bridge.proofs.PowerSearch.{powerFound}
-use Rattle.bridge.proofs.Periods.{PeriodSearch, prime-period-search}
+use Rattle.bridge.proofs.Basics.Searches.{true-T}
+use Rattle.bridge.proofs.Lists.Polynomials.{monic-nonempty, monic-elements}
+use Rattle.bridge.proofs.Ways.PowerSearch.{powerFound, powerActs, act-steps}
+use Rattle.bridge.proofs.Ways.Periods.{PeriodSearch, period-search}
 use Rattle.arith.specs.declared.field.GaloisField.{GaloisField}
 use Rattle.arith.specs.Represented.{fieldOf, WellFormed}
-use Rattle.arith.proofs.Represented.{field-isField, size-least}
+use Rattle.arith.proofs.Represented.{field-isField, field-characteristic, characteristic-least}
 use Rattle.powers.specs.declared.levels.Level.{Level}
 use Rattle.powers.specs.levels.Levels.{Dividing}
 use Rattle.lent.specs.halves.Halves.{half, Placed}
+use Rattle.lent.specs.raising.Levelled.{Levelled}
 use Rattle.powers.specs.digit_search.Searching.{Searchable, Searched}
 use Rattle.lent.proofs.halves.Bytes.{take-min, kept-same, placed-kept, kept-trans, cleared-kept}
 use Rattle.period_way.specs.declared.Found.{Found}
@@ -44,44 +45,53 @@ dividing-low {p} {n} {level} l x =
 -- Answers on lists
 module _ {field : GaloisField} (good : WellFormed field) (f : Polynomial) (ts : List ℕ)
     (x : PeriodInput (fieldOf field) f ts) (level : Level)
-    (l : Dividing (field .size) (length ts) level) where
-  found : PeriodSearch (fieldOf field) f ts (strideOnKnown (fieldOf field) f) (field .size) (level .exponent)
-  unfolding fieldOf
-  found =
-      prime-period-search (field .size) (field-isField good) f ts (x .monic) (x .positive) (x .irreducibility)
-      (x .atLeastOne) (x .inField) (level .exponent) (l .rest) (l .product) (l .undivided)
-
-  whole :
-      annihilatesPeriod (fieldOf field) (power (fieldOf field) f (field .size ^ level .exponent)) ts
-      ≡ allZero (strideOnPeriod (fieldOf field) f (level .power) ts)
-  unfolding fieldOf
-  whole =
-      prime-annihilatesPeriod (field .size) (field-isField good) (level .exponent) f
-      (monic-nonempty (fieldOf field) f (x .monic)) (monic-elements (fieldOf field) f (x .monic)) ts
-      ∙ ap (λ q. allZero (strideOnPeriod (fieldOf field) f q ts)) (sym (l .isLevel))
+    (l : Dividing (field .characteristic) (length ts) level) where
+  period-found :
+      PeriodSearch (fieldOf field) f ts (powerActs (fieldOf field) f) (field .characteristic)
+      (level .exponent)
+  period-found =
+      subst
+      (λ p.
+      length ts ≡ p ^ (level .exponent) * l .rest
+      → l .rest % p ≢ 0
+      → PeriodSearch (fieldOf field) f ts (powerActs (fieldOf field) f) p (level .exponent))
+      (field-characteristic good)
+      (λ e r.
+      period-search (field-isField good) f ts (x .monic) (x .positive) (x .irreducibility) (x .atLeastOne)
+      (x .inField) (level .exponent) (l .rest) e r (powerActs (fieldOf field) f)
+      (act-steps (fieldOf field) f))
+      (l .product)
+      (l .undivided)
 
   period-some :
-      allZero (strideOnPeriod (fieldOf field) f (level .power) ts) ≡ true
+      annihilatesPeriod (fieldOf field) (power (fieldOf field) f (level .power)) ts ≡ true
       → periodPower (fieldOf field) f ts
       ≡ some (
-      powerFound (strideOnKnown (fieldOf field) f) (field .size) (degree f) (level .exponent)
+      powerFound (powerActs (fieldOf field) f) (field .characteristic) (degree f) (level .exponent)
       (take (level .power * degree f) ts)
       )
-  period-some h =
+  period-some =
       subst
       (λ q.
-      periodPower (fieldOf field) f ts
+      annihilatesPeriod (fieldOf field) (power (fieldOf field) f q) ts ≡ true
+      → periodPower (fieldOf field) f ts
       ≡ some (
-      powerFound (strideOnKnown (fieldOf field) f) (field .size) (degree f) (level .exponent)
+      powerFound (powerActs (fieldOf field) f) (field .characteristic) (degree f) (level .exponent)
       (take (q * degree f) ts)
       ))
       (sym (l .isLevel))
-      (found .finds (true-T (whole ∙ h)))
+      (λ h. period-found .finds (true-T h))
 
   pub period-none :
-      allZero (strideOnPeriod (fieldOf field) f (level .power) ts) ≡ false
+      annihilatesPeriod (fieldOf field) (power (fieldOf field) f (level .power)) ts ≡ false
       → periodPower (fieldOf field) f ts ≡ none
-  period-none h = isNone-none (true-T (found .decides ∙ ap not (whole ∙ h)))
+  period-none =
+      subst
+      (λ q.
+      annihilatesPeriod (fieldOf field) (power (fieldOf field) f q) ts ≡ false
+      → periodPower (fieldOf field) f ts ≡ none)
+      (sym (l .isLevel))
+      (λ h. isNone-none (true-T (period-found .decides ∙ ap not h)))
 
   -- What the search asks
   pub period-nonempty : 0 < length f
@@ -98,14 +108,26 @@ module _ {field : GaloisField} (good : WellFormed field) (f : Polynomial) (ts : 
   pub period-searchable : Searchable field f level
   period-searchable =
       record {
+        elements = monic-elements (fieldOf field) f (x .monic);
         nonempty = period-nonempty;
         short = x .short;
         isLevel = l .isLevel;
-        near = omega (arith, period-near, size-least good);
+        near = omega (arith, period-near, characteristic-least good);
+      }
+
+  pub period-levelled : Levelled field f (level .exponent) (level .power)
+  period-levelled =
+      record {
+        elements = monic-elements (fieldOf field) f (x .monic);
+        nonempty = period-nonempty;
+        short = x .short;
+        isLevel = l .isLevel;
+        near = period-near;
       }
 
   -- What it answers
-  module _ {b : Bool} (e : b ≡ allZero (strideOnPeriod (fieldOf field) f (level .power) ts)) where
+  module _ {b : Bool}
+      (e : b ≡ annihilatesPeriod (fieldOf field) (power (fieldOf field) f (level .power)) ts) where
     pub searched-none : (w : List ℕ) → b ≡ false → PeriodSearched (fieldOf field) f ts w w Nothing
     unfolding told
     searched-none w h = record { power = sym (period-none (sym e ∙ h)); kept = kept-same w }
@@ -133,7 +155,9 @@ module _ {field : GaloisField} (good : WellFormed field) (f : Polynomial) (ts : 
             power =
                 ap {B = Option ℕ} some
                 (y .power
-                ∙ ap (powerFound (strideOnKnown (fieldOf field) f) (field .size) (degree f) (level .exponent))
+                ∙ ap
+                (powerFound (powerActs (fieldOf field) f) (field .characteristic) (degree f)
+                (level .exponent))
                 first-terms)
                 ∙ sym (period-some (sym e ∙ h));
             kept = kept-trans (placed-kept loaded) (y .kept);

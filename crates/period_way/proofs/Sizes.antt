@@ -16,12 +16,12 @@ use Rattle.meaning.specs.Field.{Field}
 use Rattle.meaning.specs.Polynomial.{Polynomial, degree, power}
 use Rattle.meaning.specs.Sequence.{actOnKnown, annihilatesPeriod}
 use Rattle.meaning.specs.Period.{periodPower}
-use Rattle.bridge.proofs.Searches.{T-decided, not-false}
-use Rattle.bridge.proofs.Interpretation.{IsField, prime-pos}
-use Rattle.bridge.proofs.KnownActions.{allZero}
-use Rattle.bridge.proofs.PowerSearch.{powerFound, powerFound-zeros, powerFound-digits, digitsFound-below}
-use Rattle.bridge.proofs.PowerSearch.{act-steps}
-use Rattle.bridge.proofs.Periods.{PeriodSearch, period-search, periodPower-zeros, valuation}
+use Rattle.bridge.proofs.Basics.Searches.{T-decided, not-false}
+use Rattle.bridge.proofs.Basics.Interpretation.{IsField, prime-pos}
+use Rattle.bridge.proofs.Sequences.KnownActions.{allZero}
+use Rattle.bridge.proofs.Ways.PowerSearch.{powerFound, powerFound-zeros, powerFound-digits, digitsFound-below}
+use Rattle.bridge.proofs.Ways.PowerSearch.{act-steps}
+use Rattle.bridge.proofs.Ways.Periods.{PeriodSearch, period-search, periodPower-zeros, valuation}
 use Rattle.period_way.specs.Period.{PeriodInput}
 
 found-below : (step : ℕ → List ℕ → List ℕ) (p d w : ℕ) (s : List ℕ) → 0 < p → powerFound step p d w s ≤ p ^ w

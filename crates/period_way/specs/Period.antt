@@ -1,7 +1,7 @@
 -- What the contracts of the period way cite.
 --
 --   told r            == the power that an answer tells, or none
---   PeriodInput F f ts == accepted input: f is irreducible and monic over F, of a degree from 1 to 4,096, and
+--   PeriodInput F f ts == accepted input: f is irreducible and monic over F, of a degree from 1 to 32, and
 --                        ts are 1 to 4,096 elements of F
 --   PeriodSearched F f ts w w′ r == r tells the power of the period way, and the work bytes w have become w′:
 --                        those beyond the halves are as they were
@@ -29,7 +29,7 @@ pub record PeriodInput (F : Field) (f : Polynomial) (ts : List ℕ) : Type 0 whe
   pub monic : T (isMonicOver F f)
   pub positive : 1 ≤ degree f
   pub irreducibility : T (irreducible F f)
-  pub short : length f ≤ 4097
+  pub short : length f ≤ 33
   pub inField : T (areElements F ts)
   pub atLeastOne : 1 ≤ length ts
   pub notMany : length ts ≤ 4096

@@ -2,4 +2,3 @@ pub mod Convolution
 pub mod Between
 pub mod Made
 pub mod Blocks
-pub mod Scaled

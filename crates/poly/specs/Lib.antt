@@ -4,4 +4,6 @@ pub mod products
 pub mod raising
 pub mod division
 pub mod residues
+pub mod factors
 pub mod multiples
+pub mod parts

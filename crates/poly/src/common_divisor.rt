@@ -10,7 +10,7 @@ pub fn trimmed_length(f: &[u8]) -> usize
     ensures { λ n. ⌜ Trimmed (now (f .entry)) n ⌝ }
 {
     let mut n = f.len();
-    // the coefficients from n on are 0
+    // Invariant: the coefficients from n on are 0.
     while 0 < n {
         if f[n - 1] != 0 {
             return n;
@@ -20,8 +20,8 @@ pub fn trimmed_length(f: &[u8]) -> usize
     n
 }
 
-// One turn of Euclid's algorithm: leaves the remainder of a by b in a. Answers how many coefficients this has
-// up to the last that is not 0.
+// One turn of Euclid's algorithm: overwrites a with the remainder of a by b. Returns how many coefficients it
+// has up to the last that is not 0.
 fn turn(field: GaloisField, a: &mut [u8], b: &[u8]) -> usize
     requires { ⌜ WellFormed field ⌝ }
     requires { ⌜ Euclidean (fieldOf field) (now a) (now b) ⌝ }
@@ -33,7 +33,7 @@ fn turn(field: GaloisField, a: &mut [u8], b: &[u8]) -> usize
 }
 
 // The degree of a greatest common divisor of a and b, where b is no longer than a and ends with a coefficient
-// other than 0: that of b and of the remainder of a by b. Leaves other coefficients in both.
+// other than 0: that of b and of the remainder of a by b. Overwrites both.
 pub fn common_degree(field: GaloisField, a: &mut [u8], b: &mut [u8]) -> usize
     requires { ⌜ WellFormed field ⌝ }
     requires { ⌜ Euclidean (fieldOf field) (now a) (now b) ⌝ }

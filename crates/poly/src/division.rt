@@ -1,6 +1,7 @@
 // Division in lent bytes, by a polynomial whose leading coefficient is not 0. Assumes a well-formed field,
 // and its elements in both.
 use arith::GaloisField;
+use lent::smaller;
 ghost use mathlib.Core.Path.{_≡_};
 ghost use lib.ListN.{getD};
 ghost use Rattle.meaning.specs.Field.{negative};
@@ -12,7 +13,7 @@ ghost use Rattle.poly.specs.division.Division.{Divisible, Divided};
 // Divides the polynomial in f by g, of degree e, where c is −1 / a for the leading coefficient a of g: leaves
 // the remainder in the first e bytes, and in those after them the quotient by the monic multiple of g. A
 // polynomial of at most e coefficients is its own remainder. The highest coefficient b that is left goes away
-// when c·b times g is added.
+// when c·b times g is added. min(e, i) is always e; written so, the loop vectorizes.
 pub(crate) fn divide_by(field: GaloisField, f: &mut [u8], g: &[u8], c: u8)
     requires { ⌜ WellFormed field ⌝ }
     requires { ⌜ Divisible (fieldOf field) (now f) (now g) ⌝ }
@@ -23,12 +24,13 @@ pub(crate) fn divide_by(field: GaloisField, f: &mut [u8], g: &[u8], c: u8)
 {
     let e = g.len() - 1;
     let mut i = f.len();
-    // the bytes before i, and the product of the monic multiple of g and those from i on, e places lower, add
-    // up to the polynomial
+    // Invariant: the bytes before i, and the product of the monic multiple of g and those from i on, e places
+    // lower, add up to the polynomial.
     while e < i {
         i -= 1;
         let q = field.product(c, f[i]);
-        field.add_multiple(&mut f[i - e..i], q, &g[0..e]);
+        let n = smaller(e, i);
+        field.add_multiple(&mut f[i - n..i], q, &g[0..n]);
     }
 }
 

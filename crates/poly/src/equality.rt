@@ -2,7 +2,7 @@
 ghost use mathlib.Core.Path.{_≡_};
 ghost use Rattle.meaning.specs.Polynomial.{same};
 
-// Whether two polynomials are equal: all their coefficients, and so many of them.
+// Whether two polynomials are equal: as many coefficients, and the same ones.
 pub fn same(f: &[u8], g: &[u8]) -> bool
     ensures { λ r. ⌜ r ≡ same (now (f .entry)) (now (g .entry)) ⌝ }
 {
@@ -10,7 +10,7 @@ pub fn same(f: &[u8], g: &[u8]) -> bool
         return false;
     }
     let mut i = 0;
-    // equal before i: the rest decides
+    // Invariant: they are equal before i.
     while i < f.len() {
         if f[i] != g[i] {
             return false;

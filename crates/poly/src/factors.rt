@@ -5,8 +5,9 @@ ghost use mathlib.Core.Path.{_≡_};
 ghost use Prim.Native.Nat.{_*_, min};
 ghost use lib.ListN.{getD};
 ghost use Rattle.meaning.specs.Polynomial.{degree};
-ghost use Rattle.meaning.specs.Conditions.{named, totalDegree};
+ghost use Rattle.meaning.specs.Conditions.{named};
 ghost use Rattle.meaning.specs.Slices.{listsOf};
+ghost use Rattle.poly.specs.factors.Degrees.{cappedDegree};
 
 // The upper power of factor i.
 pub fn upper_at(uppers: &[u64], i: usize) -> u64
@@ -22,7 +23,7 @@ fn degree(f: &[u8]) -> usize
     if f.len() == 0 { 0 } else { f.len() - 1 }
 }
 
-// The product, or 4,097 where it is larger.
+// The product, or 4,097 if it is larger.
 fn capped_product(v: u64, d: usize) -> usize
     ensures { λ r. ⌜ r ≡ min (v * d) 4097 ⌝ }
 {
@@ -35,14 +36,13 @@ fn capped_product(v: u64, d: usize) -> usize
     v as usize * d
 }
 
-// The total degree D, or 4,097 where it is larger.
+// The total degree D, or 4,097 if it is larger.
 pub fn total_degree(factors: &[&[u8]], uppers: &[u64]) -> usize
-    ensures { λ r. ⌜ r ≡ min (totalDegree (named (listsOf (now (factors .entry))) (now (uppers .entry))))
-        4097 ⌝ }
+    ensures { λ r. ⌜ r ≡ cappedDegree (named (listsOf (now (factors .entry))) (now (uppers .entry))) ⌝ }
 {
     let mut sum = 0;
     let mut i = 0;
-    // sum, at most 4,096, and the total degree from factor i on are D
+    // Invariant: sum, at most 4,096, and the total degree from factor i on add up to D.
     while i < factors.len() {
         sum += capped_product(upper_at(uppers, i), degree(factors[i]));
         if 4096 < sum {

@@ -2,16 +2,17 @@
 // Assumes a well-formed field, and its elements in the factors.
 use arith::GaloisField;
 ghost use mathlib.Core.Path.{_≡_};
-ghost use mathlib.Core.List.{[], _++_, map};
-ghost use Prim.Native.Nat.{_≤_, _<_};
-ghost use lib.ListN.{length, getD, drop};
+ghost use mathlib.Core.List.{_++_, map};
+ghost use Prim.Native.Nat.{_≤_};
+ghost use lib.ListN.{length, take, drop};
 ghost use Rattle.meaning.specs.Polynomial.{monicMultiple};
+ghost use Rattle.meaning.specs.FlatBytes.{split};
 ghost use Rattle.meaning.specs.Slices.{listsOf};
-ghost use Rattle.bridge.proofs.Multiples.{Leads};
+ghost use Rattle.bridge.proofs.Lists.Multiples.{Leads};
 ghost use Rattle.arith.specs.Represented.{fieldOf, WellFormed};
-ghost use Rattle.poly.specs.multiples.Laid.{Layable, Laid};
+ghost use Rattle.poly.specs.multiples.Packable.{Packable};
 
-// Leaves the monic multiple of f at the front of `to`, as long as f is, and the rest of it as it was.
+// Writes the monic multiple of f, which is as long as f, to the front of `to`, and leaves the rest as it was.
 pub fn monic_multiple(field: GaloisField, f: &[u8], to: &mut [u8])
     requires { ⌜ WellFormed field ⌝ }
     requires { ⌜ Leads (fieldOf field) (now f) ⌝ }
@@ -29,29 +30,25 @@ pub fn monic_multiple(field: GaloisField, f: &[u8], to: &mut [u8])
     }
 }
 
-// Leaves the monic multiples of at most eight factors in `to`, that of factor i from 33·i on.
-pub fn lay_multiples(field: GaloisField, factors: &[&[u8]], to: &mut [u8])
+// Writes the monic multiples of at most eight factors to the front of `to`, one after another. Returns their
+// lengths, and further numbers after them.
+pub fn pack_multiples(field: GaloisField, factors: &[&[u8]], to: &mut [u8]) -> [u64; 9]
     requires { ⌜ WellFormed field ⌝ }
-    requires { ⌜ Layable (fieldOf field) (listsOf (now factors)) (now to) ⌝ }
-    ensures { λ _. ⌜ Laid (fieldOf field) (listsOf (now (factors .entry))) (now (to .exit)) ⌝ }
+    requires { ⌜ Packable (fieldOf field) (listsOf (now factors)) (now to) ⌝ }
+    ensures { λ r. ⌜ split (now (to .exit)) (take (length (now (factors .entry))) r)
+        ≡ map (monicMultiple (fieldOf field)) (listsOf (now (factors .entry))) ⌝ }
 {
+    let mut lengths = [0u64; 9];
+    let mut at = 0;
     let mut i = 0;
-    // those of the factors before i are there
+    // Invariant: the multiples of the factors before i, `at` bytes in all, and their lengths are in place.
     while i < factors.len() {
-        monic_multiple(field, factors[i], &mut to[33 * i..33 * i + 33]);
+        let f = factors[i];
+        let n = f.len();
+        monic_multiple(field, f, &mut to[at..at + n]);
+        lengths[i] = n as u64;
+        at += n;
         i += 1;
     }
-}
-
-// The monic multiple of factor i among those that are laid; the empty part where there is no factor i.
-pub fn multiple_at<'a>(field: GaloisField, laid: &'a [u8], factors: &[&[u8]], i: usize) -> &'a [u8]
-    requires { ⌜ Laid (fieldOf field) (listsOf (now factors)) (now laid) × (i < 8) ⌝ }
-    ensures { λ r. ⌜ now r
-        ≡ getD (map (monicMultiple (fieldOf field)) (listsOf (now (factors .entry)))) i [] ⌝ }
-{
-    let from = 33 * i;
-    if i < factors.len() {
-        return &laid[from..from + factors[i].len()];
-    }
-    &laid[from..from]
+    lengths
 }

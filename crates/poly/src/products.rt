@@ -10,7 +10,7 @@ ghost use Prim.Native.Nat.{_+_};
 ghost use mathlib.Core.List.{_++_};
 ghost use lib.ListN.{take, drop};
 ghost use Rattle.meaning.specs.Polynomial.{times};
-ghost use Rattle.bridge.proofs.Spread.{spread};
+ghost use Rattle.bridge.proofs.Lists.Spread.{spread};
 ghost use Rattle.arith.specs.Represented.{fieldOf, WellFormed};
 ghost use Rattle.poly.specs.products.Product.{places, Padded, Growing, Multiplied};
 
@@ -26,7 +26,7 @@ fn multiply(field: GaloisField, f: &[u8], q: usize, answer: &mut [u8], n: usize)
 {
     let mut b = f.len();
     let mut k = n + 1 + q * (b - 1);
-    // answer: the product from k on, and before k the polynomial and the zeros after it
+    // Invariant: answer has the product from k on, and before k the polynomial and the zeros after it.
     while 0 < b {
         b -= 1;
         let to = q * b;
@@ -37,7 +37,7 @@ fn multiply(field: GaloisField, f: &[u8], q: usize, answer: &mut [u8], n: usize)
     }
 }
 
-// Multiplies the polynomial of degree n in `answer` by f(x^q), and hands back the new degree.
+// Multiplies the polynomial of degree n in `answer` by f(x^q), and returns the new degree.
 pub fn times_spread(field: GaloisField, f: &[u8], q: usize, answer: &mut [u8], n: usize) -> usize
     requires { ⌜ WellFormed field ⌝ }
     requires { ⌜ Growing (now f) q 1 (now answer) n ⌝ }

@@ -5,15 +5,15 @@ ghost use Rattle.arith.specs.Represented.{WellFormed};
 ghost use Rattle.lent.specs.halves.Halves.{Halves};
 ghost use Rattle.powers.specs.digit_search.Searching.{Searchable, Searched};
 use crate::levels::Level;
-use action::act_on_known;
+use action::act_at_level;
 use arith::GaloisField;
 use lent::halves::all_zero;
 use lent::smaller;
 
 // The least power of f that annihilates the n terms of half h, where the power of the level does. One less
-// than it is found digit by digit in base p, the top digit first: each is the largest i for which f^(i·q)
-// leaves a nonzero term of what the digits before it left. Uses both halves, and leaves all beyond them as it
-// was.
+// than it is found digit by digit in base p, the characteristic, the top digit first: each is the largest i
+// for which f^(i·q) leaves a nonzero term of what the digits before it left. Uses both halves, and leaves all
+// beyond them as it was.
 pub fn least_power(
     field: GaloisField,
     work: &mut [u8],
@@ -27,15 +27,14 @@ pub fn least_power(
     requires { ⌜ Searchable field (now f) level ⌝ }
     ensures { λ r. ⌜ Searched field (now (work .entry)) h n (now (f .entry)) level (now (work .exit)) r ⌝ }
 {
-    let p = field.size as usize;
+    let p = field.characteristic as usize;
     let d = f.len() - 1;
     let mut at = h;
     let mut count = n;
     let mut l = level.exponent;
     let mut q = level.power;
     let mut power = 0;
-    // power and the digits below the level l of the `count` terms of half `at` are the power of the n terms;
-    // q = p^l
+    // Invariant: answer = power + the digits below level l, found in half `at`, and q = p^l.
     'levels: loop {
         let from = 4096 * at;
         if all_zero(&work[from..from + count]) {
@@ -55,7 +54,7 @@ pub fn least_power(
             if i == p - 1 {
                 break i;
             }
-            if act_on_known(field, work, at, count, f, q) {
+            if act_at_level(field, work, at, count, f, l, q) {
                 break i;
             }
             at = 1 - at;

@@ -23,11 +23,12 @@ use Rattle.meaning.specs.Calls.{IrreducibleCall}
 use Rattle.refusals.specs.declared.Verdict.{Verdict}
 use Rattle.refusals.specs.Verdicts.{numberIn}
 use Rattle.refusals.proofs.Settled.{verdict-passes, settle-refused, settle-accepted}
-use Rattle.bridge.proofs.Interpretation.{IsField, inRange-isField}
-use Rattle.bridge.proofs.Accepted.{prime-accepted}
-use Rattle.bridge.proofs.Polynomials.{leading-nonempty, monic-over}
-use Rattle.bridge.proofs.Multiples.{Leads, coefficients-lead, multiple-ten, multiple-eleven, multiple-length}
-use Rattle.bridge.proofs.Multiples.{multiple-self}
+use Rattle.bridge.proofs.Basics.Interpretation.{IsField, inRange-isField}
+use Rattle.bridge.proofs.Ways.Accepted.{prime-accepted}
+use Rattle.bridge.proofs.Lists.Polynomials.{leading-nonempty, monic-over}
+use Rattle.bridge.proofs.Lists.Multiples.{Leads, coefficients-lead, multiple-ten, multiple-eleven}
+use Rattle.bridge.proofs.Lists.Multiples.{multiple-length}
+use Rattle.bridge.proofs.Lists.Multiples.{multiple-self}
 use Rattle.irreducible.specs.Accepted.{Accepted}
 use Rattle.irreducible.proofs.Accepted.{accepted-short}
 use Rattle.questions.specs.Asked.{Asked}

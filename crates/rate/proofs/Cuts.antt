@@ -13,7 +13,7 @@ use Rattle.meaning.specs.Route.{records, boxOf}
 use Rattle.meaning.specs.File.{rateFile}
 use Rattle.meaning.specs.Print.{report, printed}
 use Rattle.route.proofs.payload.Numbers.{box-long}
-use Rattle.bridge.proofs.Records.{records-long}
+use Rattle.bridge.proofs.Files.Records.{records-long}
 
 module _ (k : ℕ) (file : List ℕ) (long : 16384 < k) where
   -- where the file has more than k bytes, both are too long

@@ -12,7 +12,7 @@ use Rattle.meaning.specs.Result.{answered, mapResult}
 use Rattle.meaning.specs.Route.{RouteRecord, bodies, records}
 use Rattle.route.specs.framing.Framing.{bodyLength, recordsFrom}
 use Rattle.route.specs.walk.Walking.{verdictOf}
-use Rattle.bridge.proofs.Records.{Whole}
+use Rattle.bridge.proofs.Files.Records.{Whole}
 use Rattle.route.proofs.walk.Walks.{length-found, AnswersWhole}
 use Rattle.route.proofs.acceptance.Accepting.{records-whole, records-known}
 

@@ -11,8 +11,8 @@ use Rattle.meaning.specs.Route.{records, boxOf}
 use Rattle.meaning.specs.File.{rateRecords, rateFile}
 use Rattle.meaning.specs.Calls.{FileCall}
 use Rattle.route.specs.framing.Framing.{recordsFrom}
-use Rattle.bridge.proofs.Records.{records-suited}
-use Rattle.bridge.proofs.FileRatings.{accepted-file, refused-file}
+use Rattle.bridge.proofs.Files.Records.{records-suited}
+use Rattle.bridge.proofs.Files.FileRatings.{accepted-file, refused-file}
 use Rattle.rate_file.specs.outcomes.Outcomes.{RatedFile}
 use Rattle.rate_file.specs.records.Accepted.{AcceptedRecords}
 use Rattle.route.specs.walk.Walking.{verdictOf}

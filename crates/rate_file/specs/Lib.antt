@@ -1,3 +1,4 @@
 pub mod factors
+pub mod modes
 pub mod outcomes
 pub mod records

@@ -4,6 +4,7 @@ use crate::modes::rate_free_file;
 use crate::modes::rate_period_file;
 use crate::modes::rate_set_file;
 use crate::outcomes::of_refusal;
+use arith::GaloisField;
 use meaning::FileRating;
 use refusals::Verdict;
 use refusals::terms_verdict;
@@ -16,7 +17,7 @@ ghost use Rattle.route.specs.framing.Framing.{recordsFrom};
 ghost use Rattle.rate_file.specs.outcomes.Outcomes.{RatedFile};
 ghost use Rattle.rate_file.specs.records.Accepted.{AcceptedRecords, Rateable};
 
-// The rating of an accepted file, once 6, 7 and 8 accept p and the terms: a file's own part of 10 and 11, and
+// The rating of an accepted file, once 6, 7 and 8 accept p and the terms: 10 and 11 as a file meets them, and
 // then the way of the mode.
 fn rate_accepted(
     sender: u64,
@@ -40,10 +41,11 @@ fn rate_accepted(
     match written_factors_verdict(p, file, count) {
         Verdict::Refused(r) => of_refusal(sender, r),
         Verdict::Accepted => {
+            let field = GaloisField::of_prime(p);
             if mode == 1 {
-                rate_period_file(sender, p, file, terms, answer, work)
+                rate_period_file(sender, field, p, file, terms, answer, work)
             } else {
-                rate_set_file(sender, p, file, count, terms, answer, work)
+                rate_set_file(sender, field, p, file, count, terms, answer, work)
             }
         }
     }

@@ -1,15 +1,16 @@
--- The period way, from the verdict and the power found to the contract of the call.
+-- The period way with a monic factor that 6, 7, 8, 10 and 11 let pass, from the verdict and the power found
+-- to the result.
 --
---   period-refused    == 12 or 16 refuses the monic multiple
+--   factor-monic, factor-positive == of a monic factor that 10 lets pass
+--   refused-as        == a refusal that does not clear the work bytes is told, and leaves all as it was
+--   period-refused    == 12 or 16 refuses the factor
 --   period-lent, period-input == accepted: what the way asks
 --   period-answerable == what the answer asks of the power found
---   period-rated      == the result with the multiple, where the verdict accepts
---   given-refused, given-rated == the contract of the call, where what is given is refused, and where it is
---                        rated
+--   period-rated      == the result where the verdict accepts
 --
 -- Assumes nothing.
 use Prim.Native.Nat.{ℕ, _≤_}
-use mathlib.Core.Path.{_≡_, refl, sym, ap, ap₂, subst, _∙_}
+use mathlib.Core.Path.{_≡_, refl, sym, ap, _∙_}
 use mathlib.Core.Bool.{Bool, false}
 use mathlib.Core.List.{List, [], _∷_, _++_}
 use mathlib.Core.Option.{Option, none, some}
@@ -18,36 +19,53 @@ use lib.ListN.{length}
 use lib.Dec.{T}
 use Rattle.meaning.specs.declared.Refusal.{Refusal}
 use Rattle.meaning.specs.declared.PowerRating.{PowerRating}
-use Rattle.meaning.specs.Search.{bind, isNone, holdsForSome}
+use Rattle.meaning.specs.Search.{bind, holdsForSome, isNone}
 use Rattle.meaning.specs.Field.{Field, prime, primeInRange}
-use Rattle.meaning.specs.Polynomial.{Polynomial, monicMultiple}
-use Rattle.meaning.specs.Result.{Result, Rated, refused, firstOf, settle, clearing, clears}
+use Rattle.meaning.specs.Polynomial.{Polynomial, degree, power, isMonicOver}
+use Rattle.meaning.specs.Result.{Result, refused, mapResult, firstOf, settle, Rated, figuresOf, clearing}
+use Rattle.meaning.specs.Result.{clears}
 use Rattle.meaning.specs.Power.{PowerFigures, powerRating}
-use Rattle.meaning.specs.Period.{periodPower, periodAnswer, ratePeriod}
-use Rattle.meaning.specs.Answers.{numberOf}
-use Rattle.meaning.specs.Calls.{PeriodCall}
+use Rattle.meaning.specs.Answers.{numberOf, toldPower}
+use Rattle.bridge.proofs.Basics.Interpretation.{inRange-isField}
+use Rattle.bridge.proofs.Lists.Polynomials.{monic-nonempty}
+use Rattle.bridge.proofs.Lists.Products.{accepted-monic}
+use Rattle.bridge.proofs.Lists.Irreducibles.{accepted-degree, accepted-irreducible}
+use Rattle.bridge.proofs.Ways.Accepted.{prime-accepted, count-accepted, terms-accepted, lent-enough}
 use Rattle.meaning.proofs.Passes.{Passes}
-use Rattle.bridge.proofs.Interpretation.{inRange-isField}
-use Rattle.bridge.proofs.Irreducibles.{accepted-irreducible}
-use Rattle.bridge.proofs.Periods.{periodPower-least}
-use Rattle.bridge.proofs.Accepted.{prime-accepted, count-accepted, terms-accepted}
+use Rattle.irreducible.specs.Accepted.{Accepted}
 use Rattle.irreducible.proofs.Accepted.{accepted-short}
 use Rattle.refusals.specs.declared.Verdict.{Verdict}
-use Rattle.refusals.specs.Verdicts.{numberIn, termsTable, oneFactorTable, lentTable, givenTable, periodRest}
-use Rattle.refusals.specs.Verdicts.{periodChecks}
-use Rattle.refusals.proofs.Settled.{verdict-passes, settle-early, settle-given, period-last}
-use Rattle.refusals.proofs.Ways.{period-parts, period-rest}
+use Rattle.refusals.specs.Verdicts.{numberIn, lentTable, periodRest, periodChecks}
+use Rattle.refusals.proofs.Settled.{verdict-passes, settle-early, period-last}
+use Rattle.refusals.proofs.Lent.{lent-refused, never-clears}
 use Rattle.period_way.specs.declared.Found.{Found}
 use Rattle.period_way.specs.Period.{told, PeriodInput, PeriodFound}
+use Rattle.rate_period.specs.Ratings.{ratingFound, Answerable, FoundRated, Checked, RatedAs}
+use Rattle.meaning.specs.Period.{periodPower, periodAnswer}
+use Rattle.bridge.proofs.Ways.Periods.{periodPower-least}
+use Rattle.refusals.proofs.Ways.{period-rest}
 use Rattle.period_way.proofs.Sizes.{period-small}
-use Rattle.period_way.specs.one_factor.OneFactor.{ratingFound, Answerable, FoundRated, Multiple, RatedAs}
-use Rattle.bridge.proofs.Accepted.{lent-enough}
-use Rattle.refusals.proofs.Lent.{never-clears}
-use Rattle.period_way.proofs.one_factor.OneFactor.{call-rating, call-lent, settled-none, settled-some}
-use Rattle.period_way.proofs.one_factor.OneFactor.{factor-monic, factor-positive, refused-as, given-ten}
-use Rattle.period_way.proofs.one_factor.OneFactor.{given-eleven}
+use Rattle.rate_period.proofs.Answer.{call-rating, call-lent, settled-none, settled-some}
 
-module _ (p : ℕ) (f : Polynomial) (ts : List ℕ) (answer work : ℕ) (x : Multiple p f ts) where
+-- a factor that 10, 11 and 12 do not turn down
+module _ {p : ℕ} {f : Polynomial} (a : Accepted p f) where
+  pub factor-monic : T (isMonicOver (prime p) f)
+  factor-monic = accepted-monic (prime p) f (a .monicOver)
+
+  pub factor-positive : 1 ≤ degree f
+  factor-positive =
+      accepted-degree (prime p) f (monic-nonempty (prime p) f factor-monic) (a .degreeInRange)
+
+-- a refusal before 17
+pub refused-as :
+    {result : Result (Rated PowerFigures)} {answer work : List ℕ} {x : Refusal}
+    → result ≡ refused (numberOf x)
+    → clears (numberOf x) ≡ false
+    → RatedAs result answer work (PowerRating.Refused x) answer work
+unfolding toldPower figuresOf mapResult
+refused-as e other = record { rating = sym (ap figuresOf e); lent = lent-refused e other }
+
+module _ (p : ℕ) (f : Polynomial) (ts : List ℕ) (answer work : ℕ) (x : Checked p f ts) where
   -- the result with the monic multiple f
   abbrev result : Result (Rated PowerFigures)
   result = periodAnswer p false false f ts answer work
@@ -68,12 +86,13 @@ module _ (p : ℕ) (f : Polynomial) (ts : List ℕ) (answer work : ℕ) (x : Mul
   pub period-prime : T (primeInRange p)
   period-prime = prime-accepted p (x .accepted .fieldExists)
 
-  moved : firstOf (periodRest p f answer work) ≡ firstOf (periodChecks p f ts answer work)
-  moved = sym (period-rest p ts answer work (x .accepted .fieldExists) (x .countInRange) (x .termsInField) f)
+  rest-decides : firstOf (periodRest p f answer work) ≡ firstOf (periodChecks p f ts answer work)
+  rest-decides =
+      sym (period-rest p ts answer work (x .accepted .fieldExists) (x .countInRange) (x .termsInField) f)
 
   module _ {v : Verdict} (k : numberIn v ≡ firstOf (periodRest p f answer work)) where
     period-early : {r : Refusal} → v ≡ Verdict.Refused r → result ≡ refused (numberOf r)
-    period-early q = period-settled ∙ settle-early (periodChecks p f ts answer work) _ _ (k ∙ moved) q
+    period-early q = period-settled ∙ settle-early (periodChecks p f ts answer work) _ _ (k ∙ rest-decides) q
 
     module _ (q : v ≡ Verdict.Accepted) where
       passes : Passes (periodRest p f answer work)
@@ -110,11 +129,11 @@ module _ (p : ℕ) (f : Polynomial) (ts : List ℕ) (answer work : ℕ) (x : Mul
               → result ≡ ratingFound (prime p) f ts (periodPower (prime p) f ts)
           go none z =
               period-settled
-              ∙ settled-none (prime p) f ts _ seventeen _ (k ∙ moved) q (ap isNone z)
+              ∙ settled-none (prime p) f ts _ seventeen _ (k ∙ rest-decides) q (ap isNone z)
               ∙ ap (ratingFound (prime p) f ts) (sym z)
           go (some r) z =
               period-settled
-              ∙ settled-some (prime p) f ts _ seventeen _ (k ∙ moved) q (ap isNone z) z
+              ∙ settled-some (prime p) f ts _ seventeen _ (k ∙ rest-decides) q (ap isNone z) z
               ∙ ap (ratingFound (prime p) f ts) (sym z)
 
       module _ {F : Field} (h : F ≡ prime p) where
@@ -130,6 +149,7 @@ module _ (p : ℕ) (f : Polynomial) (ts : List ℕ) (answer work : ℕ) (x : Mul
               atLeastOne = count-accepted (length ts) (x .countInRange) .0;
               monic = rw h (factor-monic (x .accepted));
               degreeInRange = rw h (x .accepted .degreeInRange);
+              short = accepted-short (x .accepted);
               inField = period-input .inField;
               annihilates =
                   λ r z. periodPower-least F f ts (period-input .atLeastOne) (sym (y .power) ∙ z)
@@ -140,7 +160,7 @@ module _ (p : ℕ) (f : Polynomial) (ts : List ℕ) (answer work : ℕ) (x : Mul
             }
 
 -- the inner function
-module _ (p : ℕ) (f ts answer work : List ℕ) (m : Multiple p f ts) {v : Verdict}
+module _ (p : ℕ) (f ts answer work : List ℕ) (m : Checked p f ts) {v : Verdict}
     (e : numberIn v ≡ firstOf (periodRest p f (length answer) (length work))) where
   pub period-refused :
       {x : Refusal}
@@ -166,37 +186,3 @@ module _ (p : ℕ) (f ts answer work : List ℕ) (m : Multiple p f ts) {v : Verd
         rating = call-rating p f ts h k y z;
         lent = call-lent p f ts h k y z (count-accepted (length ts) (m .countInRange) .0) (x .work);
       }
-
--- the call
-module _ (p : ℕ) (f ts answer work : List ℕ) {v : Verdict} (e : numberIn v
-    ≡ firstOf (givenTable p f ts)) where
-  pub given-refused :
-      {x : Refusal}
-      → v ≡ Verdict.Refused x
-      → PeriodCall p f ts answer work (PowerRating.Refused x) answer work
-  unfolding ratePeriod periodAnswer givenTable termsTable oneFactorTable holdsForSome clears clearing
-  given-refused q =
-      let g = monicMultiple (prime p) f in
-      let z =
-      ap (λ table. settle table (λ _. bind (periodPower (prime p) g ts) (powerRating (prime p) g ts)))
-      (period-parts p ts (length answer) (length work) f g)
-      ∙ settle-given (givenTable p f ts) _ _ e q in
-      let y = refused-as z (never-clears (givenTable p f ts) refl e q) in
-      record { rating = y .rating; lent = y .lent }
-
-  pub given-rated :
-      {r : PowerRating} {answer′ work′ g : List ℕ}
-      → v ≡ Verdict.Accepted
-      → g ≡ monicMultiple (prime p) f
-      → RatedAs (periodAnswer p false false g ts (length answer) (length work)) answer work r answer′ work′
-      → PeriodCall p f ts answer work r answer′ work′
-  unfolding ratePeriod
-  given-rated {r} {answer′} {work′} q k x =
-      let same : periodAnswer p false false _ ts (length answer) (length work)
-      ≡ ratePeriod p f ts (length answer) (length work) =
-      ap (λ (g : Polynomial). periodAnswer p false false g ts (length answer) (length work)) k
-      ∙ sym
-      (ap₂ (λ a b. periodAnswer p a b (monicMultiple (prime p) f) ts (length answer) (length work))
-      (given-ten p f ts e q) (given-eleven p f ts e q)) in
-      let y = subst (λ z. RatedAs z answer work r answer′ work′) same x in
-      record { rating = y .rating; lent = y .lent }

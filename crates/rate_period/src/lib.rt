@@ -1,21 +1,51 @@
 // The rating of a period with one factor.
 use arith::GaloisField;
 use meaning::PowerRating;
-use period_way::one_factor::rated;
+use meaning::Refusal;
+use period_way::Found;
 use period_way::period_power;
 use poly::multiples::monic_multiple;
+use powers::product::write_power;
 use refusals::Verdict;
 use refusals::ratings::given_verdict;
 use refusals::ratings::period_verdict;
+use repeat::shortest::shortest_period;
+ghost use Prim.Native.Nat.{_≤_};
 ghost use mathlib.Core.Bool.{false};
 ghost use lib.ListN.{length};
 ghost use Rattle.meaning.specs.Period.{periodAnswer};
 ghost use Rattle.meaning.specs.Calls.{PeriodCall};
-ghost use Rattle.arith.specs.Represented.{FieldOfPrime};
-ghost use Rattle.period_way.specs.one_factor.OneFactor.{Multiple, RatedAs};
+ghost use Rattle.arith.specs.Represented.{fieldOf, WellFormed, FieldOfPrime};
+ghost use Rattle.period_way.specs.Period.{told};
+ghost use Rattle.rate_period.specs.Ratings.{Answerable, FoundRated, Checked, RatedAs};
 
-// The rating with the monic multiple f of a factor, where 6, 7, 8, 10 and 11 turn nothing down.
-fn rate_multiple(
+// The answer with the power of f that was found for the terms, and their shortest period. Writes f to this
+// power at the front of the answer bytes, and leaves all beyond its degree as it was. If nothing was found,
+// the answer is 17, and the answer bytes stay as they were.
+fn rated(field: GaloisField, answer: &mut [u8], f: &[u8], terms: &[u8], found: Found) -> PowerRating
+    requires { ⌜ WellFormed field ⌝ }
+    requires { ⌜ 4097 ≤ length (now answer) ⌝ }
+    requires { ⌜ Answerable (fieldOf field) (now f) (now terms) (told found) ⌝ }
+    ensures { λ r. ⌜ FoundRated (fieldOf field) (now (f .entry)) (now (terms .entry)) (told found)
+        (now (answer .entry)) r (now (answer .exit)) ⌝ }
+{
+    match found {
+        Found::Nothing => PowerRating::Refused(Refusal::NotAnnihilated),
+        Found::Power(power) => {
+            let degree = write_power(field, answer, f, power);
+            let repeat = shortest_period(terms, degree as usize) as u64;
+            PowerRating::Rated {
+                power,
+                degree,
+                repeat,
+            }
+        }
+    }
+}
+
+// The rating with the monic factor f, once 6, 7, 8, 10 and 11 let p, f and the terms pass. It leaves all lent
+// bytes as `rate_period` does.
+pub fn rate_checked(
     field: GaloisField,
     p: u64,
     f: &[u8],
@@ -24,7 +54,7 @@ fn rate_multiple(
     work: &mut [u8],
 ) -> PowerRating
     requires { ⌜ FieldOfPrime p field ⌝ }
-    requires { ⌜ Multiple p (now f) (now terms) ⌝ }
+    requires { ⌜ Checked p (now f) (now terms) ⌝ }
     ensures { λ r. ⌜ RatedAs (periodAnswer p false false (now (f .entry)) (now (terms .entry))
         (length (now (answer .entry))) (length (now (work .entry))))
         (now (answer .entry)) (now (work .entry)) r (now (answer .exit)) (now (work .exit)) ⌝ }
@@ -38,11 +68,11 @@ fn rate_multiple(
     }
 }
 
-// The least power of the factor that annihilates the endless repetition of the terms, with the degree of the
-// factor to this power and the repeat length, which is their shortest period; or the refusal by 6, 7, 8, 10,
-// 11, 12, 16 or 17. The factor stands for its monic multiple. Accepted, it leaves the multiple to the least
-// power at the front of the answer; accepted or refused by 17, zeros in the first 8,192 work bytes. Every
-// other lent byte stays as it was.
+// The least power of the factor that annihilates the endless repetition of the terms; the degree of the
+// factor to this power; and the repeat length, which is the shortest period of the terms. Or the refusal by
+// 6, 7, 8, 10, 11, 12, 16 or 17. The factor stands for its monic multiple. If it accepts, it writes the
+// multiple to the least power at the front of the answer. If it accepts or refuses by 17, it clears the first
+// 8,192 work bytes. Every other lent byte stays as it was.
 pub fn rate_period(
     p: u64,
     factor: &[u8],
@@ -59,7 +89,7 @@ pub fn rate_period(
             let field = GaloisField::of_prime(p);
             let mut multiple = [0u8; 33];
             monic_multiple(field, factor, &mut multiple);
-            rate_multiple(field, p, &multiple[0..factor.len()], terms, answer, work)
+            rate_checked(field, p, &multiple[0..factor.len()], terms, answer, work)
         }
     }
 }

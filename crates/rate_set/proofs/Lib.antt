@@ -1,4 +1,3 @@
 pub mod SetWay
 pub mod Powered
-pub mod Parts
 pub mod Given

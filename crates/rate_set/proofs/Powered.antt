@@ -1,7 +1,9 @@
 -- What the repeat length asks of the factors and the powers that are found.
 --
---   product-powered == factors whose powers can be written as a product, of degrees up to 32
---   accepted-degrees == the degrees of monic multiples that 6 to 10 let pass
+--   product-powered == factors whose powers can be written as a product
+--   checked-few     == there are at most eight
+--   accepted-lengths == the lengths of monic multiples that 6 to 10 let pass
+--   factors-suited  == monic multiples that are not turned down are suited
 -- Assumes nothing.
 use Prim.Native.Nat.{ℕ, _*_, _≤_, _<_}
 use native.Mathlib.Nat.{le-mul-of-pos-right}
@@ -9,17 +11,22 @@ use native.Mathlib.Omega.{arith}
 use mathlib.Core.Path.{_≡_, sym, ap, subst, _∙_}
 use mathlib.Core.List.{List, []}
 use lib.ListN.{length, getD}
+use lib.Dec.{T, eqb, ltb}
+use borrow.Author.Tests.{ltb-false}
 use Rattle.meaning.specs.Field.{Field, prime}
-use Rattle.meaning.specs.Polynomial.{Polynomial, degree}
-use Rattle.meaning.specs.Conditions.{named, factorDegreeOutOfRange, notMonic}
-use Rattle.bridge.proofs.Searches.{none-at}
-use Rattle.bridge.proofs.Products.{factorAt, powerAt, length-named, powerAt-named, factorAt-named}
+use Rattle.meaning.specs.Polynomial.{Polynomial, degree, irreducible}
+use Rattle.meaning.specs.Conditions.{named, factorCountOutOfRange, factorDegreeOutOfRange, notMonic}
+use Rattle.bridge.proofs.Lists.Irreducibles.{Factors}
+use Rattle.bridge.proofs.Basics.Searches.{or-false, none-at}
+use Rattle.bridge.proofs.Lists.Products.{factorAt, powerAt, length-named, powerAt-named, factorAt-named}
 use Rattle.irreducible.specs.Accepted.{Accepted}
 use Rattle.irreducible.proofs.Accepted.{accepted-short}
 use Rattle.powers.specs.product.Writing.{ProductInput}
 use Rattle.powers.proofs.product.Totals.{total-part}
-use Rattle.orders.specs.Factors.{PoweredFactors}
-use Rattle.rate_set.specs.Multiples.{Multiples}
+use Rattle.repeat.specs.orders.Orders.{Suited}
+use Rattle.repeat.specs.Factors.{PoweredFactors}
+use Rattle.repeat.proofs.orders.Accepted.{accepted-suited}
+use Rattle.rate_set.specs.Ratings.{Checked}
 
 module _ {F : Field} {fs : List Polynomial} {rs : List ℕ} (x : ProductInput F fs rs) where
   part : (i : ℕ) → i < length fs
@@ -38,28 +45,28 @@ module _ {F : Field} {fs : List Polynomial} {rs : List ℕ} (x : ProductInput F 
         x .small,
       )
 
-  pub product-powered :
-      ((i : ℕ) → i < length fs → degree (getD fs i []) ≤ 32) → PoweredFactors F fs rs
-  product-powered short =
+  pub product-powered : ((i : ℕ) → i < length fs → Suited F (getD fs i [])) → PoweredFactors F fs rs
+  product-powered suited = record { suited = suited; named = x .enough; small = power-few }
+
+module _ {p : ℕ} {fs : List Polynomial} {ts : List ℕ} (m : Checked p fs ts) where
+  pub accepted-at : (i : ℕ) → i < length fs → Accepted p (getD fs i [])
+  accepted-at i k =
       record {
-        moduli =
-            λ i k. record { monic = x .monic i k; positive = x .positive i k; small = short i k };
-        named = x .enough;
-        small = power-few;
+        fieldExists = m .fieldExists;
+        degreeInRange = none-at (factorDegreeOutOfRange (prime p)) [] fs i (m .degreesInRange) k;
+        monicOver = none-at (notMonic (prime p)) [] fs i (m .monic) k;
       }
 
-pub accepted-degrees :
-    {p : ℕ} {fs : List Polynomial} {ts : List ℕ}
-    → Multiples p fs ts
-    → (i : ℕ)
-    → i < length fs
-    → degree (getD fs i []) ≤ 32
-unfolding degree
-accepted-degrees {p} {fs} m i k =
-    let a : Accepted p (getD fs i []) =
-    record {
-      fieldExists = m .fieldExists;
-      degreeInRange = none-at (factorDegreeOutOfRange (prime p)) [] fs i (m .degreesInRange) k;
-      monicOver = none-at (notMonic (prime p)) [] fs i (m .monic) k;
-    } in
-    omega (arith, accepted-short a)
+  pub checked-few : length fs ≤ 8
+  unfolding factorCountOutOfRange
+  checked-few =
+      let n = length fs in ltb-false 8 n (or-false (eqb n 0) (ltb 8 n) (m .factorCount) .1)
+
+  pub accepted-lengths : (i : ℕ) → i < length fs → length (getD fs i []) ≤ 33
+  accepted-lengths i k = accepted-short (accepted-at i k)
+
+  pub factors-suited :
+      {F : Field} → F ≡ prime p → Factors F fs → (i : ℕ) → i < length fs → Suited F (getD fs i [])
+  factors-suited {F} e x i k =
+      accepted-suited (accepted-at i k) e
+      (subst (λ G. T (irreducible G (getD fs i []))) e (x .irreducibles i k))

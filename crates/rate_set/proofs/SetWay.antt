@@ -14,8 +14,6 @@ use mathlib.Core.Bool.{Bool, true, false, not}
 use mathlib.Core.List.{List}
 use mathlib.Core.Option.{some}
 use lib.ListN.{length, replicate}
-use lib.Dec.{eqb, ltb}
-use borrow.Author.Tests.{ltb-false}
 use Rattle.meaning.specs.declared.Refusal.{Refusal}
 use Rattle.meaning.specs.declared.SetOutcome.{SetOutcome}
 use Rattle.meaning.specs.declared.SetRating.{SetRating}
@@ -23,7 +21,7 @@ use Rattle.meaning.specs.Search.{holdsForSome}
 use Rattle.meaning.specs.Field.{Field, prime}
 use Rattle.meaning.specs.Polynomial.{Polynomial, degree, product}
 use Rattle.meaning.specs.Sequence.{annihilatesKnown}
-use Rattle.meaning.specs.Conditions.{named, factorCountOutOfRange, totalDegree}
+use Rattle.meaning.specs.Conditions.{named, totalDegree}
 use Rattle.meaning.specs.Result.{Result, refused, answered, mapResult, firstOf, valueOf, Rated, figuresOf}
 use Rattle.meaning.specs.Result.{written, cleared, clearing, clears}
 use Rattle.meaning.specs.RepeatLength.{repeatLength}
@@ -31,14 +29,14 @@ use Rattle.meaning.specs.Portion.{SetFigures, factorsOf, setPowers, onward, set
 use Rattle.meaning.specs.Answers.{numberOf, toldSet, setFiguresTold, padded, setPadded}
 use Rattle.meaning.specs.Calls.{LentAfter}
 use Rattle.meaning.proofs.Passes.{Passes}
-use Rattle.bridge.proofs.Searches.{or-false, mapOption-some}
-use Rattle.bridge.proofs.Interpretation.{IsField}
-use Rattle.bridge.proofs.Accepted.{count-accepted, terms-accepted, enough-accepted}
-use Rattle.bridge.proofs.Products.{monics-nonempty, factorsOf-named}
-use Rattle.bridge.proofs.Irreducibles.{Factors, accepted-factors}
-use Rattle.bridge.proofs.Portions.{setPowers-exists}
-use Rattle.bridge.proofs.CommonOrders.{repeatByOrders}
-use Rattle.bridge.proofs.RepeatLengths.{set-repeatLength}
+use Rattle.bridge.proofs.Basics.Searches.{mapOption-some}
+use Rattle.bridge.proofs.Basics.Interpretation.{IsField}
+use Rattle.bridge.proofs.Ways.Accepted.{count-accepted, terms-accepted, enough-accepted, lent-enough}
+use Rattle.bridge.proofs.Lists.Products.{monics-nonempty, factorsOf-named}
+use Rattle.bridge.proofs.Lists.Irreducibles.{Factors, accepted-factors}
+use Rattle.bridge.proofs.Ways.Portions.{setPowers-exists}
+use Rattle.bridge.proofs.Sequences.CommonOrders.{repeatByOrders}
+use Rattle.bridge.proofs.Sequences.RepeatLengths.{set-repeatLength}
 use Rattle.refusals.specs.declared.Verdict.{Verdict}
 use Rattle.refusals.specs.Verdicts.{numberIn, multiplesTable, powersTable, lentTable, setRest, setChecks}
 use Rattle.refusals.proofs.Settled.{verdict-passes, settle-early, settle-last, settle-over, set-last}
@@ -49,12 +47,10 @@ use Rattle.set_way.specs.SetWay.{SetFound}
 use Rattle.set_way.proofs.actions.Inputs.{input-monics}
 use Rattle.set_way.proofs.Answers.{answer-annihilated, answer-powers}
 use Rattle.set_way.proofs.Sizes.{set-count, set-eight, set-product, named-padded}
-use Rattle.bridge.proofs.Accepted.{lent-enough}
-use Rattle.refusals.proofs.Lent.{clearingIn, never-clears, lent-refused, lent-seventeen}
-use Rattle.refusals.proofs.Lent.{lent-rated}
-use Rattle.orders.specs.Factors.{PoweredFactors}
-use Rattle.rate_set.specs.Multiples.{Multiples, SetRatedAs}
-use Rattle.rate_set.proofs.Powered.{product-powered, accepted-degrees}
+use Rattle.refusals.proofs.Lent.{clearingIn, never-clears, lent-refused, lent-seventeen, lent-rated}
+use Rattle.repeat.specs.Factors.{PoweredFactors}
+use Rattle.rate_set.specs.Ratings.{Checked, SetRatedAs}
+use Rattle.rate_set.proofs.Powered.{product-powered, checked-few, accepted-lengths, factors-suited}
 
 -- A refusal tells its number and no powers.
 pub refused-call :
@@ -121,20 +117,20 @@ none-clears :
 unfolding setRest multiplesTable powersTable lentTable holdsForSome clears clearing
 none-clears p fs us ts answer work = refl
 
-module _ (p : ℕ) (fs : List Polynomial) (us ts : List ℕ) (answer work : ℕ) (m : Multiples p fs ts) where
+module _ (p : ℕ) (fs : List Polynomial) (us ts : List ℕ) (answer work : ℕ) (m : Checked p fs ts) where
   -- the result with the monic multiples
   abbrev result : Result (Rated SetFigures)
   result = setAnswer p false false (named fs us) ts answer work
 
-  moved : firstOf (setRest p fs us ts answer work) ≡ firstOf (setChecks p fs us ts answer work)
-  moved =
+  rest-decides : firstOf (setRest p fs us ts answer work) ≡ firstOf (setChecks p fs us ts answer work)
+  rest-decides =
       sym
       (set-rest p ts answer work (m .fieldExists) (m .countInRange) (m .termsInField) fs us (m .factorCount))
 
   module _ {v : Verdict} (k : numberIn v ≡ firstOf (setRest p fs us ts answer work)) where
     set-early : {x : Refusal} → v ≡ Verdict.Refused x → result ≡ refused (numberOf x)
     unfolding setAnswer
-    set-early q = rw (set-last p ts answer work fs us) (settle-early _ _ _ (k ∙ moved) q)
+    set-early q = rw (set-last p ts answer work fs us) (settle-early _ _ _ (k ∙ rest-decides) q)
 
     module _ (q : v ≡ Verdict.Accepted) where
       passes : Passes (setRest p fs us ts answer work)
@@ -145,15 +141,14 @@ module _ (p : ℕ) (fs : List Polynomial) (us ts : List ℕ) (answer work : ℕ)
       set-lent = lent-enough answer work (passes .lentEnough)
 
       accepted-input : SetInput (prime p) fs us ts
-      unfolding setRest multiplesTable powersTable lentTable factorCountOutOfRange
+      unfolding setRest multiplesTable powersTable lentTable
       accepted-input =
-          let n = length fs in
-          let few = ltb-false 8 n (or-false (eqb n 0) (ltb 8 n) (m .factorCount) .1) in
           record {
             factors =
                 accepted-factors p fs (m .fieldExists) (m .degreesInRange) (m .monic) (passes .irreducible)
                 (passes .different);
-            eight = few;
+            short = accepted-lengths m;
+            eight = checked-few m;
             uppers = passes .uppersInRange;
             enough = enough-accepted (totalDegree (named fs us)) ts (passes .enoughTerms);
             inField = terms-accepted p ts (m .termsInField);
@@ -164,7 +159,8 @@ module _ (p : ℕ) (fs : List Polynomial) (us ts : List ℕ) (answer work : ℕ)
           annihilatesKnown (prime p) (product (prime p) (named fs us)) ts ≡ false
           → result ≡ refused 17
       unfolding setAnswer
-      not-annihilated h = rw (set-last p ts answer work fs us) (settle-last _ _ _ (k ∙ moved) q (ap not h))
+      not-annihilated h =
+          rw (set-last p ts answer work fs us) (settle-last _ _ _ (k ∙ rest-decides) q (ap not h))
 
       annihilated :
           (rs : List ℕ)
@@ -174,7 +170,7 @@ module _ (p : ℕ) (fs : List Polynomial) (us ts : List ℕ) (answer work : ℕ)
       unfolding setAnswer valueOf
       annihilated rs h i =
           rw (set-last p ts answer work fs us)
-          (settle-over _ _ _ (k ∙ moved) q (ap not h)
+          (settle-over _ _ _ (k ∙ rest-decides) q (ap not h)
           ∙ ap valueOf (mapOption-some (setRating (prime p) (named fs us) ts) i))
 
       -- the field as the code has it
@@ -204,9 +200,9 @@ module _ (p : ℕ) (fs : List Polynomial) (us ts : List ℕ) (answer work : ℕ)
               subst (ProductInput F fs) (sym (answer-powers I set-input y n s)) (set-product I set-input s)
 
           pub set-powered : b ≡ true → PoweredFactors F fs powers
-          set-powered n = product-powered (set-powers-input n) (accepted-degrees m)
+          set-powered n = product-powered (set-powers-input n) (factors-suited m h (set-input .factors))
 
-module _ (p : ℕ) (fs : List Polynomial) (us ts answer work : List ℕ) (m : Multiples p fs ts)
+module _ (p : ℕ) (fs : List Polynomial) (us ts answer work : List ℕ) (m : Checked p fs ts)
     {v : Verdict} (e : numberIn v ≡ firstOf (setRest p fs us ts (length answer) (length work))) where
   pub set-refused :
       {x : Refusal} {s : SetRating}

@@ -19,7 +19,7 @@ use Rattle.meaning.specs.Answers.{numberOf}
 use Rattle.meaning.specs.Calls.{LentAfter}
 use Rattle.meaning.proofs.Tables.{firstOf-skip, firstOf-stop}
 use Rattle.meaning.proofs.Passes.{nothing}
-use Rattle.bridge.proofs.Searches.{none-uncons}
+use Rattle.bridge.proofs.Basics.Searches.{none-uncons}
 use Rattle.refusals.specs.declared.Verdict.{Verdict}
 use Rattle.refusals.specs.Verdicts.{numberIn}
 

@@ -67,6 +67,3 @@ module _ (A B C : List Check) {u v : Verdict} (eu : numberIn u ≡ firstOf A) (e
   pub refused-second : {r : Refusal} → v ≡ Verdict.Refused r
       → numberIn (Verdict.Refused r) ≡ firstOf (A ++ (B ++ C))
   refused-second q = refused-before B C ev q ∙ sym (accepted-before A (B ++ C) eu first)
-
-  pub accepted-both : v ≡ Verdict.Accepted → firstOf (A ++ (B ++ C)) ≡ firstOf C
-  accepted-both q = accepted-before A (B ++ C) eu first ∙ accepted-before B C ev q

@@ -18,11 +18,10 @@ use Rattle.meaning.specs.Conditions.{factorDegreeOutOfRange, coefficientOutOfRa
 use Rattle.meaning.specs.Period.{periodTable, periodPower}
 use Rattle.meaning.specs.Portion.{setTable}
 use Rattle.meaning.proofs.Tables.{firstOf-skip}
-use Rattle.bridge.proofs.Products.{length-named, factorsOf-named}
+use Rattle.bridge.proofs.Lists.Products.{length-named, factorsOf-named}
 use Rattle.refusals.specs.Verdicts.{termsTable, oneFactorTable, factorsTable, multiplesTable}
-use Rattle.refusals.specs.Verdicts.{powersTable}
-use Rattle.refusals.specs.Verdicts.{lentTable, allButLast, givenTable, givenSetTable, periodRest}
-use Rattle.refusals.specs.Verdicts.{setRest, periodChecks, setChecks}
+use Rattle.refusals.specs.Verdicts.{powersTable, lentTable, allButLast, givenTable, givenSetTable}
+use Rattle.refusals.specs.Verdicts.{periodRest, setRest, periodChecks, setChecks}
 
 module _ (p : ℕ) (ts : List ℕ) (answer work : ℕ) where
   pub period-parts : (f g : Polynomial)

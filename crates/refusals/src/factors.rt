@@ -1,16 +1,18 @@
 // The conditions on factors in their order. As they are given: 10 and 11 for the factor of a period, 9 to 11
 // for the factors of a set; 12 and 13 for the monic multiples of these.
 use crate::Verdict;
-use conditions::factors::FactorCondition;
-use conditions::factors::holds_for_some;
-use conditions::factors::two_equal;
-use conditions::lists::coefficient_out_of_range;
-use conditions::lists::factor_degree_out_of_range;
-use conditions::numbers::factor_count_out_of_range;
+use crate::conditions::factors::FactorCondition;
+use crate::conditions::factors::holds_for_some;
+use crate::conditions::factors::some_reducible;
+use crate::conditions::factors::two_equal;
+use crate::conditions::lists::coefficient_out_of_range;
+use crate::conditions::lists::factor_degree_out_of_range;
+use crate::conditions::numbers::factor_count_out_of_range;
 use meaning::Refusal;
 ghost use mathlib.Core.Path.{_≡_};
 ghost use Rattle.meaning.specs.Result.{firstOf};
 ghost use Rattle.meaning.specs.Slices.{listsOf};
+ghost use Rattle.refusals.specs.conditions.factors.Factors.{AllAccepted};
 ghost use Rattle.refusals.specs.Verdicts.{numberIn, oneFactorTable, factorsTable, multiplesTable};
 
 // One factor: 10, 11.
@@ -44,9 +46,10 @@ pub fn factors_verdict(p: u64, factors: &[&[u8]]) -> Verdict
 
 // The monic multiples of the factors of a set: 12, 13.
 pub fn multiples_verdict(p: u64, multiples: &[&[u8]]) -> Verdict
+    requires { ⌜ AllAccepted p (listsOf (now multiples)) ⌝ }
     ensures { λ r. ⌜ numberIn r ≡ firstOf (multiplesTable p (listsOf (now (multiples .entry)))) ⌝ }
 {
-    if holds_for_some(FactorCondition::Reducible, p, multiples) {
+    if some_reducible(p, multiples) {
         return Verdict::Refused(Refusal::Reducible);
     }
     if two_equal(multiples) {

@@ -1,19 +1,21 @@
 // The conditions of the numbered list of refusals in their order, one function for each call: the first that
-// holds, but for 17. Each answers for any numbers and slices of any length, and changes no lent byte.
+// holds, but for 17. Each answers for any numbers and slices of any length, but for those from 12 on, which
+// assume that 6, 10 and 11 let the factors pass; none changes a lent byte.
+pub mod conditions;
 mod factors;
 pub mod numbering;
 pub mod ratings;
 
-use conditions::lists::coefficient_out_of_range;
-use conditions::lists::continuation_degree_out_of_range;
-use conditions::lists::factor_degree_out_of_range;
-use conditions::lists::start_unlike_degree;
-use conditions::lists::term_out_of_field;
-use conditions::numbers::count_out_of_range;
-use conditions::numbers::lent_too_short;
-use conditions::numbers::meter_full;
-use conditions::numbers::not_prime;
-use conditions::numbers::place_out_of_range;
+use crate::conditions::lists::coefficient_out_of_range;
+use crate::conditions::lists::continuation_degree_out_of_range;
+use crate::conditions::lists::factor_degree_out_of_range;
+use crate::conditions::lists::start_unlike_degree;
+use crate::conditions::lists::term_out_of_field;
+use crate::conditions::numbers::count_out_of_range;
+use crate::conditions::numbers::lent_too_short;
+use crate::conditions::numbers::meter_full;
+use crate::conditions::numbers::not_prime;
+use crate::conditions::numbers::place_out_of_range;
 use meaning::Refusal;
 ghost use mathlib.Core.Path.{_≡_};
 ghost use Rattle.meaning.specs.Result.{firstOf};
@@ -45,8 +47,8 @@ pub fn terms_verdict(p: u64, terms: &[u8]) -> Verdict
     Verdict::Accepted
 }
 
-// 16: what all ways of rating meet last, 17 apart.
-fn lent_verdict(answer: usize, work: usize) -> Verdict
+// 16: what all ways of rating meet last, but for 17.
+pub fn lent_verdict(answer: usize, work: usize) -> Verdict
     ensures { λ r. ⌜ numberIn r ≡ firstOf (lentTable answer work) ⌝ }
 {
     if lent_too_short(answer, work) {

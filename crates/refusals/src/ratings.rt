@@ -1,39 +1,43 @@
 // The conditions of the period way and the set way in their order, all but the last, 17: those on what is
 // given, and then those on the monic multiples for which the factors stand.
 use crate::Verdict;
+use crate::conditions::factors::upper_powers_out_of_range;
+use crate::conditions::lists::fewer_terms_than;
+use crate::conditions::lists::reducible;
 use crate::factors::factor_verdict;
 use crate::factors::factors_verdict;
 use crate::factors::multiples_verdict;
 use crate::lent_verdict;
 use crate::terms_verdict;
-use conditions::factors::upper_powers_out_of_range;
-use conditions::lists::fewer_terms_than;
-use conditions::lists::reducible;
 use meaning::Refusal;
-use poly::factors::total_degree;
 ghost use mathlib.Core.Path.{_≡_};
 ghost use Rattle.meaning.specs.Result.{firstOf};
 ghost use Rattle.meaning.specs.Conditions.{named};
 ghost use Rattle.meaning.specs.Slices.{listsOf};
-ghost use Rattle.refusals.specs.Verdicts.{numberIn, powersTable, givenTable, givenSetTable};
-ghost use Rattle.refusals.specs.Verdicts.{periodRest, setRest};
+ghost use Rattle.poly.specs.factors.Degrees.{cappedDegree};
+ghost use Rattle.irreducible.specs.Accepted.{Accepted};
+ghost use Rattle.refusals.specs.conditions.factors.Factors.{AllAccepted};
+ghost use Rattle.refusals.specs.Verdicts.{numberIn, powersTable, givenTable, givenSetTable, periodRest};
+ghost use Rattle.refusals.specs.Verdicts.{setRest};
 
-// What the upper powers, the number of terms and the lent bytes decide: 14, 15, 16.
+// What the upper powers, their total degree, the number of terms and the lent bytes decide: 14, 15, 16.
 fn powers_verdict(
     factors: &[&[u8]],
     uppers: &[u64],
+    degree: usize,
     terms: &[u8],
     answer: usize,
     work: usize,
 ) -> Verdict
+    requires { ⌜ degree ≡ cappedDegree (named (listsOf (now factors)) (now uppers)) ⌝ }
     ensures { λ r. ⌜ numberIn r
         ≡ firstOf (powersTable (named (listsOf (now (factors .entry))) (now (uppers .entry)))
         (now (terms .entry)) answer work) ⌝ }
 {
-    if upper_powers_out_of_range(factors, uppers) {
+    if upper_powers_out_of_range(factors, uppers, degree) {
         return Verdict::Refused(Refusal::UpperPowers);
     }
-    if fewer_terms_than(total_degree(factors, uppers), terms) {
+    if fewer_terms_than(degree, terms) {
         return Verdict::Refused(Refusal::TooFewTerms);
     }
     lent_verdict(answer, work)
@@ -62,6 +66,7 @@ pub fn given_set_verdict(p: u64, factors: &[&[u8]], terms: &[u8]) -> Verdict
 
 // The period way after that: 12, 16.
 pub fn period_verdict(p: u64, multiple: &[u8], answer: usize, work: usize) -> Verdict
+    requires { ⌜ Accepted p (now multiple) ⌝ }
     ensures { λ r. ⌜ numberIn r ≡ firstOf (periodRest p (now (multiple .entry)) answer work) ⌝ }
 {
     if reducible(p, multiple) {
@@ -70,21 +75,24 @@ pub fn period_verdict(p: u64, multiple: &[u8], answer: usize, work: usize) -> Ve
     lent_verdict(answer, work)
 }
 
-// The set way after that: 12 to 16.
+// The set way after that, with the total degree of the upper powers: 12 to 16.
 pub fn set_verdict(
     p: u64,
     multiples: &[&[u8]],
     uppers: &[u64],
+    degree: usize,
     terms: &[u8],
     answer: usize,
     work: usize,
 ) -> Verdict
+    requires { ⌜ AllAccepted p (listsOf (now multiples)) ⌝ }
+    requires { ⌜ degree ≡ cappedDegree (named (listsOf (now multiples)) (now uppers)) ⌝ }
     ensures { λ r. ⌜ numberIn r
         ≡ firstOf (setRest p (listsOf (now (multiples .entry))) (now (uppers .entry)) (now (terms .entry))
         answer work) ⌝ }
 {
     match multiples_verdict(p, multiples) {
         Verdict::Refused(r) => Verdict::Refused(r),
-        Verdict::Accepted => powers_verdict(multiples, uppers, terms, answer, work),
+        Verdict::Accepted => powers_verdict(multiples, uppers, degree, terms, answer, work),
     }
 }

@@ -24,11 +24,11 @@ use Rattle.meaning.specs.Result.{cleared}
 use Rattle.meaning.specs.Conditions.{named, totalDegree}
 use Rattle.meaning.specs.Portion.{withPower, leastAt, setPowers}
 use Rattle.meaning.specs.Answers.{padded}
-use Rattle.bridge.proofs.Searches.{mapOption-none, mapOption-some}
-use Rattle.bridge.proofs.Interpretation.{IsField}
-use Rattle.bridge.proofs.Products.{Nonempties, monics-nonempty}
-use Rattle.bridge.proofs.Continuations.{take-elements}
-use Rattle.bridge.proofs.Portions.{setPowers-exists}
+use Rattle.bridge.proofs.Basics.Searches.{mapOption-none, mapOption-some}
+use Rattle.bridge.proofs.Basics.Interpretation.{IsField}
+use Rattle.bridge.proofs.Lists.Products.{Nonempties, monics-nonempty}
+use Rattle.bridge.proofs.Sequences.Continuations.{take-elements}
+use Rattle.bridge.proofs.Ways.Portions.{setPowers-exists}
 use Rattle.poly.proofs.factors.Totals.{total-known}
 use Rattle.lent.proofs.halves.Bytes.{kept-trans, cleared-kept}
 use Rattle.set_way.specs.actions.SetActions.{SetInput, SetDecided}
@@ -79,6 +79,7 @@ module _ {F : Field} {fs : List Polynomial} {us ts : List ℕ} (x : SetInput F f
   front-input =
       record {
         factors = x .factors;
+        short = x .short;
         eight = x .eight;
         uppers = x .uppers;
         enough = ℕ.le-of-eq (sym front-length);

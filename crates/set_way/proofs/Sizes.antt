@@ -17,9 +17,9 @@ use Rattle.meaning.specs.Polynomial.{Polynomial, degree}
 use Rattle.meaning.specs.Conditions.{named, totalDegree}
 use Rattle.meaning.specs.Portion.{setPowers}
 use Rattle.meaning.specs.Answers.{padded}
-use Rattle.bridge.proofs.Interpretation.{IsField}
-use Rattle.bridge.proofs.Products.{Nonempties, monics-nonempty, length-named, powerAt-named}
-use Rattle.bridge.proofs.Portions.{leastAt-exists, setPowers-places}
+use Rattle.bridge.proofs.Basics.Interpretation.{IsField}
+use Rattle.bridge.proofs.Lists.Products.{Nonempties, monics-nonempty, length-named, powerAt-named}
+use Rattle.bridge.proofs.Ways.Portions.{leastAt-exists, setPowers-places}
 use Rattle.powers.specs.product.Writing.{ProductInput}
 use Rattle.set_way.specs.actions.SetActions.{SetInput}
 use Rattle.set_way.proofs.actions.Inputs.{input-monics, input-total}
@@ -91,6 +91,7 @@ module _ {F : Field} (I : IsField F) {fs : List Polynomial} {us ts : List ℕ} (
         record {
           monic = x .factors .monic;
           positive = x .factors .positive;
+          short = x .short;
           enough = omega (arith, set-count, length-append rs (replicate (8 - length rs) 0));
           small =
               omega (

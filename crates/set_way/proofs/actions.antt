@@ -1,3 +1,3 @@
 pub mod Inputs
-pub mod Others
+pub mod Passing
 pub mod Loaded

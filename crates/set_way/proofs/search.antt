@@ -1,1 +1,3 @@
-pub mod Least
+pub mod Halving
+pub mod Alone
+pub mod Parts

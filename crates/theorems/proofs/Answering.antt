@@ -7,13 +7,13 @@
 use Prim.Native.Nat.{ℕ, suc, _-_, _≤_, _<_}
 use native.Mathlib.Omega.{arith}
 use mathlib.Core.Path.{_≡_, refl, sym, ap, subst, _∙_}
-use mathlib.Core.Logic.{_⊎_, inl, inr}
+use mathlib.Core.Logic.{_⊎_, _↔_, inl, inr}
 use mathlib.Core.Bool.{Bool, true, false, true≢false}
 use mathlib.Core.List.{List, map}
 use mathlib.Core.Option.{Option, none, some, Option·some-injective}
 use lib.ListN.{length, take, length-append}
 use lib.Seq.{length-take-le}
-use lib.Dec.{ltb}
+use lib.Dec.{ltb, T-not, not-T}
 use borrow.Author.Tests.{ltb-false}
 use Rattle.meaning.specs.declared.PowerRating.{PowerRating}
 use Rattle.meaning.specs.declared.SetOutcome.{SetOutcome}
@@ -21,19 +21,19 @@ use Rattle.meaning.specs.declared.SetRating.{SetRating}
 use Rattle.meaning.specs.declared.FreeRating.{FreeRating}
 use Rattle.meaning.specs.declared.Filling.{Filling}
 use Rattle.meaning.specs.declared.Irreducibility.{Irreducibility}
-use Rattle.meaning.specs.Search.{holdsForAll, holdsForSome, isNone, bind}
+use Rattle.meaning.specs.Search.{holdsForAll, holdsForSome, isNone, bind, mapOption}
 use Rattle.meaning.specs.Field.{primeInRange}
-use Rattle.meaning.specs.Polynomial.{Polynomial, monicMultiple}
-use Rattle.meaning.specs.Sequence.{cut, continuation}
+use Rattle.meaning.specs.Polynomial.{Polynomial, monicMultiple, product}
+use Rattle.meaning.specs.Sequence.{cut, continuation, annihilatesKnown}
 use Rattle.meaning.specs.Result.{Result, Rated, answered, refused, figuresOf, mapResult, answerAfter}
 use Rattle.meaning.specs.Result.{workAfter}
 use Rattle.meaning.specs.Conditions.{named, factorDegreeOutOfRange}
 use Rattle.meaning.specs.Conditions.{notPrime, coefficientOutOfRange, isReducible, twoEqual}
 use Rattle.meaning.specs.Conditions.{placeOutOfRange, countOutOfRange}
 use Rattle.meaning.specs.Power.{PowerFigures, powerRating}
-use Rattle.meaning.specs.Period.{periodPower, periodTable, periodAnswer, ratePeriod}
-use Rattle.meaning.specs.Portion.{SetFigures, setRating, setTable, setAnswer, rateSet}
-use Rattle.meaning.specs.Free.{FreeFigures, freeRating, freeTable, rateFree}
+use Rattle.meaning.specs.Period.{NoPower, periodPower, periodTable, periodAnswer, ratePeriod}
+use Rattle.meaning.specs.Portion.{SetFigures, setPowers, setRating, setTable, setAnswer, rateSet}
+use Rattle.meaning.specs.Free.{FreeFigures, leastDegree, freeRating, freeTable, rateFree}
 use Rattle.meaning.specs.Continuation.{continueSequence, continueTable, filled}
 use Rattle.meaning.specs.Irreducibility.{askIrreducible, irreducibleTable}
 use Rattle.meaning.specs.Answers.{setFiguresTold, setPadded, toldPower, toldSet, toldFree}
@@ -43,27 +43,34 @@ use Rattle.meaning.proofs.Determined.{refusals, refusalOf}
 use Rattle.meaning.proofs.Determined.{period-call-determined, set-call-determined}
 use Rattle.meaning.proofs.Determined.{free-call-determined, continue-call-determined}
 use Rattle.meaning.proofs.Determined.{irreducible-call-determined}
+use Rattle.meaning.proofs.Tables.{isNone-none}
 use Rattle.meaning.proofs.Passes.{Passes}
 use Rattle.meaning.specs.Route.{lookUp}
-use Rattle.bridge.proofs.Searches.{settle-refused, settle-answered, bind-some, mapOption-some}
-use Rattle.bridge.proofs.Searches.{map-refused, or-false}
-use Rattle.bridge.proofs.Accepted.{lent-enough}
-use Rattle.bridge.proofs.Interpretation.{inRange-isField}
-use Rattle.bridge.proofs.Polynomials.{monic-nonempty}
-use Rattle.bridge.proofs.Products.{Nonempties, monics-nonempty, factorsOf-named}
-use Rattle.bridge.proofs.Actions.{length-cut}
-use Rattle.bridge.proofs.Multiples.{coefficients-lead, multiple-monic}
-use Rattle.bridge.proofs.Irreducibles.{Factors, multiples-factors, factors-monics}
-use Rattle.bridge.proofs.Portions.{setPowers-exists}
-use Rattle.bridge.proofs.Fitting.{leastDegree-some, leastDegree-least, polynomial-some}
-use Rattle.bridge.proofs.Repeats.{shortest-exists}
-use Rattle.bridge.proofs.Accepted.{prime-accepted, count-accepted, rating-of, power-rated}
-use Rattle.bridge.proofs.FileRatings.{period-size, set-size, free-size}
+use Rattle.bridge.proofs.Basics.Searches.{settle-refused, settle-answered, bind-some, mapOption-some}
+use Rattle.bridge.proofs.Basics.Searches.{map-refused, or-false, true-T, T-true}
+use Rattle.bridge.proofs.Ways.Accepted.{lent-enough}
+use Rattle.bridge.proofs.Basics.Interpretation.{inRange-isField}
+use Rattle.bridge.proofs.Lists.Polynomials.{monic-nonempty}
+use Rattle.bridge.proofs.Lists.Products.{Nonempties, monics-nonempty, factorsOf-named}
+use Rattle.bridge.proofs.Sequences.Actions.{length-cut}
+use Rattle.bridge.proofs.Lists.Multiples.{coefficients-lead, multiple-monic}
+use Rattle.bridge.proofs.Lists.Irreducibles.{Factors, multiples-factors, factors-monics}
+use Rattle.bridge.proofs.Ways.Periods.{periodPower-none, none-periodPower}
+use Rattle.bridge.proofs.Ways.Portions.{setPowers-exists}
+use Rattle.bridge.proofs.Ways.Fitting.{leastDegree-some, leastDegree-least, polynomial-some}
+use Rattle.bridge.proofs.Sequences.Repeats.{shortest-exists}
+use Rattle.bridge.proofs.Ways.Accepted.{prime-accepted, count-accepted, rating-of, power-rated}
+use Rattle.bridge.proofs.Files.FileRatings.{period-size, set-size, free-size}
 use Rattle.theorems.specs.Ratings.{GF}
 use Rattle.theorems.specs.Answering.{periodNumbers, setNumbers, freeNumbers}
 use Rattle.theorems.specs.Answering.{continueNumbers, irreducibleNumbers, Answered, Tells}
 use Rattle.theorems.specs.Answering.{PeriodAnswers, SetAnswers, FreeAnswers}
 use Rattle.theorems.specs.Answering.{ContinueAnswers, IrreducibleAnswers, PrimeAnswers}
+use Rattle.theorems.specs.Answering.{Decided, periodConditions, setConditions, freeConditions}
+use Rattle.theorems.specs.Answering.{continueConditions, irreducibleConditions, listConditions}
+use Rattle.theorems.specs.Answering.{listsConditions}
+use Rattle.theorems.proofs.Deciding.{map-decided, settle-decided, tested, then, meant, done}
+use Rattle.theorems.proofs.Ways.{OneFactor, multiple-of}
 use Rattle.theorems.proofs.Ways.{period-promise, set-promise, free-promise}
 use Rattle.theorems.proofs.Telling.{settle-tells, map-tells, Listed, meets, Sized, lent-after}
 use Rattle.theorems.proofs.Telling.{rating-answers, within}
@@ -105,15 +112,60 @@ period-listed : Listed periodNumbers
 unfolding Listed refusalOf refusals lookUp holdsForAll isNone
 period-listed = tt
 
+-- the value where nothing turns it down
+period-value :
+    (p : ℕ) (ten eleven : Bool) (f : Polynomial) (ts : List ℕ) (answer work : ℕ)
+    → Passes (periodTable p ten eleven f ts answer work)
+    → (a : Rated PowerFigures) × (bind (periodPower (GF p) f ts) (powerRating (GF p) f ts) ≡ some a)
+unfolding periodTable
+period-value p ten eleven f ts answer work h =
+    power-value p f ts (periodPower (GF p) f ts) (count-accepted (length ts) (h .countInRange) .0)
+    (present (periodPower (GF p) f ts) (h .annihilated))
+
 pub period-tells :
     (p : ℕ) (ten eleven : Bool) (f : Polynomial) (ts : List ℕ) (answer work : ℕ)
     → Tells periodNumbers (periodAnswer p ten eleven f ts answer work)
 unfolding periodAnswer periodTable
 period-tells p ten eleven f ts answer work =
-    settle-tells _ (periodTable p ten eleven f ts answer work)
-    (λ h.
-    power-value p f ts (periodPower (GF p) f ts) (count-accepted (length ts) (h .countInRange) .0)
-    (present (periodPower (GF p) f ts) (h .annihilated)))
+    settle-tells _ (periodTable p ten eleven f ts answer work) (period-value p ten eleven f ts answer work)
+
+-- 17: no power is found exactly if none annihilates the period
+period-seventeen :
+    (p : ℕ) (f : Polynomial) (ts : List ℕ)
+    → OneFactor p f
+    → 0 < length ts
+    → (isNone (periodPower (GF p) f ts) ≡ true) ↔ NoPower (GF p) f ts
+unfolding isNone
+period-seventeen p f ts x l = (
+  λ e.
+      periodPower-none (x .isField) f (x .monic) (x .positive) (x .irreducibility) ts l
+      (isNone-none (true-T e)),
+  λ h. ap isNone (none-periodPower (GF p) f ts l h),
+)
+
+pub period-decides :
+    (p : ℕ) (ten eleven : Bool) (f : Polynomial) (ts : List ℕ) (answer work : ℕ)
+    → (notPrime p ≡ false → ten ≡ false → eleven ≡ false → isReducible p f ≡ false → OneFactor p f)
+    → Decided (periodConditions p ten eleven f ts answer work) (periodAnswer p ten eleven f ts answer work)
+unfolding periodAnswer periodTable
+period-decides p ten eleven f ts answer work factor =
+    settle-decided _ (periodTable p ten eleven f ts answer work)
+    (periodConditions p ten eleven f ts answer work)
+    (tested
+    (λ six.
+    tested
+    (λ seven.
+    then
+    (tested
+    (λ none-ten.
+    tested
+    (λ none-eleven.
+    tested
+    (λ twelve.
+    let l = count-accepted (length ts) seven .0 in
+    let (says, holds) = period-seventeen p f ts (factor six none-ten none-eleven twelve) l in
+    then (meant says holds (λ _. done)))))))))
+    (period-value p ten eleven f ts answer work)
 
 pub period-lent :
     (p : ℕ) (ten eleven : Bool) (f : Polynomial) (ts : List ℕ) (answer work : ℕ)
@@ -135,6 +187,14 @@ unfolding ratePeriod
 period-told p f ts answer work =
     period-tells p (factorDegreeOutOfRange (GF p) f) (coefficientOutOfRange (GF p) f) (monicMultiple (GF p) f)
     ts answer work
+
+pub period-decided :
+    (p : ℕ) (f : Polynomial) (ts : List ℕ) (answer work : ℕ)
+    → Decided (listConditions p f ts answer work) (ratePeriod p f ts answer work)
+unfolding ratePeriod
+period-decided p f ts answer work =
+    period-decides p (factorDegreeOutOfRange (GF p) f) (coefficientOutOfRange (GF p) f)
+    (monicMultiple (GF p) f) ts answer work (multiple-of p f)
 
 -- the monic multiple of a polynomial that 6 and 11 let pass is not empty
 multiple-nonempty :
@@ -194,9 +254,11 @@ period-answers p f ts answer work =
     record {
       each =
           λ r answer′ work′ c.
-          rating-answers periodNumbers (λ a. a .degree) (λ a. a) (periodResult p f ts answer work)
+          rating-answers periodNumbers (listConditions p f ts (length answer) (length work)) (λ a. a .degree)
+          (λ a. a) (periodResult p f ts answer work)
           (toldPower r) answer work answer′ work′ (c .rating ∙ figures-themselves _) (within periodNumbers tt)
-          (period-told p f ts (length answer) (length work)) (period-sized p f ts answer work) (c .lent);
+          (period-told p f ts (length answer) (length work))
+          (period-decided p f ts (length answer) (length work)) (period-sized p f ts answer work) (c .lent);
       some = period-some p f ts answer work;
       one = λ r s _ _ _ _ c d. period-call-determined c d;
     }
@@ -206,6 +268,17 @@ set-listed : Listed setNumbers
 unfolding Listed refusalOf refusals lookUp holdsForAll isNone
 set-listed = tt
 
+set-value :
+    (p : ℕ) (ten eleven : Bool) (l : List (Polynomial × ℕ)) (ts : List ℕ) (answer work : ℕ)
+    → (Passes (setTable p ten eleven l ts answer work) → Nonempties l)
+    → Passes (setTable p ten eleven l ts answer work)
+    → (a : Rated SetFigures) × (mapOption (setRating (GF p) l ts) (setPowers (GF p) l ts) ≡ some a)
+unfolding setTable
+set-value p ten eleven l ts answer work nonempties h =
+    let I = inRange-isField p (prime-accepted p (h .fieldExists)) in
+    let (rs, e) = setPowers-exists I l (nonempties h) ts in
+    (setRating (GF p) l ts rs, mapOption-some (setRating (GF p) l ts) e)
+
 pub set-tells :
     (p : ℕ) (ten eleven : Bool) (l : List (Polynomial × ℕ)) (ts : List ℕ) (answer work : ℕ)
     → (Passes (setTable p ten eleven l ts answer work) → Nonempties l)
@@ -213,10 +286,19 @@ pub set-tells :
 unfolding setAnswer setTable
 set-tells p ten eleven l ts answer work nonempties =
     settle-tells _ (setTable p ten eleven l ts answer work)
-    (λ h.
-    let I = inRange-isField p (prime-accepted p (h .fieldExists)) in
-    let (rs, e) = setPowers-exists I l (nonempties h) ts in
-    (setRating (GF p) l ts rs, mapOption-some (setRating (GF p) l ts) e))
+    (set-value p ten eleven l ts answer work nonempties)
+
+pub set-decides :
+    (p : ℕ) (ten eleven : Bool) (l : List (Polynomial × ℕ)) (ts : List ℕ) (answer work : ℕ)
+    → (Passes (setTable p ten eleven l ts answer work) → Nonempties l)
+    → Decided (setConditions p ten eleven l ts answer work) (setAnswer p ten eleven l ts answer work)
+unfolding setAnswer setTable
+set-decides p ten eleven l ts answer work nonempties =
+    let kills = annihilatesKnown (GF p) (product (GF p) l) ts in
+    let seventeen = meant (λ e. T-not kills (true-T e)) (λ h. T-true (not-T kills h)) (λ _. done) in
+    settle-decided _ (setTable p ten eleven l ts answer work) (setConditions p ten eleven l ts answer work)
+    (then (then (then (then (then (then (then (then (then (then (then seventeen)))))))))))
+    (set-value p ten eleven l ts answer work nonempties)
 
 pub set-lent :
     (p : ℕ) (ten eleven : Bool) (l : List (Polynomial × ℕ)) (ts : List ℕ) (answer work : ℕ)
@@ -255,6 +337,10 @@ module _ (p : ℕ) (fs : List Polynomial) (vs ts : List ℕ) (answer work : ℕ)
   pub set-told : Tells setNumbers (rateSet p fs vs ts answer work)
   unfolding rateSet
   set-told = set-tells p ten eleven l ts answer work named-nonempties
+
+  pub set-decided : Decided (listsConditions p fs vs ts answer work) (rateSet p fs vs ts answer work)
+  unfolding rateSet
+  set-decided = set-decides p ten eleven l ts answer work named-nonempties
 
   set-whole :
       (a : Rated SetFigures)
@@ -313,9 +399,12 @@ set-answers p fs vs ts answer work =
     record {
       each =
           λ r answer′ work′ c.
-          rating-answers setNumbers (λ a. a .degree) setFiguresTold (setResult p fs vs ts answer work)
+          rating-answers setNumbers (listsConditions p fs vs ts (length answer) (length work))
+          (λ a. a .degree)
+          setFiguresTold (setResult p fs vs ts answer work)
           (toldSet (r .outcome)) answer work answer′ work′ (c .rating) (within setNumbers tt)
-          (set-told p fs vs ts (length answer) (length work)) (set-sized p fs vs ts answer work) (c .lent);
+          (set-told p fs vs ts (length answer) (length work))
+          (set-decided p fs vs ts (length answer) (length work)) (set-sized p fs vs ts answer work) (c .lent);
       some = set-some p fs vs ts answer work;
       one = λ r s _ _ _ _ c d. set-call-determined c d;
     }
@@ -325,17 +414,32 @@ free-listed : Listed freeNumbers
 unfolding Listed refusalOf refusals lookUp holdsForAll isNone
 free-listed = tt
 
-pub free-tells :
+free-value :
     (p : ℕ) (ts : List ℕ) (answer work : ℕ)
-    → Tells freeNumbers (rateFree p ts answer work)
-unfolding rateFree freeTable freeRating
-free-tells p ts answer work =
-    settle-tells _ (freeTable p ts answer work)
-    (λ h.
+    → Passes (freeTable p ts answer work)
+    → (a : Rated FreeFigures) × (bind (leastDegree (GF p) ts) (freeRating (GF p) ts) ≡ some a)
+unfolding freeTable freeRating
+free-value p ts answer work h =
     let I = inRange-isField p (prime-accepted p (h .fieldExists)) in
     let (L, e) = leastDegree-some I ts in
     let (g, q) = polynomial-some I (leastDegree-least I e .fits) in
-    (_, bind-some (freeRating (GF p) ts) e ∙ mapOption-some _ q))
+    (_, bind-some (freeRating (GF p) ts) e ∙ mapOption-some _ q)
+
+pub free-tells :
+    (p : ℕ) (ts : List ℕ) (answer work : ℕ)
+    → Tells freeNumbers (rateFree p ts answer work)
+unfolding rateFree freeTable
+free-tells p ts answer work =
+    settle-tells _ (freeTable p ts answer work) (free-value p ts answer work)
+
+pub free-decides :
+    (p : ℕ) (ts : List ℕ) (answer work : ℕ)
+    → Decided (freeConditions p ts answer work) (rateFree p ts answer work)
+unfolding rateFree freeTable
+free-decides p ts answer work =
+    settle-decided _ (freeTable p ts answer work) (freeConditions p ts answer work)
+    (then (then (then (then done))))
+    (free-value p ts answer work)
 
 pub free-lent :
     (p : ℕ) (ts : List ℕ) (answer work : ℕ)
@@ -401,9 +505,11 @@ free-answers p ts answer work =
     record {
       each =
           λ r answer′ work′ c.
-          rating-answers freeNumbers (λ a. a .degree) (λ a. a) (freeResult p ts answer work)
+          rating-answers freeNumbers (freeConditions p ts (length answer) (length work)) (λ a. a .degree)
+          (λ a. a) (freeResult p ts answer work)
           (toldFree r) answer work answer′ work′ (c .rating ∙ figures-themselves _) (within freeNumbers tt)
-          (free-tells p ts (length answer) (length work)) (free-sized p ts answer work)
+          (free-tells p ts (length answer) (length work))
+          (free-decides p ts (length answer) (length work)) (free-sized p ts answer work)
           (c .lent);
       some = free-some p ts answer work;
       one = λ r s _ _ _ _ c d. free-call-determined c d;
@@ -428,6 +534,14 @@ module _ (p : ℕ) (g : Polynomial) (start buffer : List ℕ) (place : ℕ) wher
   unfolding continueSequence continueTable
   continue-told = settle-tells _ (continueTable p g start place (length buffer)) (λ _. (_, refl))
 
+  pub continue-decided : Decided (continueConditions p g start place (length buffer)) continued
+  unfolding continueSequence continueTable
+  continue-decided =
+      settle-decided _ (continueTable p g start place (length buffer))
+      (continueConditions p g start place (length buffer))
+      (then (then (then (then (then (then done))))))
+      (λ _. (_, refl))
+
   continue-length : (x : Result (List ℕ)) → continued ≡ x → length (bufferAfter x buffer) ≡ length buffer
   unfolding bufferAfter continueSequence continueTable filled
   continue-length (refused n) e = refl
@@ -448,6 +562,10 @@ continue-answers p g start buffer place =
           λ r buffer′ c.
           map-tells continueNumbers (λ _. tt) (continued p g start buffer place) (c .filling)
           (continue-told p g start buffer place);
+      decided =
+          λ r buffer′ c.
+          map-decided _ (λ _. tt) (continued p g start buffer place) (c .filling)
+          (continue-decided p g start buffer place);
       buffer-kept =
           λ r buffer′ c n e.
           let q = map-refused (λ _. tt) (continued p g start buffer place) (sym (c .filling) ∙ e) in
@@ -483,11 +601,20 @@ pub irreducible-tells : (p : ℕ) (f : Polynomial) → Tells irreducibleNumbers 
 unfolding askIrreducible irreducibleTable
 irreducible-tells p f = settle-tells _ (irreducibleTable p f) (λ _. (_, refl))
 
+pub irreducible-decided : (p : ℕ) (f : Polynomial) → Decided (irreducibleConditions p f) (askIrreducible p f)
+unfolding askIrreducible irreducibleTable
+irreducible-decided p f =
+    settle-decided _ (irreducibleTable p f) (irreducibleConditions p f)
+    (then (then (then done)))
+    (λ _. (_, refl))
+
 pub irreducible-answers : IrreducibleAnswers
 unfolding toldIrreducible
 irreducible-answers p f =
     record {
       tells = λ r c. subst (Tells irreducibleNumbers) (sym (c .answer)) (irreducible-tells p f);
+      decided = λ r c. subst (Decided (irreducibleConditions p f)) (sym (c .answer))
+          (irreducible-decided p f);
       some =
           let (r, e) =
           meets toldIrreducible said Irreducibility.Refused said-told (λ z. refl) irreducibleNumbers

@@ -6,14 +6,16 @@ use mathlib.Core.Path.{_≡_, refl, sym, ap, subst, subst₂, _∙_}
 use mathlib.Core.Logic.{_⊎_, inl, inr}
 use mathlib.Core.Bool.{Bool, true, false, _||_}
 use mathlib.Core.List.{List}
-use mathlib.Core.Option.{none, some}
+use mathlib.Core.Option.{Option, none, some}
 use lib.ListN.{length, getD, take, drop, List·getD-eq-default}
+use borrow.Author.Tests.{ltb-true, lt-ltb}
 use lib.Dec.{T, eqb, eqb→eq, eqb-refl, leb, leb→le}
 use Rattle.meaning.specs.declared.EntryRating.{EntryRating}
 use Rattle.meaning.specs.Search.{holdsForAll, holdsForSome, isNone}
 use Rattle.meaning.specs.Polynomial.{degree, NotAProduct}
 use Rattle.meaning.specs.Sequence.{periodic, LeastPower}
 use Rattle.meaning.specs.Result.{Result, refused, answered, clearing, clears, workAfter, cleared}
+use Rattle.meaning.specs.Conditions.{lentTooShort}
 use Rattle.meaning.specs.Route.{lookUp}
 use Rattle.meaning.specs.Period.{NoPower}
 use Rattle.meaning.specs.Catalogue.{EntryFigures, entryPolynomial, catalogue, entryPower, firstEntry}
@@ -22,29 +24,33 @@ use Rattle.meaning.specs.Answers.{toldEntry}
 use Rattle.meaning.proofs.Tables.{isNone-none}
 use Rattle.meaning.proofs.Determined.{refusals, refusalOf, entry-call-determined, catalogue-call-determined}
 use Rattle.meaning.proofs.CatalogueRows.{zero-entry}
-use Rattle.bridge.proofs.Searches.{true-T, some-member, member-some, all-member, settle-answered}
-use Rattle.bridge.proofs.Searches.{settle-refused}
-use Rattle.bridge.proofs.Irreducibles.{irreducible-words, words-irreducible}
-use Rattle.bridge.proofs.Words.{value}
-use Rattle.bridge.proofs.Bits.{two}
-use Rattle.bridge.proofs.Periods.{periodPower-least, periodPower-none}
-use Rattle.bridge.proofs.Accepted.{count-accepted, lent-enough}
-use Rattle.bridge.proofs.Catalogue.{Listed, entry-length, entry-monic, entry-positive, entry-number}
-use Rattle.bridge.proofs.Catalogue.{number-entry, number-small, number-large, member-listed, listed-member}
-use Rattle.bridge.proofs.Catalogue.{entry-at, first-found, first-missing}
-use Rattle.bridge.proofs.CatalogueTable.{catalogue-count, catalogue-rising, catalogue-order}
-use Rattle.theorems.specs.Answering.{Answered, OneOf, Tells}
+use Rattle.bridge.proofs.Basics.Searches.{true-T, some-member, member-some, all-member, settle-answered}
+use Rattle.bridge.proofs.Basics.Searches.{settle-refused}
+use Rattle.bridge.proofs.Lists.Irreducibles.{irreducible-words, words-irreducible}
+use Rattle.bridge.proofs.Binary.Words.{value}
+use Rattle.bridge.proofs.Binary.Bits.{binary-isField}
+use Rattle.bridge.proofs.Ways.Periods.{periodPower-least, periodPower-none}
+use Rattle.bridge.proofs.Ways.Accepted.{count-accepted, lent-enough}
+use Rattle.bridge.proofs.Binary.Catalogue.{Listed, entry-length, entry-monic, entry-positive, entry-number}
+use Rattle.bridge.proofs.Binary.Catalogue.{number-entry, number-small, number-large, member-listed}
+use Rattle.bridge.proofs.Binary.Catalogue.{listed-member}
+use Rattle.bridge.proofs.Binary.Catalogue.{entry-at, first-found, first-missing}
+use Rattle.bridge.proofs.Binary.CatalogueTable.{catalogue-count, catalogue-rising, catalogue-order}
+use Rattle.theorems.specs.Answering.{Answered, OneOf, Tells, Decided}
 use Rattle.theorems.specs.Ratings.{GF}
-use Rattle.theorems.specs.Catalogue.{searchNumbers, Entry, SearchLeaves, SearchAnswers, EntryAnswers}
-use Rattle.theorems.specs.Catalogue.{CataloguePromise, EntryAnswered, EntryRight, EntryPromise}
-use Rattle.theorems.specs.Catalogue.{SearchExport}
+use Rattle.theorems.specs.Catalogue.{searchNumbers, searchConditions, Entry, SearchLeaves}
+use Rattle.theorems.specs.Catalogue.{SearchAnswers}
+use Rattle.theorems.specs.Catalogue.{EntryAnswers, CataloguePromise, EntryAnswered, EntryRight}
+use Rattle.theorems.specs.Catalogue.{EntryPromise}
+use Rattle.theorems.specs.Catalogue.{SearchExport, SearchExportAnswers}
+use Rattle.theorems.proofs.Deciding.{settle-decided, tested, then, meant, done}
 use Rattle.theorems.proofs.Telling.{settle-tells, Listed as Numbered, meets, no-zero, work-untouched}
 use Rattle.theorems.proofs.Telling.{cleared-front, cleared-beyond, cleared-length}
 use Rattle.theorems.proofs.Answering.{present}
 use Rattle.theorems.proofs.OtherLanguages.{status-told}
 
 -- THE CATALOGUE
-entry-listed : {n : ℕ} → Entry n → Listed n
+pub entry-listed : {n : ℕ} → Entry n → Listed n
 entry-listed {n} h =
     let (k, m, z) = some-member (eqb n) catalogue h in
     subst Listed (sym (eqb→eq n k z)) (member-listed m)
@@ -55,12 +61,12 @@ listed-entry {n} x = member-some (eqb n) catalogue n (listed-member x) (eqb-refl
 module _ {n : ℕ} (x : Listed n) where
   listed-words : NotAProduct (GF 2) (entryPolynomial n)
   listed-words =
-      irreducible-words two (entryPolynomial n) (entry-monic n (x .atLeast) (x .less))
+      irreducible-words binary-isField (entryPolynomial n) (entry-monic n (x .atLeast) (x .less))
       (entry-positive n (x .atLeast) (x .less)) (x .irreducibility)
 
 words-listed : {n : ℕ} → 2 ≤ n → n < 2048 → NotAProduct (GF 2) (entryPolynomial n) → Listed n
 words-listed {n} l k w =
-    record { atLeast = l; less = k; irreducibility = words-irreducible two (entryPolynomial n) w }
+    record { atLeast = l; less = k; irreducibility = words-irreducible binary-isField (entryPolynomial n) w }
 
 pub catalogue-promise : CataloguePromise
 unfolding degree
@@ -107,6 +113,38 @@ catalogue-promise =
           (catalogue-order i (j - suc i) (omega (arith, catalogue-count)));
     }
 
+-- THE POWERS OF AN ENTRY
+module _ (ts : List ℕ) (some-terms : 0 < length ts) where
+  least-power : (n : ℕ) {r : ℕ} → entryPower ts n ≡ some r
+      → LeastPower (GF 2) (entryPolynomial n) (periodic ts) r
+  unfolding entryPower
+  least-power n e = periodPower-least (GF 2) (entryPolynomial n) ts some-terms e
+
+  no-power : {n : ℕ} → Listed n → entryPower ts n ≡ none → NoPower (GF 2) (entryPolynomial n) ts
+  unfolding entryPower
+  no-power {n} x e =
+      periodPower-none binary-isField (entryPolynomial n) (entry-monic n (x .atLeast) (x .less))
+      (entry-positive n (x .atLeast) (x .less)) (x .irreducibility) ts some-terms e
+
+-- 19: no entry is found exactly if none has a power
+module _ (ts : List ℕ) (some-terms : 0 < length ts) where
+  missing-says : isNone (firstEntry ts) ≡ true → (n : ℕ) → Entry n → NoPower (GF 2) (entryPolynomial n) ts
+  missing-says e n y =
+      no-power ts some-terms (entry-listed y)
+      (first-missing ts (isNone-none (true-T e)) n (entry-listed y))
+
+  says-missing : ((n : ℕ) → Entry n → NoPower (GF 2) (entryPolynomial n) ts) → isNone (firstEntry ts) ≡ true
+  unfolding isNone
+  says-missing h = go (firstEntry ts) refl
+    where
+      go : (o : Option EntryFigures) → firstEntry ts ≡ o → isNone o ≡ true
+      go none e = refl
+      go (some a) e =
+          let x = first-found ts e in
+          absurd
+          (h (a .entry) (listed-entry (x .entry)) (a .power)
+          (least-power ts some-terms (a .entry) (x .power) .annihilates))
+
 -- DEMAND 1
 search-listed : Numbered searchNumbers
 unfolding Numbered refusalOf refusals lookUp holdsForAll isNone
@@ -115,6 +153,18 @@ search-listed = tt
 pub search-tells : (ts : List ℕ) (work : ℕ) → Tells searchNumbers (findEntry ts work)
 unfolding findEntry entryTable
 search-tells ts work = settle-tells _ (entryTable ts work) (λ h. present (firstEntry ts) (h .entryFound))
+
+search-decided : (ts : List ℕ) (work : ℕ) → Decided (searchConditions ts work) (findEntry ts work)
+unfolding findEntry entryTable lentTooShort
+search-decided ts work =
+    settle-decided _ (entryTable ts work) (searchConditions ts work)
+    (tested
+    (λ seven.
+    let l = count-accepted (length ts) seven .0 in
+    then
+    (meant (ltb-true work 8192) (lt-ltb work 8192)
+    (λ _. meant (missing-says ts l) (says-missing ts l) (λ _. done)))))
+    (λ h. present (firstEntry ts) (h .entryFound))
 
 search-lent : (ts : List ℕ) (work : ℕ) → Answered (findEntry ts work) ⊎ (findEntry ts work ≡ refused 19)
     → 8192 ≤ work
@@ -145,41 +195,44 @@ cleared-or-kept told (inr (n, e, h)) = elim (low-or-last n h) [
 ]
 
 -- the work bytes after a result that clears them, and after one that keeps them
-module _ (told : Result EntryFigures) (work work′ : List ℕ) (w : work′ ≡ workAfter told work) where
-  search-cleared : Answered told ⊎ (told ≡ refused 19) → work′ ≡ cleared work
-  unfolding workAfter clears clearing holdsForSome
-  search-cleared (inl (a, e)) = w ∙ ap (λ x. workAfter x work) e
-  search-cleared (inr e) = w ∙ ap (λ x. workAfter x work) e
+module _ (ts : List ℕ) (told : Result EntryFigures) (work work′ : List ℕ) (w : work′ ≡ workAfter told work)
+  where
+    search-cleared : Answered told ⊎ (told ≡ refused 19) → work′ ≡ cleared work
+    unfolding workAfter clears clearing holdsForSome
+    search-cleared (inl (a, e)) = w ∙ ap (λ x. workAfter x work) e
+    search-cleared (inr e) = w ∙ ap (λ x. workAfter x work) e
 
-  search-kept : (n : ℕ) → told ≡ refused n → n ≤ 16 → work′ ≡ work
-  search-kept n e l = w ∙ ap (λ x. workAfter x work) e ∙ work-untouched EntryFigures n work l
+    search-kept : (n : ℕ) → told ≡ refused n → n ≤ 16 → work′ ≡ work
+    search-kept n e l = w ∙ ap (λ x. workAfter x work) e ∙ work-untouched EntryFigures n work l
 
-  search-leaves : Tells searchNumbers told → (Answered told ⊎ (told ≡ refused 19) → 8192 ≤ length work)
-      → SearchLeaves told work work′
-  search-leaves t room =
-      record {
-        tells = t;
-        work-kept = search-kept;
-        work-cleared = λ x. ap (take 8192) (search-cleared x) ∙ cleared-front work;
-        work-beyond = elim (cleared-or-kept told t) [
-          | inl x ↦ ap (drop 8192) (search-cleared x) ∙ cleared-beyond work
-          | inr (n, e, l) ↦ ap (drop 8192) (search-kept n e l)
-        ];
-        work-length = elim (cleared-or-kept told t) [
-          | inl x ↦ ap length (search-cleared x) ∙ cleared-length work (room x)
-          | inr (n, e, l) ↦ ap length (search-kept n e l)
-        ];
-      }
+    search-leaves : Tells searchNumbers told → Decided (searchConditions ts (length work)) told
+        → (Answered told ⊎ (told ≡ refused 19) → 8192 ≤ length work)
+        → SearchLeaves ts told work work′
+    search-leaves t decided room =
+        record {
+          tells = t;
+          decided = decided;
+          work-kept = search-kept;
+          work-cleared = λ x. ap (take 8192) (search-cleared x) ∙ cleared-front work;
+          work-beyond = elim (cleared-or-kept told t) [
+            | inl x ↦ ap (drop 8192) (search-cleared x) ∙ cleared-beyond work
+            | inr (n, e, l) ↦ ap (drop 8192) (search-kept n e l)
+          ];
+          work-length = elim (cleared-or-kept told t) [
+            | inl x ↦ ap length (search-cleared x) ∙ cleared-length work (room x)
+            | inr (n, e, l) ↦ ap length (search-kept n e l)
+          ];
+        }
 
 -- what is told of a search, and what is left in the work bytes
 pub search-each : (ts work : List ℕ) (told : Result EntryFigures) (work′ : List ℕ)
     → told ≡ findEntry ts (length work)
     → work′ ≡ workAfter (findEntry ts (length work)) work
-    → SearchLeaves told work work′
+    → SearchLeaves ts told work work′
 search-each ts work told work′ e w =
-    subst (λ x. SearchLeaves x work work′) (sym e)
-    (search-leaves (findEntry ts (length work)) work work′ w (search-tells ts (length work))
-    (search-lent ts (length work)))
+    subst (λ x. SearchLeaves ts x work work′) (sym e)
+    (search-leaves ts (findEntry ts (length work)) work work′ w (search-tells ts (length work))
+    (search-decided ts (length work)) (search-lent ts (length work)))
 
 pub search-answers : SearchAnswers
 unfolding toldEntry
@@ -203,18 +256,6 @@ entry-answers i =
     }
 
 -- THE SEARCH
-module _ (ts : List ℕ) (some-terms : 0 < length ts) where
-  least-power : (n : ℕ) {r : ℕ} → entryPower ts n ≡ some r
-      → LeastPower (GF 2) (entryPolynomial n) (periodic ts) r
-  unfolding entryPower
-  least-power n e = periodPower-least (GF 2) (entryPolynomial n) ts some-terms e
-
-  no-power : {n : ℕ} → Listed n → entryPower ts n ≡ none → NoPower (GF 2) (entryPolynomial n) ts
-  unfolding entryPower
-  no-power {n} x e =
-      periodPower-none two (entryPolynomial n) (entry-monic n (x .atLeast) (x .less))
-      (entry-positive n (x .atLeast) (x .less)) (x .irreducibility) ts some-terms e
-
 pub found-right : (ts : List ℕ) (work : ℕ) {a : EntryFigures} → findEntry ts work ≡ answered a
     → EntryAnswered ts a
 unfolding findEntry entryTable
@@ -235,8 +276,7 @@ nineteen-right : (ts : List ℕ) (work : ℕ) → findEntry ts work ≡ refused 
 unfolding findEntry entryTable
 nineteen-right ts work e n y =
     let (h, z) = settle-refused _ (entryTable ts work) (omega arith) e in
-    let count = count-accepted (length ts) (h .countInRange) in
-    no-power ts (count .0) (entry-listed y) (first-missing ts (isNone-none (true-T z)) n (entry-listed y))
+    missing-says ts (count-accepted (length ts) (h .countInRange) .0) z n y
 
 entry-right : (ts : List ℕ) (work : ℕ) (told : Result EntryFigures) → told ≡ findEntry ts work
     → EntryRight ts work told
@@ -263,4 +303,22 @@ search-export ts work entry power status work′ entry′ power′ x =
       figures-told = x .figures;
       answers = search-each ts work result work′ refl (x .workBytes);
       right = entry-right ts (length work) result refl;
+    }
+
+pub search-export-answers : SearchExportAnswers
+search-export-answers ts work entry power =
+    record {
+      some = (
+        _,
+        record {
+          figures = record { told = refl; entryAfter = refl; powerAfter = refl };
+          workBytes = refl;
+        },
+      );
+      one = λ r s c d.
+          let status = c .figures .told ∙ sym (d .figures .told) in
+          let works = c .workBytes ∙ sym (d .workBytes) in
+          let entries = c .figures .entryAfter ∙ sym (d .figures .entryAfter) in
+          let powers = c .figures .powerAfter ∙ sym (d .figures .powerAfter) in
+          λ i. (status i, works i, entries i, powers i);
     }

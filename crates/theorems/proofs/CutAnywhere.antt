@@ -26,23 +26,24 @@ use Rattle.meaning.specs.Calls.{LentAfter}
 use Rattle.meaning.proofs.Passes.{accepted-passes}
 use Rattle.theorems.specs.Ratings.{GF, Returns}
 use Rattle.theorems.specs.CutAnywhere.{SetReturns, PeriodReturns, FreeReturns, CutAnywherePromise}
-use Rattle.bridge.proofs.Interpretation.{IsField, inRange-isField}
-use Rattle.bridge.proofs.Polynomials.{monic-nonempty}
-use Rattle.bridge.proofs.Products.{MonicFactors, monics-nonempty, factorsOf-named, length-factorsOf}
-use Rattle.bridge.proofs.Products.{product-elements, product-single, named-one}
-use Rattle.bridge.proofs.Irreducibles.{Factors, factors-monics, accepted-prime, accepted-different}
-use Rattle.bridge.proofs.Multiples.{associates-annihilate, associates-product, multiples-total}
-use Rattle.bridge.proofs.Searches.{or-false, false-T, some-head}
-use Rattle.bridge.proofs.Actions.{length-cut, cut-elements, endless-known, periodic-cut, actAt-shift}
-use Rattle.bridge.proofs.Minimal.{minimal-unique, leastPower-exists}
-use Rattle.bridge.proofs.Periods.{least-periodPower, periodPower-minimal}
-use Rattle.bridge.proofs.Fitting.{stretch-answer}
-use Rattle.bridge.proofs.Portions.{setPowers-exists, setPowers-minimal, onward-cut}
-use Rattle.bridge.proofs.Repeats.{shortest-exists}
+use Rattle.bridge.proofs.Basics.Interpretation.{IsField, inRange-isField}
+use Rattle.bridge.proofs.Lists.Polynomials.{monic-nonempty}
+use Rattle.bridge.proofs.Lists.Products.{MonicFactors, monics-nonempty, factorsOf-named, length-factorsOf}
+use Rattle.bridge.proofs.Lists.Products.{product-elements, product-single, named-one}
+use Rattle.bridge.proofs.Lists.Irreducibles.{Factors, factors-monics, accepted-prime, accepted-different}
+use Rattle.bridge.proofs.Lists.Multiples.{associates-annihilate, associates-product, multiples-total}
+use Rattle.bridge.proofs.Basics.Searches.{or-false, false-T, some-head}
+use Rattle.bridge.proofs.Sequences.Actions.{length-cut, cut-elements, endless-known, periodic-cut}
+use Rattle.bridge.proofs.Sequences.Actions.{actAt-shift}
+use Rattle.bridge.proofs.Sequences.Minimal.{minimal-unique, leastPower-exists}
+use Rattle.bridge.proofs.Ways.Periods.{least-periodPower, periodPower-minimal}
+use Rattle.bridge.proofs.Ways.Fitting.{stretch-answer}
+use Rattle.bridge.proofs.Ways.Portions.{setPowers-exists, setPowers-minimal, onward-cut}
+use Rattle.bridge.proofs.Sequences.Repeats.{shortest-exists}
 use Rattle.theorems.proofs.Ways.{written-returns, one-factor}
-use Rattle.bridge.proofs.Accepted.{AcceptedTerms, accepts-free, set-answer, period-answer}
-use Rattle.bridge.proofs.Accepted.{rating-of, rating-degree, rating-polynomial}
-use Rattle.bridge.proofs.Cutting.{shifted, shifted-minimal, product-constant}
+use Rattle.bridge.proofs.Ways.Accepted.{AcceptedTerms, accepts-free, set-answer, period-answer}
+use Rattle.bridge.proofs.Ways.Accepted.{rating-of, rating-degree, rating-polynomial}
+use Rattle.bridge.proofs.Sequences.Cutting.{shifted, shifted-minimal, product-constant}
 
 -- The total degree of accepted factors is positive: there is one, with an upper power and a degree above 0.
 nonzero-upper :

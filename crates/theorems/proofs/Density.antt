@@ -14,8 +14,8 @@ use Rattle.meaning.specs.Route.{RouteRecord, periodMode, modeOf, byteOf, boxOf}
 use Rattle.meaning.specs.File.{termsOf}
 use Rattle.meaning.specs.Print.{text, decimal, joined, header}
 use Rattle.meaning.specs.Answers.{FileTold, withPowers, withOne, withSome}
-use Rattle.bridge.proofs.Searches.{answered-same}
-use Rattle.bridge.proofs.Repeats.{shortest-exists, shortest-least, least-shortest, shortest-divides}
+use Rattle.bridge.proofs.Basics.Searches.{answered-same}
+use Rattle.bridge.proofs.Sequences.Repeats.{shortest-exists, shortest-least, least-shortest, shortest-divides}
 use Rattle.theorems.specs.Ratings.{listIn}
 use Rattle.theorems.specs.Files.{Holds, RatedBy, PeriodFile, FileRight, PrintedRight, linesTold}
 use Rattle.theorems.specs.Density.{DensityTold, DensitySame, RefusalPrinted, PeriodPrinted}

@@ -30,7 +30,7 @@ use Rattle.meaning.proofs.Stretches.{alternating-annihilated-2, x, accepted-x, 
 use Rattle.meaning.proofs.Stretches.{oneThenZeros-inField, oneThenZeros-annihilated}
 use Rattle.meaning.proofs.Stretches.{oneThenZeros-set-0, oneThenZeros-set-1}
 use Rattle.meaning.proofs.Stretches.{three, three-least, three-first, three-second, three-free}
-use Rattle.bridge.proofs.Minimal.{minimal-unique}
+use Rattle.bridge.proofs.Sequences.Minimal.{minimal-unique}
 use Rattle.theorems.specs.Ratings.{GF}
 use Rattle.theorems.specs.CutAnywhere.{CutAnywhere, SetReturns, FreeReturns}
 use Rattle.theorems.proofs.Words.{field-of}

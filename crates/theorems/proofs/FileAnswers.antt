@@ -28,19 +28,21 @@ use Rattle.meaning.specs.Answers.{withPowers, withOne, withSome}
 use Rattle.meaning.specs.Calls.{FileCall, bodyAfter}
 use Rattle.meaning.specs.Print.{printed}
 use Rattle.meaning.proofs.Determined.{refusals, refusalOf, file-call-determined, record-call-determined}
-use Rattle.bridge.proofs.Searches.{map-answered, map-refused, never-answered, refused-same}
-use Rattle.bridge.proofs.Records.{records-suited, records-number}
-use Rattle.bridge.proofs.FileRatings.{known-mode, accepted-file, refused-file, file-size, period-map}
-use Rattle.bridge.proofs.FileRatings.{set-map}
-use Rattle.bridge.proofs.FileRatings.{free-map, pairs-nonempty}
+use Rattle.bridge.proofs.Basics.Searches.{map-answered, map-refused, never-answered, refused-same}
+use Rattle.bridge.proofs.Files.Records.{records-suited, records-number}
+use Rattle.bridge.proofs.Files.FileRatings.{known-mode, accepted-file, refused-file, file-size, period-map}
+use Rattle.bridge.proofs.Files.FileRatings.{set-map}
+use Rattle.bridge.proofs.Files.FileRatings.{free-map, pairs-nonempty}
 use Rattle.theorems.specs.Answering.{Answered, OneOf, Tells, modeNumbers, readerNumbers, fileNumbers}
 use Rattle.theorems.specs.Answering.{fileDegree, FileAnswers, RecordAnswers, ProgramAnswers}
-use Rattle.theorems.specs.Answering.{periodNumbers, setNumbers, freeNumbers}
+use Rattle.theorems.specs.Answering.{periodNumbers, setNumbers, freeNumbers, Decided, readerConditions}
 use Rattle.theorems.specs.Files.{RatedBy, freeTold}
 use Rattle.theorems.proofs.Telling.{map-tells, Listed, meets, Sized, lent-after, rating-answers}
 use Rattle.theorems.proofs.Telling.{Within, within}
 use Rattle.theorems.proofs.Answering.{period-tells, set-tells, free-tells, period-lent, set-lent}
 use Rattle.theorems.proofs.Answering.{free-lent}
+use Rattle.theorems.proofs.Deciding.{answered-decided, refused-decided, map-decided}
+use Rattle.theorems.proofs.FileDeciding.{unknown-unsuited, records-decided, file-decided}
 use Rattle.theorems.proofs.Files.{file-promise}
 
 -- THE READER
@@ -78,6 +80,15 @@ read-tells file n = elim (records-tells file) [
   | inr (k, e, h) ↦ inr (k, read-refused file n e, h)
 ]
 
+pub read-decided : (file : List ℕ) (n : ℕ) → Decided (readerConditions file) (readRecord file n)
+read-decided file n = elim (records-tells file) [
+  | inl (rs, e) ↦ answered-decided (readerConditions file)
+      (getD rs n endRecord, read-accepted file n e)
+      (records-decided file .answers .0 (rs, e))
+  | inr (k, e, h) ↦ refused-decided (readerConditions file) (read-refused file n e)
+      (records-decided file .refuses k .0 e)
+]
+
 reader-listed : Listed readerNumbers
 unfolding Listed refusalOf refusals lookUp holdsForAll isNone
 reader-listed = tt
@@ -89,6 +100,8 @@ record-answers file n =
       tells =
           λ r body c.
           map-tells readerNumbers (λ a. a .kind) (readRecord file n) (c .found) (read-tells file n);
+      decided =
+          λ r body c. map-decided _ (λ a. a .kind) (readRecord file n) (c .found) (read-decided file n);
       some =
           let (r, e) =
           meets toldRecord RecordOutcome.Found RecordOutcome.Refused (λ a. refl) (λ z. refl) readerNumbers
@@ -114,10 +127,6 @@ mode-tells rs answer work setMode =
 mode-tells rs answer work freeMode =
     map-tells _ _ _ (free-map (length (termsOf rs)) _)
     (free-tells (byteOf 2 rs) (termsOf rs) answer work)
-
-unknown-unsuited : (rs : List RouteRecord) → modeOf (byteOf 3 rs) ≡ none → modeUnsuited rs ≡ true
-unfolding modeUnsuited
-unknown-unsuited rs e = rw (e, modeUnsuited)
 
 -- a file is refused by its records, or rated by its mode
 by-file :
@@ -317,10 +326,11 @@ file-answers file answer work =
     record {
       each =
           λ r answer′ work′ c.
-          rating-answers _ fileDegree fileFiguresTold (result file answer work)
+          rating-answers _ _ fileDegree fileFiguresTold (result file answer work)
           (toldFile (r .outcome)) answer work answer′ work′ (c .rating)
           (file-within (records file))
-          (file-tells file (length answer) (length work)) (file-sized file answer work)
+          (file-tells file (length answer) (length work))
+          (file-decided file (length answer) (length work)) (file-sized file answer work)
           (c .lent);
       some = file-some file answer work;
       one = λ r s _ _ _ _ c d. file-call-determined c d;

@@ -29,15 +29,17 @@ use Rattle.meaning.specs.File.{rateMode, rateFile}
 use Rattle.meaning.specs.Answers.{toldPower, toldSet, toldFile, setFiguresTold, setPadded, FileTold}
 use Rattle.meaning.specs.Answers.{fileFiguresTold, labelTold, filePadded, labelPowers, padded}
 use Rattle.meaning.specs.Calls.{LentAfter, FileCall}
-use Rattle.bridge.proofs.Searches.{settle-answered, settle-refused, map-answered, map-refused, never-answered}
-use Rattle.bridge.proofs.Searches.{refused-same}
-use Rattle.bridge.proofs.Interpretation.{inRange-isField}
-use Rattle.bridge.proofs.Accepted.{prime-accepted}
-use Rattle.bridge.proofs.Records.{records-suited, records-whole, records-number}
-use Rattle.bridge.proofs.WrittenFactors.{AllFull, all-full, period-lists, set-lists, first-itself}
-use Rattle.bridge.proofs.WrittenFactors.{lists-themselves}
-use Rattle.bridge.proofs.FileRatings.{known-mode, unknown-mode, accepted-file, refused-file, exactly-one}
-use Rattle.bridge.proofs.FileRatings.{period-map, set-map, free-map}
+use Rattle.bridge.proofs.Basics.Searches.{settle-answered, settle-refused, map-answered, map-refused}
+use Rattle.bridge.proofs.Basics.Searches.{never-answered}
+use Rattle.bridge.proofs.Basics.Searches.{refused-same}
+use Rattle.bridge.proofs.Basics.Interpretation.{inRange-isField}
+use Rattle.bridge.proofs.Ways.Accepted.{prime-accepted}
+use Rattle.bridge.proofs.Files.Records.{records-suited, records-whole, records-number}
+use Rattle.bridge.proofs.Files.WrittenFactors.{AllFull, all-full, period-lists, set-lists, first-itself}
+use Rattle.bridge.proofs.Files.WrittenFactors.{lists-themselves}
+use Rattle.bridge.proofs.Files.FileRatings.{known-mode, unknown-mode, accepted-file, refused-file}
+use Rattle.bridge.proofs.Files.FileRatings.{exactly-one}
+use Rattle.bridge.proofs.Files.FileRatings.{period-map, set-map, free-map}
 use Rattle.meaning.specs.Conditions.{named}
 use Rattle.theorems.specs.Ratings.{GF, PeriodAnswered, SetAnswered, NoneBegins}
 use Rattle.theorems.specs.Files.{factorsIn, polynomialsIn, uppersIn, PeriodFile, SetFile, FreeFile}

@@ -2,8 +2,10 @@ pub mod Words
 pub mod Ways
 pub mod CutAnywhere
 pub mod Telling
+pub mod Deciding
 pub mod Answering
 pub mod Files
+pub mod FileDeciding
 pub mod FileAnswers
 pub mod Program
 pub mod Density
@@ -12,4 +14,5 @@ pub mod Meters
 pub mod Catalogue
 pub mod Promises
 pub mod Instance
+pub mod NoEntry
 pub mod Examples

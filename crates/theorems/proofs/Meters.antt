@@ -5,50 +5,54 @@
 --   start-answers, meter-promise, profile-export == the promises
 -- Assumes nothing.
 use Prim.Native.Nat.{ℕ, zero, suc, _+_, _*_, _/_, _≤_, _<_}
-use mathlib.Core.Path.{_≡_, refl, sym, ap, subst, subst₃, _∙_}
+use mathlib.Core.Path.{_≡_, refl, sym, ap, subst, subst₂, subst₃, _∙_}
 use mathlib.Core.Logic.{inl, inr}
 use mathlib.Core.Bool.{true}
 use mathlib.Core.List.{List, [], _∷_, _++_, append-assoc}
 use mathlib.Core.Option.{Option, none, some, Option·some-injective}
 use native.Mathlib.Omega.{arith}
-use lib.ListN.{length, take, drop, length-set, length-append, length-take, length-drop}
+use lib.ListN.{length, take, drop, set, length-set, length-append, length-take, length-drop}
 use lib.Seq.{drop-drop, take-take, drop-append-le, take-append-le}
-use lib.Dec.{T, leb→le}
+use lib.Dec.{T, leb, leb→le}
+use borrow.Author.Tests.{leb-true, le-leb}
 use Rattle.meaning.specs.declared.FreeRating.{FreeRating}
 use Rattle.meaning.specs.declared.Meter.{Meter}
 use Rattle.meaning.specs.declared.MeterStart.{MeterStart}
-use Rattle.meaning.specs.Search.{holdsForAll, holdsForSome, isNone}
+use Rattle.meaning.specs.declared.MeterStep.{MeterStep}
+use Rattle.meaning.specs.Search.{holdsForAll, holdsForSome, isNone, mapOption}
 use Rattle.meaning.specs.Conditions.{notPrime, termOutOfField}
 use Rattle.meaning.specs.Route.{lookUp}
 use Rattle.meaning.specs.Result.{Check, Result, refused, answered, figuresOf, mapResult, settle, firstOf}
 use Rattle.meaning.specs.Result.{valueOf, written}
 use Rattle.meaning.specs.Free.{FreeFigures, leastDegree, isUnique, freeTable, rateFree}
-use Rattle.meaning.specs.Meter.{MeterModel, Holding, freeFigures, startMeter, termTable, takeTerm}
+use Rattle.meaning.specs.Meter.{MeterModel, Remembers, Holding, freeFigures, startMeter, termTable, takeTerm}
 use Rattle.meaning.specs.Meter.{meterReading}
 use Rattle.meaning.specs.Meter.{unlessRefused, meterFull, profileEntry, profileOf}
 use Rattle.meaning.specs.Answers.{toldFree, toldStart}
-use Rattle.meaning.specs.Calls.{ReadingCall}
+use Rattle.meaning.specs.Calls.{TermTaken, TermCall, ReadingCall}
 use Rattle.meaning.proofs.Determined.{refusals, refusalOf, start-call-determined, term-call-determined}
 use Rattle.meaning.proofs.Determined.{reading-call-determined}
 use Rattle.meaning.proofs.Tables.{settle-none}
 use Rattle.meaning.proofs.Passes.{Passes, _&_, nothing}
 use Rattle.meaning.proofs.MeterRows.{reading-first}
-use Rattle.bridge.proofs.Searches.{settle-answered, never-answered, answered-same, refused-same}
-use Rattle.bridge.proofs.Searches.{some-mapOption, mapOption-some, map-refused, answered-settle}
-use Rattle.bridge.proofs.Searches.{T-not-false, T-false}
-use Rattle.bridge.proofs.Polynomials.{elements-nil, elements-cons, elements-uncons}
-use Rattle.bridge.proofs.Continuations.{take-elements}
-use Rattle.bridge.proofs.Interpretation.{inRange-isField}
-use Rattle.bridge.proofs.Accepted.{AcceptedTerms, accepts-free, prime-accepted, terms-accepted}
-use Rattle.bridge.proofs.Fitting.{free-rated, leastDegree-some}
-use Rattle.bridge.proofs.Meters.{holding-none, holding-more}
+use Rattle.bridge.proofs.Basics.Searches.{settle-answered, never-answered, answered-same, refused-same}
+use Rattle.bridge.proofs.Basics.Searches.{some-mapOption, mapOption-some, map-refused, answered-settle}
+use Rattle.bridge.proofs.Basics.Searches.{T-not-false, T-false}
+use Rattle.bridge.proofs.Lists.Polynomials.{elements-nil, elements-cons, elements-uncons}
+use Rattle.bridge.proofs.Sequences.Continuations.{take-elements}
+use Rattle.bridge.proofs.Basics.Interpretation.{inRange-isField}
+use Rattle.bridge.proofs.Ways.Accepted.{AcceptedTerms, accepts-free, prime-accepted, terms-accepted}
+use Rattle.bridge.proofs.Ways.Fitting.{free-rated, leastDegree-some}
+use Rattle.bridge.proofs.Massey.Meters.{holding-none, holding-more}
 use Rattle.meaning.specs.Field.{primeInRange, areElements}
-use Rattle.theorems.specs.Answering.{freeNumbers, OneOf, Tells}
+use Rattle.theorems.specs.Answering.{freeNumbers, OneOf, Tells, Decided}
 use Rattle.theorems.specs.Ratings.{GF}
-use Rattle.theorems.specs.Meters.{startNumbers, termNumbers, StartAnswers, Run, begun, taken, passed}
-use Rattle.theorems.specs.Meters.{FreeGives, MeterPromise, ProfileExport}
+use Rattle.theorems.specs.Meters.{startNumbers, termNumbers, startConditions, termConditions}
+use Rattle.theorems.specs.Meters.{StartAnswers, Run, begun, taken, passed}
+use Rattle.theorems.specs.Meters.{FreeGives, MeterPromise, ProfileExport, ProfileAnswers}
+use Rattle.theorems.proofs.Deciding.{map-decided, settle-decided, then, meant, done}
 use Rattle.theorems.proofs.Telling.{settle-tells, map-tells, no-zero, Listed, meets}
-use Rattle.theorems.proofs.Answering.{free-tells}
+use Rattle.theorems.proofs.Answering.{free-tells, ratingFree, ratingFree-told}
 use Rattle.theorems.proofs.OtherLanguages.{status-told}
 
 -- THE FREE WAY ON ACCEPTED TERMS
@@ -206,6 +210,80 @@ module _ (model : MeterModel) (p : ℕ) where
     unfolding takeTerm termTable
     holding-tells t = settle-tells _ (termTable p (length ts) t) (λ _. figures-exist (ts ++ (t ∷ [])))
 
+    pub holding-decided : (t : ℕ) → Decided (termConditions p (length ts) t) (takeTerm p ts t)
+    unfolding takeTerm termTable meterFull
+    holding-decided t =
+        settle-decided _ (termTable p (length ts) t) (termConditions p (length ts) t)
+        (then (meant (leb-true 4096 (length ts)) (le-leb 4096 (length ts)) (λ _. done)))
+        (λ _. figures-exist (ts ++ (t ∷ [])))
+
+-- SOME RESULT MEETS THE CONTRACTS of a meter that remembers
+module _ (model : MeterModel) (memory : Remembers model) {p : ℕ} {ts : List ℕ} {m : Meter}
+    {terms work : List ℕ} (h : Holding model p ts m terms work) where
+  prime-in : m .prime ≡ p
+  prime-in = ap (λ (n : Meter). n .prime) (h .numbers) ∙ memory .primeKept p ts
+
+  count-in : m .held ≡ length ts
+  count-in = ap (λ (n : Meter). n .held) (h .numbers) ∙ memory .countKept p ts
+
+  least-in : leastDegree (GF p) ts ≡ some (m .degree)
+  least-in =
+      memory .degreeKept p ts (h .fieldExists) (h .termsInField)
+      ∙ ap (λ (n : Meter). some (n .degree)) (sym (h .numbers))
+
+  terms-in : take (m .held) terms ≡ ts
+  terms-in = ap (λ n. take n terms) count-in ∙ h .front
+
+  -- its numbers show the reading
+  reading-in : meterReading p ts
+      ≡ answered (record { degree = m .degree; unique = leb (2 * m .degree) (m .held) })
+  unfolding meterReading firstOf valueOf freeFigures mapOption isUnique
+  reading-in =
+      settle-none [] (λ _. freeFigures (GF p) ts) refl
+      ∙ ap valueOf (mapOption-some (λ e. record { degree = e; unique = isUnique ts e }) least-in)
+      ∙ ap (λ n. answered (record { degree = m .degree; unique = leb (2 * m .degree) n })) (sym count-in)
+
+term-listed : Listed termNumbers
+unfolding Listed refusalOf refusals lookUp holdsForAll isNone
+term-listed = tt
+
+reading-some : (model : MeterModel) (m : Meter) → Remembers model → (r : FreeRating) × ReadingCall model m r
+reading-some model m memory =
+    let shown : FreeFigures = record { degree = m .degree; unique = leb (2 * m .degree) (m .held) } in (
+      ratingFree shown,
+      record { reading = λ q us terms work h. ratingFree-told shown ∙ sym (reading-in model memory h) },
+    )
+
+term-some : (model : MeterModel) {p : ℕ} {ts : List ℕ} {m : Meter} {terms work : List ℕ}
+    → Holding model p ts m terms work
+    → Remembers model
+    → (t : ℕ)
+    → (r : MeterStep) × (terms′ : List ℕ) × (work′ : List ℕ) × TermCall model m t terms work r terms′ work′
+unfolding toldFree
+term-some model {p} {ts} {m} {terms} {work} h memory t =
+    let x = takeTerm p ts t in
+    let (shown, e) =
+    meets toldFree ratingFree FreeRating.Refused ratingFree-told (λ z. refl) termNumbers term-listed x
+    (holding-tells model p h t) in
+    let r : MeterStep =
+    record { reading = shown; meter = unlessRefused x m ((model .meter) p (ts ++ (t ∷ []))) } in
+    let terms′ = unlessRefused x terms (set terms (length ts) t) in
+    let work′ = unlessRefused x work ((model .work) p (ts ++ (t ∷ []))) in
+    let here : TermTaken model p ts m t terms work r terms′ work′ =
+    record { reading = e; meter = refl; termBytes = refl; workBytes = refl } in (
+      r,
+      terms′,
+      work′,
+      record {
+        taken =
+            λ q us k.
+            subst₂ (λ q us. TermTaken model q us m t terms work r terms′ work′)
+            (sym (prime-in model memory h) ∙ prime-in model memory k)
+            (sym (terms-in model memory h) ∙ terms-in model memory k)
+            here;
+      },
+    )
+
 pub meter-promise : MeterPromise
 meter-promise model p ts m terms work x =
     let y = run-holds model p x in
@@ -217,6 +295,10 @@ meter-promise model p ts m terms work x =
       tells =
           λ t r terms′ work′ c.
           subst (Tells termNumbers) (sym (c .taken p ts h .reading)) (holding-tells model p h t);
+      decided =
+          λ t r terms′ work′ c.
+          subst (Decided (termConditions p (length ts) t)) (sym (c .taken p ts h .reading))
+          (holding-decided model p h t);
       term-told =
           λ t r terms′ work′ c a e.
           let f = sym (c .taken p ts h .reading) ∙ e in
@@ -237,6 +319,8 @@ meter-promise model p ts m terms work x =
             w .termBytes ∙ refused-old model p terms _ f,
             w .workBytes ∙ refused-old model p work _ f,
           );
+      some-reading = reading-some model m;
+      some = term-some model h;
       one-reading = λ r s c d. reading-call-determined h c d;
       one = λ t r s _ _ _ _ c d. term-call-determined h c d;
     }
@@ -250,11 +334,17 @@ pub start-told : (p : ℕ) → Tells startNumbers (startMeter p)
 unfolding startMeter
 start-told p = settle-tells _ ((6, λ _. notPrime p) ∷ []) (λ _. (tt, refl))
 
+start-decided : (p : ℕ) → Decided (startConditions p) (startMeter p)
+unfolding startMeter
+start-decided p =
+    settle-decided _ ((6, λ _. notPrime p) ∷ []) (startConditions p) (then done) (λ _. (tt, refl))
+
 pub start-answers : StartAnswers
 unfolding toldStart mapResult
 start-answers model p work =
     record {
       tells = λ r work′ c. map-tells startNumbers _ (startMeter p) (c .starting) (start-told p);
+      decided = λ r work′ c. map-decided _ _ (startMeter p) (c .starting) (start-decided p);
       work-kept =
           λ r work′ c n e.
           c .workBytes
@@ -397,6 +487,7 @@ profile-export p ts profile status profile′ x =
     record {
       status-told = s;
       answers = start-told p;
+      decided = start-decided p;
       kept = λ n e. x .lent ∙ ap left e;
       entries = λ z h l i b room.
           let (u, e) = s .zero z in
@@ -410,3 +501,13 @@ profile-export p ts profile status profile′ x =
   where
     left : Result (Unit {0}) → List ℕ
     left r = unlessRefused r profile (written (profileOf p [] (take (length profile / 4) ts)) profile)
+
+pub profile-answers : ProfileAnswers
+profile-answers p ts profile =
+    record {
+      some = (_, record { told = refl; lent = refl });
+      one = λ r s c d.
+          let status = c .told ∙ sym (d .told) in
+          let profiles = c .lent ∙ sym (d .lent) in
+          λ i. (status i, profiles i);
+    }

@@ -7,20 +7,23 @@ use mathlib.Core.List.{List, _++_}
 use lib.ListN.{length, take, drop}
 use Rattle.meaning.specs.Search.{holdsForSome}
 use Rattle.meaning.specs.Result.{Result, refused, answered, figuresOf, mapResult}
+use Rattle.meaning.specs.Field.{primeInRange}
+use Rattle.meaning.specs.Period.{ratePeriod}
 use Rattle.meaning.specs.Portion.{SetFigures, rateSet}
 use Rattle.meaning.specs.Free.{rateFree}
 use Rattle.meaning.specs.Continuation.{continueSequence}
 use Rattle.meaning.specs.Answers.{toldPower, toldSet, toldFree, toldFilling, toldIrreducible, setFiguresTold}
-use Rattle.meaning.specs.Answers.{setPadded}
+use Rattle.meaning.specs.Answers.{padded, setPadded}
 use Rattle.meaning.specs.Calls.{PeriodCall, SetCall, FreeCall, ContinueCall}
 use Rattle.meaning.specs.FlatBytes.{bytesOfAll}
 use Rattle.meaning.specs.Exports.{statusOf, numberAfter, PowerTold, PowersAfter, wordOf, yesAfter}
-use Rattle.bridge.proofs.Searches.{map-answered, map-refused}
+use Rattle.meaning.proofs.Determined.{lent-determined}
+use Rattle.bridge.proofs.Basics.Searches.{map-answered, map-refused}
 use Rattle.theorems.specs.Answering.{periodNumbers, setNumbers, freeNumbers}
 use Rattle.theorems.specs.Answering.{continueNumbers, irreducibleNumbers, Answered, OneOf, Tells}
 use Rattle.theorems.specs.OtherLanguages.{StatusTold, PeriodExport, SetExport, FreeExport}
-use Rattle.theorems.specs.OtherLanguages.{ContinueExport, IrreducibleExport}
-use Rattle.theorems.proofs.Telling.{no-zero}
+use Rattle.theorems.specs.OtherLanguages.{ContinueExport, IrreducibleExport, ExportAnswers}
+use Rattle.theorems.proofs.Telling.{no-zero, lent-after}
 use Rattle.theorems.proofs.Answering.{period-answers, set-answers, free-answers}
 use Rattle.theorems.proofs.Answering.{continue-answers, irreducible-answers}
 use Rattle.theorems.proofs.Ways.{period-promise, set-promise, free-promise}
@@ -164,6 +167,7 @@ continue-export p g start buffer place status buffer′ x =
           ∙ status-map (λ _. tt) (continueSequence p g start place buffer)
           ∙ ap statusOf (sym (c₀ .filling)));
       answers = tells;
+      decided = answers .decided r buffer′ c;
       right = continue-promise p g start buffer place r buffer′ c;
     }
 
@@ -180,5 +184,103 @@ irreducible-export p f n status n′ x =
           (x .told ∙ ap statusOf (sym (c .answer)));
       yes-told = x .lent ∙ ap (λ y. yesAfter y n) (sym (c .answer));
       answers = tells;
+      decided = answers .decided r c;
       right = irreducible-promise p f r c;
+    }
+
+-- DEMAND 1: the contracts are equations
+
+-- the powers, whatever the result
+powersLeft : Result SetFigures → List ℕ → List ℕ
+powersLeft (refused n) powers = powers
+powersLeft (answered a) powers = take (length powers) (bytesOfAll (padded (a .powers))) ++ drop 64 powers
+
+powers-met : (x : Result SetFigures) (powers : List ℕ) → PowersAfter x powers (powersLeft x powers)
+unfolding PowersAfter powersLeft
+powers-met (refused n) powers = refl
+powers-met (answered a) powers = refl
+
+powers-same : (x : Result SetFigures) (powers powers′ : List ℕ) → PowersAfter x powers powers′
+    → powers′ ≡ powersLeft x powers
+unfolding PowersAfter powersLeft
+powers-same (refused n) powers powers′ h = h
+powers-same (answered a) powers powers′ h = h
+
+pub export-answers : ExportAnswers
+export-answers =
+    record {
+      period = λ p f ts answer work power degree repeat. record {
+        some = (
+          _,
+          record {
+            figures = record { told = refl; powerAfter = refl; degreeAfter = refl; repeatAfter = refl };
+            lent = lent-after (ratePeriod p f ts (length answer) (length work)) answer work;
+          },
+        );
+        one = λ r s c d.
+            let status = c .figures .told ∙ sym (d .figures .told) in
+            let powers = c .figures .powerAfter ∙ sym (d .figures .powerAfter) in
+            let degrees = c .figures .degreeAfter ∙ sym (d .figures .degreeAfter) in
+            let repeats = c .figures .repeatAfter ∙ sym (d .figures .repeatAfter) in
+            let (answers, works) = lent-determined (c .lent) (d .lent) in
+            λ i. (status i, answers i, works i, powers i, degrees i, repeats i);
+      };
+      set = λ p fs vs ts answer work powers degree repeat.
+          let result = rateSet p fs vs ts (length answer) (length work) in
+          record {
+            some = (
+              _,
+              record {
+                told = refl;
+                powersLeft = powers-met (figuresOf result) powers;
+                degreeAfter = refl;
+                repeatAfter = refl;
+                lent = lent-after result answer work;
+              },
+            );
+            one = λ r s c d.
+                let status = c .told ∙ sym (d .told) in
+                let places =
+                powers-same (figuresOf result) powers _ (c .powersLeft)
+                ∙ sym (powers-same (figuresOf result) powers _ (d .powersLeft)) in
+                let degrees = c .degreeAfter ∙ sym (d .degreeAfter) in
+                let repeats = c .repeatAfter ∙ sym (d .repeatAfter) in
+                let (answers, works) = lent-determined (c .lent) (d .lent) in
+                λ i. (status i, answers i, works i, places i, degrees i, repeats i);
+          };
+      free = λ p ts answer work degree unique. record {
+        some = (
+          _,
+          record {
+            told = refl;
+            degreeAfter = refl;
+            uniqueAfter = refl;
+            lent = lent-after (rateFree p ts (length answer) (length work)) answer work;
+          },
+        );
+        one = λ r s c d.
+            let status = c .told ∙ sym (d .told) in
+            let degrees = c .degreeAfter ∙ sym (d .degreeAfter) in
+            let words = c .uniqueAfter ∙ sym (d .uniqueAfter) in
+            let (answers, works) = lent-determined (c .lent) (d .lent) in
+            λ i. (status i, answers i, works i, degrees i, words i);
+      };
+      continuation = λ p g start buffer place. record {
+        some = (_, record { told = refl; lent = refl });
+        one = λ r s c d.
+            let status = c .told ∙ sym (d .told) in
+            let buffers = c .lent ∙ sym (d .lent) in
+            λ i. (status i, buffers i);
+      };
+      irreducibility = λ p f yes. record {
+        some = (_, record { told = refl; lent = refl });
+        one = λ r s c d.
+            let status = c .told ∙ sym (d .told) in
+            let said = c .lent ∙ sym (d .lent) in
+            λ i. (status i, said i);
+      };
+      primes = λ n. record {
+        some = (primeInRange n, record { answer = refl });
+        one = λ r s c d. c .answer ∙ sym (d .answer);
+      };
     }

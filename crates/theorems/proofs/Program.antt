@@ -2,7 +2,7 @@
 -- and leaves. From the contracts alone.
 -- Assumes nothing.
 use Prim.Native.Nat.{ℕ, zero, suc, _<_}
-use mathlib.Core.Path.{_≡_, refl, sym, ap, _∙_}
+use mathlib.Core.Path.{_≡_, refl, sym, ap, subst₂, _∙_}
 use mathlib.Core.List.{List, [], _∷_, _++_, map, append-nil}
 use mathlib.Core.Option.{some}
 use native.Mathlib.Omega.{arith}
@@ -17,10 +17,11 @@ use Rattle.meaning.specs.Answers.{toldFile, fileFiguresTold, labelTold, filePad
 use Rattle.meaning.specs.Calls.{FileCall, ProgramCall, bodyAfter}
 use Rattle.meaning.specs.Print.{printed, report, resultLine, polyLine, labelWord, density, header, decimal}
 use Rattle.meaning.specs.Print.{text, joined}
-use Rattle.bridge.proofs.Searches.{never-answered, answered-same}
-use Rattle.bridge.proofs.Records.{Whole, flat, records-whole}
-use Rattle.bridge.proofs.FileRatings.{file-size}
+use Rattle.bridge.proofs.Basics.Searches.{never-answered, answered-same}
+use Rattle.bridge.proofs.Files.Records.{Whole, flat, records-whole}
+use Rattle.bridge.proofs.Files.FileRatings.{file-size}
 use Rattle.theorems.specs.Ratings.{listIn}
+use Rattle.theorems.specs.Answering.{Decided, fileConditions}
 use Rattle.theorems.specs.Files.{HandsBack, oneAfterAnother, ReadBack, RecordPromise, ratedLines}
 use Rattle.theorems.specs.Files.{linesTold, ProgramAsCall, PrintedRight, ProgramPromise}
 use Rattle.theorems.proofs.Files.{file-promise}
@@ -158,6 +159,9 @@ printed-right input output answer work call la lw =
           program-as-call input output call answer work la lw r answer′ work′ c
           ∙ ap (λ box. header ++ linesTold box (toldFile (r .outcome)) (r .powers) answer′) (c .sender);
       tells = answers .each r answer′ work′ c .tells;
+      decided =
+          subst₂ (λ a w. Decided (fileConditions input a w) (toldFile (r .outcome))) la lw
+          (answers .each r answer′ work′ c .decided);
       right = file-promise input answer work r answer′ work′ c;
     }
 

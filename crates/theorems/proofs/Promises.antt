@@ -24,10 +24,10 @@ use Rattle.theorems.proofs.Files.{file-promise}
 use Rattle.theorems.proofs.Program.{record-promise, program-as-call, program-promise}
 use Rattle.theorems.proofs.Density.{density-promise}
 use Rattle.theorems.proofs.OtherLanguages.{period-export, set-export, free-export}
-use Rattle.theorems.proofs.OtherLanguages.{continue-export, irreducible-export}
-use Rattle.theorems.proofs.Meters.{start-answers, meter-promise, profile-export}
+use Rattle.theorems.proofs.OtherLanguages.{continue-export, irreducible-export, export-answers}
+use Rattle.theorems.proofs.Meters.{start-answers, meter-promise, profile-export, profile-answers}
 use Rattle.theorems.proofs.Catalogue.{search-answers, search-tells, entry-answers, catalogue-promise}
-use Rattle.theorems.proofs.Catalogue.{entry-promise, search-export}
+use Rattle.theorems.proofs.Catalogue.{entry-promise, search-export, search-export-answers}
 
 never-zero : NeverZero
 unfolding holdsForSome
@@ -97,4 +97,7 @@ promises =
       irreducible-export = irreducible-export;
       profile-export = profile-export;
       search-export = search-export;
+      export-answers = export-answers;
+      profile-answers = profile-answers;
+      search-export-answers = search-export-answers;
     }

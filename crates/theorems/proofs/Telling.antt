@@ -28,9 +28,10 @@ use Rattle.meaning.specs.Calls.{LentAfter}
 use Rattle.meaning.proofs.Determined.{refusalOf, refusal-found}
 use Rattle.meaning.proofs.Tables.{firstOf-skip, firstOf-stop, settle-none, keeps-low}
 use Rattle.meaning.proofs.Passes.{Passes, firstOf-passes}
-use Rattle.bridge.proofs.Searches.{T-and, some-head, some-tail, some-member, all-member}
-use Rattle.bridge.proofs.Searches.{never-answered, refused-same, answered-same}
-use Rattle.theorems.specs.Answering.{Answered, OneOf, Tells, RatingAnswers}
+use Rattle.bridge.proofs.Basics.Searches.{T-and, some-head, some-tail, some-member, all-member}
+use Rattle.bridge.proofs.Basics.Searches.{never-answered, refused-same, answered-same}
+use Rattle.theorems.specs.Answering.{Answered, OneOf, Tells, Condition, Decided, RatingAnswers}
+use Rattle.theorems.proofs.Deciding.{answered-decided, refused-decided}
 
 -- A TABLE REFUSES BY ITS OWN NUMBERS
 abbrev pub numbersOf : List Check → List ℕ
@@ -174,17 +175,19 @@ by-seventeen : (n : ℕ) → (n ≡ 17) ⊎ (n ≡ 17 → ⊥)
 by-seventeen n = elim (ℕ-discrete n 17) [ yes e ↦ inl e | no e ↦ inr e ]
 
 refused-lent :
-    {B : Type 0} (numbers : List ℕ) (degreeIn : B → ℕ) (n : ℕ) (told : Result B)
+    {B : Type 0} (numbers : List ℕ) (conditions : List Condition) (degreeIn : B → ℕ) (n : ℕ) (told : Result B)
     (answer work answer′ work′ : List ℕ)
     → told ≡ refused n
     → OneOf n numbers
+    → Decided conditions told
     → answer′ ≡ answer
     → (n ≡ 17 → (work′ ≡ cleared work) × (8192 ≤ length work))
     → ((n ≡ 17 → ⊥) → work′ ≡ work)
-    → RatingAnswers numbers degreeIn told answer work answer′ work′
-refused-lent numbers degreeIn n told answer work answer′ work′ e h kept seventeen other =
+    → RatingAnswers numbers conditions degreeIn told answer work answer′ work′
+refused-lent numbers conditions degreeIn n told answer work answer′ work′ e h decided kept seventeen other =
     record {
       tells = inr (n, e, h);
+      decided = decided;
       answer-kept = λ k q. kept;
       answer-after = λ a q. never-answered (sym e ∙ q);
       answer-length = ap length kept;
@@ -218,31 +221,35 @@ written-after g answer n e = drop-at g (drop (length g) answer) n e ∙ ap (λ k
 
 -- what is told of a result: a refusal by its number, an answer by its figures
 pub rating-answers :
-    {A B : Type 0} (numbers : List ℕ) (degreeIn : B → ℕ) (g : A → B) (result : Result (Rated A))
-    (told : Result B) (answer work answer′ work′ : List ℕ)
+    {A B : Type 0} (numbers : List ℕ) (conditions : List Condition) (degreeIn : B → ℕ) (g : A → B)
+    (result : Result (Rated A)) (told : Result B) (answer work answer′ work′ : List ℕ)
     → told ≡ mapResult g (figuresOf result)
     → Within numbers
     → Tells numbers result
+    → Decided conditions result
     → Sized (λ a. degreeIn (g a)) result (length answer) (length work)
     → LentAfter result answer work answer′ work′
-    → RatingAnswers numbers degreeIn told answer work answer′ work′
+    → RatingAnswers numbers conditions degreeIn told answer work answer′ work′
 unfolding mapResult figuresOf answerAfter workAfter
-rating-answers {A} numbers degreeIn g (refused n) told answer work answer′ work′ e low t sized lent =
+rating-answers {A} numbers conditions degreeIn g (refused n) told answer work answer′ work′ e low t d sized
+    lent =
     let named : OneOf n numbers = elim t [
       | inl (a, q) ↦ never-answered q
       | inr (m, q, h) ↦ subst (λ k. OneOf k numbers) (sym (refused-same q)) h
     ] in
-    refused-lent numbers degreeIn n told answer work answer′ work′ e named (lent .answerBytes)
+    refused-lent numbers conditions degreeIn n told answer work answer′ work′ e named
+    (refused-decided conditions e (d .refuses n .0 refl)) (lent .answerBytes)
     (λ s.
     (lent .workBytes ∙ work-17 (Rated A) n work s, sized .lent (inr (ap refused s)) .1))
     (λ s. lent .workBytes ∙ work-untouched (Rated A) n work (omega (arith, low n named .1)))
-rating-answers numbers degreeIn g (answered b) told answer work answer′ work′ e low t sized lent =
+rating-answers numbers conditions degreeIn g (answered b)
+    told answer work answer′ work′ e low t d sized lent =
     let cleared-work : work′ ≡ cleared work = lent .workBytes in
     let room = sized .lent (inl (b, refl)) in
-    let d = degreeIn (g (b .figures)) in
-    let size : length (b .polynomial) ≡ suc d = sized .polynomial b refl in
+    let size : length (b .polynomial) ≡ suc (degreeIn (g (b .figures))) = sized .polynomial b refl in
     record {
       tells = inl (g (b .figures), e);
+      decided = answered-decided conditions (g (b .figures), e) (d .answers .0 (b, refl));
       answer-kept = λ k q. never-answered (sym q ∙ e);
       answer-after =
           λ a q.

@@ -6,14 +6,14 @@ use native.Mathlib.Omega.{arith}
 use mathlib.Core.Path.{_≡_, refl, sym, ap, subst, _∙_}
 use mathlib.Core.Bool.{true, false, not}
 use mathlib.Core.List.{List, [], _∷_, map}
-use mathlib.Core.Option.{some}
+use mathlib.Core.Option.{some, Option·some-injective}
 use lib.ListN.{length, getD, take}
 use lib.Seq.{take-at}
 use lib.Dec.{T, T-not}
 use Rattle.meaning.specs.declared.PowerRating.{PowerRating}
 use Rattle.meaning.specs.declared.SetRating.{SetRating}
 use Rattle.meaning.specs.Search.{holdsForSome}
-use Rattle.meaning.specs.Field.{areElements}
+use Rattle.meaning.specs.Field.{Field, areElements}
 use Rattle.meaning.specs.Polynomial.{Polynomial, degree, isMonicOver, power, product, irreducible}
 use Rattle.meaning.specs.Polynomial.{monicMultiple}
 use Rattle.meaning.specs.Sequence.{Sequence, periodic, annihilatesKnown, MinimalPolynomial}
@@ -21,6 +21,7 @@ use Rattle.meaning.specs.Result.{Check, Result, Rated, answered, refused, figur
 use Rattle.meaning.specs.Result.{written}
 use Rattle.meaning.specs.Conditions.{named, totalDegree, notPrime, factorDegreeOutOfRange, notMonic}
 use Rattle.meaning.specs.Conditions.{coefficientOutOfRange, isReducible, twoEqual}
+use Rattle.meaning.specs.Repeat.{shortestPeriod}
 use Rattle.meaning.specs.RepeatLength.{RepeatMeaning, repeatLength}
 use Rattle.meaning.specs.Power.{PowerFigures}
 use Rattle.meaning.specs.Period.{NoPower, periodPower, ratePeriod, periodAnswer, periodTable}
@@ -34,29 +35,31 @@ use Rattle.meaning.proofs.Passes.{Passes, accepted-passes}
 use Rattle.theorems.specs.Ratings.{GF, listIn, Returns, PeriodPromise, PeriodAnswered}
 use Rattle.theorems.specs.Ratings.{SetPromise, SetAnswered, SingleAnswered}
 use Rattle.theorems.specs.Ratings.{FreePromise, FreeAnswered, NoneBegins}
-use Rattle.bridge.proofs.Searches.{settle-answered, settle-refused, map-answered, map-refused}
-use Rattle.bridge.proofs.Searches.{true-T, not-false, some-mapOption}
-use Rattle.bridge.proofs.Interpretation.{IsField, inRange-isField}
-use Rattle.bridge.proofs.Polynomials.{monic-nonempty}
-use Rattle.bridge.proofs.Minimal.{minimal-degree}
-use Rattle.bridge.proofs.Products.{Nonempties, MonicFactors, length-named, powerAt-named}
-use Rattle.bridge.proofs.Products.{degree-power, degree-product, product-monic}
-use Rattle.bridge.proofs.Products.{accepted-monic, factorsOf-named, monics-nonempty, product-single}
-use Rattle.bridge.proofs.Products.{total-one}
-use Rattle.bridge.proofs.Irreducibles.{Factors, accepted-degree, accepted-irreducible, factors-monics}
-use Rattle.bridge.proofs.Irreducibles.{multiples-factors, single-factor}
-use Rattle.bridge.proofs.Multiples.{coefficients-lead, multiple-ten, multiple-eleven, multiples-ten}
-use Rattle.bridge.proofs.Multiples.{multiples-eleven}
-use Rattle.bridge.proofs.Portions.{setPowers-minimal, annihilated-agrees, nothing-continues, portion-least}
-use Rattle.bridge.proofs.Portions.{onward-continues, onward-unique, leastAt-upper}
-use Rattle.bridge.proofs.Portions.{setPowers-places}
-use Rattle.bridge.proofs.Periods.{periodPower-least, periodPower-minimal, periodPower-none, periodPower-size}
-use Rattle.bridge.proofs.Fitting.{leastDegree-least, least-bound, fits-only, isUnique-le, le-isUnique}
-use Rattle.bridge.proofs.Fitting.{FirstFit, free-rated}
-use Rattle.bridge.proofs.Repeats.{shortest-least}
-use Rattle.bridge.proofs.RepeatLengths.{set-repeatMeaning}
-use Rattle.bridge.proofs.Accepted.{count-accepted, terms-accepted, prime-accepted, enough-accepted}
-use Rattle.bridge.proofs.Accepted.{total-accepted, rating-of, rating-polynomial, rated-power}
+use Rattle.bridge.proofs.Basics.Searches.{settle-answered, settle-refused, map-answered, map-refused}
+use Rattle.bridge.proofs.Basics.Searches.{true-T, not-false, some-mapOption}
+use Rattle.bridge.proofs.Basics.Interpretation.{IsField, inRange-isField}
+use Rattle.bridge.proofs.Lists.Polynomials.{monic-nonempty}
+use Rattle.bridge.proofs.Sequences.Minimal.{minimal-degree}
+use Rattle.bridge.proofs.Lists.Products.{Nonempties, MonicFactors, length-named, powerAt-named}
+use Rattle.bridge.proofs.Lists.Products.{degree-power, degree-product, product-monic}
+use Rattle.bridge.proofs.Lists.Products.{accepted-monic, factorsOf-named, monics-nonempty, product-single}
+use Rattle.bridge.proofs.Lists.Products.{total-one}
+use Rattle.bridge.proofs.Lists.Irreducibles.{Factors, accepted-degree, accepted-irreducible, factors-monics}
+use Rattle.bridge.proofs.Lists.Irreducibles.{multiples-factors, single-factor}
+use Rattle.bridge.proofs.Lists.Multiples.{coefficients-lead, multiple-ten, multiple-eleven, multiples-ten}
+use Rattle.bridge.proofs.Lists.Multiples.{multiples-eleven}
+use Rattle.bridge.proofs.Ways.Portions.{setPowers-minimal, annihilated-agrees, nothing-continues}
+use Rattle.bridge.proofs.Ways.Portions.{portion-least}
+use Rattle.bridge.proofs.Ways.Portions.{onward-continues, onward-unique, leastAt-upper}
+use Rattle.bridge.proofs.Ways.Portions.{setPowers-places}
+use Rattle.bridge.proofs.Ways.Periods.{periodPower-least, periodPower-minimal, periodPower-none}
+use Rattle.bridge.proofs.Ways.Periods.{periodPower-size}
+use Rattle.bridge.proofs.Ways.Fitting.{leastDegree-least, least-bound, fits-only, isUnique-le, le-isUnique}
+use Rattle.bridge.proofs.Ways.Fitting.{FirstFit, free-rated}
+use Rattle.bridge.proofs.Sequences.Repeats.{shortest-least, shortest-exists}
+use Rattle.bridge.proofs.Sequences.RepeatLengths.{minimal-constant, set-repeatMeaning}
+use Rattle.bridge.proofs.Ways.Accepted.{count-accepted, terms-accepted, prime-accepted, enough-accepted}
+use Rattle.bridge.proofs.Ways.Accepted.{total-accepted, rating-of, rating-polynomial, rated-power}
 
 -- What a call returns, from the bytes that it leaves.
 whole : (h : Polynomial) → 0 < length h → length h ≡ suc (degree h)
@@ -83,7 +86,7 @@ pub record OneFactor (p : ℕ) (f : Polynomial) : Type 1 where
   pub positive : 1 ≤ degree f
   pub irreducibility : T (irreducible (GF p) f)
 
-one-factor-of :
+pub one-factor-of :
     (p : ℕ) (f : Polynomial)
     → notPrime p ≡ false
     → factorDegreeOutOfRange (GF p) f ≡ false
@@ -100,7 +103,7 @@ one-factor-of p f six ten eleven twelve =
     }
 
 -- the monic multiple of a factor that 6, 10 and 11 let pass, where 12 lets the multiple pass
-multiple-of :
+pub multiple-of :
     (p : ℕ) (f : Polynomial)
     → notPrime p ≡ false
     → factorDegreeOutOfRange (GF p) f ≡ false
@@ -152,6 +155,26 @@ not-continued p g ts h =
     nothing-continues (GF p) g ts (T-not (annihilatesKnown (GF p) g ts) (true-T h))
 
 -- THE PERIOD WAY
+
+-- the shortest period is what the repeat length of a portion says, and never 0
+period-repeat :
+    {F : Field} (I : IsField F) (g : Polynomial) (ts : List ℕ)
+    → MinimalPolynomial F g (periodic ts)
+    → 0 < length ts
+    → length ts ≤ 4096
+    → {n : ℕ}
+    → shortestPeriod ts ≡ some n
+    → RepeatMeaning g (periodic ts) n
+period-repeat I g ts min l few {n} z =
+    let y = shortest-least ts l z in
+    let (m, q, u) = shortest-exists ts l in
+    let same : m ≡ n = Option·some-injective _ _ (sym q ∙ z) in
+    record {
+      exact = λ _. (y, omega arith);
+      beyond = λ e. let k = y .period in absurd (omega (arith, k .positive));
+      never = λ c. absurd (minimal-constant I g (periodic ts) min n (y .period) c);
+    }
+
 period-rated :
     (p : ℕ) (f : Polynomial) (ts answer work : List ℕ) (r : PowerRating) (answer′ work′ : List ℕ)
     → PeriodCall p f ts answer work r answer′ work′
@@ -186,6 +209,10 @@ period-rated p f ts answer work r answer′ work′ c a e =
       minimal = subst (λ h. MinimalPolynomial (GF p) h (periodic ts)) (sym (returns .coefficients)) min;
       returns = returns;
       repeat = shortest-least ts (count .0) z;
+      repeat-meaning =
+          subst (λ h. RepeatMeaning h (periodic ts) repeat) (sym (returns .coefficients))
+          (period-repeat (x .isField) (power (GF p) g n) ts min (count .0) (count .1) z);
+      repeat-positive = shortest-least ts (count .0) z .period .positive;
     })
 
 pub period-none :

@@ -18,19 +18,20 @@ use Rattle.meaning.specs.Irreducibility.{irreducibleTable, askIrreducible}
 use Rattle.meaning.specs.Calls.{bufferAfter}
 use Rattle.theorems.specs.Ratings.{GF, PrimeWords, IrreducibleWords, PrimePromise, IrreduciblePromise}
 use Rattle.theorems.specs.Ratings.{ContinuePromise, MultiplePromise, MultiplesPromise}
-use Rattle.bridge.proofs.Multiples.{Leads}
-use Rattle.bridge.proofs.Searches.{and-T, not-false, settle-answered, map-answered, map-refused}
-use Rattle.bridge.proofs.Interpretation.{IsField, prime-isField, inRange-isField, inRange-prime}
-use Rattle.bridge.proofs.Interpretation.{prime-inRange, isPrime-prime, isPrime-meaning, meaning-isPrime}
-use Rattle.bridge.proofs.Interpretation.{prime-meaning, meaning-prime}
-use Rattle.bridge.proofs.Polynomials.{monic-nonempty}
-use Rattle.bridge.proofs.Multiples.{coefficients-lead, multiple-monic, multiple-ten}
-use Rattle.bridge.proofs.Multiples.{multiple-degree, multiple-product, product-multiple, multiple-back}
-use Rattle.bridge.proofs.Multiples.{multiple-self, multiple-associates, associates-power}
-use Rattle.bridge.proofs.Multiples.{associates-annihilate, associates-product, multiples-total}
-use Rattle.bridge.proofs.Irreducibles as bridge
-use Rattle.bridge.proofs.Continuations.{continuation-continues, continues-unique}
-use Rattle.bridge.proofs.Accepted.{prime-accepted, terms-accepted}
+use Rattle.bridge.proofs.Lists.Multiples.{Leads}
+use Rattle.bridge.proofs.Basics.Searches.{and-T, not-false, settle-answered, map-answered, map-refused}
+use Rattle.bridge.proofs.Basics.Interpretation.{IsField, prime-isField, inRange-isField, inRange-prime}
+use Rattle.bridge.proofs.Basics.Interpretation.{prime-inRange, isPrime-prime, isPrime-meaning}
+use Rattle.bridge.proofs.Basics.Interpretation.{meaning-isPrime}
+use Rattle.bridge.proofs.Basics.Interpretation.{prime-meaning, meaning-prime}
+use Rattle.bridge.proofs.Lists.Polynomials.{monic-nonempty}
+use Rattle.bridge.proofs.Lists.Multiples.{coefficients-lead, multiple-monic, multiple-ten}
+use Rattle.bridge.proofs.Lists.Multiples.{multiple-degree, multiple-product, product-multiple, multiple-back}
+use Rattle.bridge.proofs.Lists.Multiples.{multiple-self, multiple-associates, associates-power}
+use Rattle.bridge.proofs.Lists.Multiples.{associates-annihilate, associates-product, multiples-total}
+use Rattle.bridge.proofs.Lists.Irreducibles as bridge
+use Rattle.bridge.proofs.Sequences.Continuations.{continuation-continues, continues-unique}
+use Rattle.bridge.proofs.Ways.Accepted.{prime-accepted, terms-accepted}
 
 -- GF(p) is a field
 pub field-of : (p : ℕ) → T (isPrime p) → IsField (GF p)

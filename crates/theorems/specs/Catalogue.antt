@@ -1,7 +1,7 @@
 -- The catalogue and its search, as statements about the contracts of their calls. The signs are those of
 -- Promises.
 --
---   searchNumbers    == the numbers by which the search is refused
+--   searchNumbers    == the numbers by which the search is refused; searchConditions == when it is
 --   Entry n          == n is an entry of the catalogue
 --   SearchAnswers    == demand 1 of the search; EntryAnswers == of the question for entry i, which is refused
 --                       by nothing
@@ -9,8 +9,9 @@
 --                       no others, as 226 rising numbers; and what the question for entry i answers
 --   EntryRight ts work told == what the search tells of the period ts with so many work bytes: the first
 --                       entry with a power, its least power, what 19 means, and what zeros give
---   SearchExport     == the same of the search for other languages. (The exported question for entry i has
---                       the contract `CatalogueCall`, and so its promises.)
+--   SearchExport     == the same of the search for other languages, and SearchExportAnswers == its demand 1.
+--                       (The exported question for entry i has the contract `CatalogueCall`, and so its
+--                       promises and its demand 1, EntryAnswers.)
 use Prim.Native.Nat.{ℕ, suc, _≤_, _<_}
 use mathlib.Core.Path.{_≡_}
 use mathlib.Core.Logic.{_⊎_, _↔_}
@@ -21,14 +22,15 @@ use Rattle.meaning.specs.declared.EntryRating.{EntryRating}
 use Rattle.meaning.specs.Polynomial.{Polynomial, degree, isMonicOver, NotAProduct}
 use Rattle.meaning.specs.Sequence.{periodic, LeastPower}
 use Rattle.meaning.specs.Result.{Result, refused, answered}
+use Rattle.meaning.specs.Conditions.{countOutOfRange, termOutOfField}
 use Rattle.meaning.specs.Period.{NoPower}
 use Rattle.meaning.specs.Catalogue.{EntryFigures, entryPolynomial, catalogue}
 use Rattle.meaning.specs.Answers.{toldEntry}
 use Rattle.meaning.specs.Calls.{EntryCall, CatalogueCall}
 use Rattle.meaning.specs.Exports.{EntryTold, EntryExported}
-use Rattle.theorems.specs.Answering.{Answered, OneOf, Tells}
+use Rattle.theorems.specs.Answering.{Answered, OneOf, Tells, Condition, Decided}
 use Rattle.theorems.specs.Ratings.{GF}
-use Rattle.theorems.specs.OtherLanguages.{StatusTold}
+use Rattle.theorems.specs.OtherLanguages.{StatusTold, ExactlyOne}
 
 abbrev pub searchNumbers : List ℕ
 searchNumbers = 7 ∷ 8 ∷ 16 ∷ 19 ∷ []
@@ -36,11 +38,21 @@ searchNumbers = 7 ∷ 8 ∷ 16 ∷ 19 ∷ []
 abbrev pub Entry : ℕ → Type 0
 Entry n = OneOf n catalogue
 
+-- 19: no entry has a power that annihilates the endless repetition
+abbrev pub searchConditions : List ℕ → ℕ → List Condition
+searchConditions ts work =
+    (7, T (countOutOfRange (length ts)))
+    ∷ (8, T (termOutOfField (GF 2) ts))
+    ∷ (16, (work < 8192))
+    ∷ (19, ((n : ℕ) → Entry n → NoPower (GF 2) (entryPolynomial n) ts))
+    ∷ []
+
 -- DEMAND 1. The work bytes are as they were after 7, 8 and 16; after 19 and after an answer their first 8,192
 -- are 0; those beyond are as they were in every case.
 
-pub record SearchLeaves (told : Result EntryFigures) (work work′ : List ℕ) : Type 0 where
+pub record SearchLeaves (ts : List ℕ) (told : Result EntryFigures) (work work′ : List ℕ) : Type 0 where
   pub tells : Tells searchNumbers told
+  pub decided : Decided (searchConditions ts (length work)) told
   pub work-kept : (n : ℕ) → told ≡ refused n → n ≤ 16 → work′ ≡ work
   pub work-cleared : Answered told ⊎ (told ≡ refused 19) → take 8192 work′ ≡ replicate 8192 0
   pub work-beyond : drop 8192 work′ ≡ drop 8192 work
@@ -49,7 +61,7 @@ pub record SearchLeaves (told : Result EntryFigures) (work work′ : List ℕ) :
 pub record Searching (ts work : List ℕ) : Type 0 where
   pub each : (r : EntryRating) (work′ : List ℕ)
       → EntryCall ts work r work′
-      → SearchLeaves (toldEntry r) work work′
+      → SearchLeaves ts (toldEntry r) work work′
   pub some : (r : EntryRating) × (work′ : List ℕ) × EntryCall ts work r work′
   pub one : (r s : EntryRating) (work′ work″ : List ℕ)
       → EntryCall ts work r work′
@@ -119,7 +131,7 @@ pub record SearchExportRight (ts work : List ℕ) (entry power status : ℕ) (wo
   pub told : Result EntryFigures
   pub status-told : StatusTold told status
   pub figures-told : EntryTold told entry power status entry′ power′
-  pub answers : SearchLeaves told work work′
+  pub answers : SearchLeaves ts told work work′
   pub right : EntryRight ts (length work) told
 
 abbrev pub SearchExport : Type 0
@@ -127,3 +139,8 @@ SearchExport =
     (ts work : List ℕ) (entry power status : ℕ) (work′ : List ℕ) (entry′ power′ : ℕ)
     → EntryExported ts work entry power status work′ entry′ power′
     → SearchExportRight ts work entry power status work′ entry′ power′
+
+abbrev pub SearchExportAnswers : Type 0
+SearchExportAnswers =
+    (ts work : List ℕ) (entry power : ℕ)
+    → ExactlyOne {R = ℕ × List ℕ × ℕ × ℕ} (λ r. EntryExported ts work entry power (r .0) (r .1) (r .2) (r .3))

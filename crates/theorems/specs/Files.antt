@@ -32,7 +32,7 @@ use Rattle.meaning.specs.Print.{text, decimal, joined, line, header}
 use Rattle.meaning.specs.Answers.{SetTold, FileTold, withPowers, withOne, withSome, toldFile, toldRecord}
 use Rattle.meaning.specs.Answers.{padded}
 use Rattle.meaning.specs.Calls.{FileCall, RecordCall, ProgramCall}
-use Rattle.theorems.specs.Answering.{Tells, fileNumbers}
+use Rattle.theorems.specs.Answering.{Tells, fileNumbers, Decided, fileConditions}
 use Rattle.theorems.specs.Ratings.{GF, listIn, NoneBegins, PeriodAnswered, SetAnswered, FreeAnswered}
 
 -- WHAT A FILE HOLDS
@@ -159,13 +159,15 @@ ProgramAsCall =
     → output ≡ header ++ linesTold (r .sender) (toldFile (r .outcome)) (r .powers) answer′
 
 -- So it prints the line of a refusal by one of the file's numbers, or the lines of figures and a polynomial
--- that have the promise of the file's mode. (`left` are answer bytes with that polynomial.)
+-- that have the promise of the file's mode, each exactly if the conditions of the file say so. (`left` are
+-- answer bytes with that polynomial.)
 pub record PrintedRight (input output : List ℕ) : Type 0 where
   pub told : Result FileTold
   pub eight : List ℕ
   pub left : List ℕ
   pub lines : output ≡ header ++ linesTold (boxOf input) told eight left
   pub tells : Tells (fileNumbers (records input)) told
+  pub decided : Decided (fileConditions input 4097 8192) told
   pub right : FileRight input told eight left
 
 abbrev pub ProgramPromise : Type 0

@@ -2,6 +2,7 @@
 -- signs are those of Promises.
 --
 --   startNumbers, termNumbers == the numbers by which a start and a term are refused
+--   startConditions, termConditions == when they are
 --   Run model p ts m terms work == the meter m was started for p and has taken the accepted terms ts, refused
 --                       ones between them: by the contracts of the calls alone, from an accepted start on
 --   StartAnswers     == demand 1 of a start
@@ -9,6 +10,7 @@
 --   MeterRight …     == what a meter after a run shows, and what it tells of another term
 --   MeterPromise     == so it is after every run
 --   ProfileExport    == the same of the whole profile, as the call for other languages leaves it
+--   ProfileAnswers   == demand 1 of that call: some result meets the contract, and one only
 use Prim.Native.Nat.{ℕ, suc, _+_, _*_, _≤_, _<_}
 use mathlib.Core.Path.{_≡_}
 use mathlib.Core.Bool.{true}
@@ -21,15 +23,15 @@ use Rattle.meaning.specs.declared.MeterStart.{MeterStart}
 use Rattle.meaning.specs.declared.MeterStep.{MeterStep}
 use Rattle.meaning.specs.Field.{areElements}
 use Rattle.meaning.specs.Result.{refused, answered}
-use Rattle.meaning.specs.Conditions.{acceptedLent}
+use Rattle.meaning.specs.Conditions.{notPrime, termOutOfField, acceptedLent}
 use Rattle.meaning.specs.Free.{FreeFigures}
-use Rattle.meaning.specs.Meter.{MeterModel, startMeter, profileEntry}
+use Rattle.meaning.specs.Meter.{MeterModel, Remembers, startMeter, profileEntry}
 use Rattle.meaning.specs.Answers.{toldFree, toldStart}
 use Rattle.meaning.specs.Calls.{FreeCall, StartCall, TermCall, ReadingCall}
 use Rattle.meaning.specs.Exports.{ProfileExported}
-use Rattle.theorems.specs.Answering.{Tells}
+use Rattle.theorems.specs.Answering.{Tells, Condition, Decided}
 use Rattle.theorems.specs.Ratings.{GF}
-use Rattle.theorems.specs.OtherLanguages.{StatusTold}
+use Rattle.theorems.specs.OtherLanguages.{StatusTold, ExactlyOne}
 
 abbrev pub startNumbers : List ℕ
 startNumbers = 6 ∷ []
@@ -37,11 +39,20 @@ startNumbers = 6 ∷ []
 abbrev pub termNumbers : List ℕ
 termNumbers = 8 ∷ 18 ∷ []
 
+abbrev pub startConditions : ℕ → List Condition
+startConditions p = (6, T (notPrime p)) ∷ []
+
+-- of a term t for a meter that holds n terms
+abbrev pub termConditions : ℕ → ℕ → ℕ → List Condition
+termConditions p n t = (8, T (termOutOfField (GF p) (t ∷ []))) ∷ (18, (4096 ≤ n)) ∷ []
+
 -- A START
 
 pub record Starting (model : MeterModel) (p : ℕ) (work : List ℕ) : Type 0 where
   pub tells : (r : MeterStart) (work′ : List ℕ) → StartCall model p work r work′
       → Tells startNumbers (toldStart r)
+  pub decided : (r : MeterStart) (work′ : List ℕ) → StartCall model p work r work′
+      → Decided (startConditions p) (toldStart r)
   pub work-kept : (r : MeterStart) (work′ : List ℕ)
       → StartCall model p work r work′
       → (n : ℕ)
@@ -89,6 +100,11 @@ FreeGives p ts a =
 -- The meter shows figures: before the first term 0 and `one`, and else those of the free way for the terms
 -- taken. Another term is told with the free way's figures for all of them, or refused by 8 or 18. Refused, it
 -- leaves the meter and its lent bytes as they were.
+--
+-- The contracts of a term and of a reading speak of whatever the meter and its bytes may hold. With a model
+-- that forgets (one meter for two primes, say) nothing would meet them; `some` and `some-reading` are said of
+-- a model whose meters remember the prime, the number of terms and the least degree. That of the program
+-- does: `meter-remembers` of crates/meter.
 pub record MeterRight (model : MeterModel) (p : ℕ) (ts : List ℕ) (m : Meter) (terms work : List ℕ)
     : Type 0 where
   pub shows : (r : FreeRating) → ReadingCall model m r → (a : FreeFigures) × (toldFree r ≡ answered a)
@@ -99,6 +115,9 @@ pub record MeterRight (model : MeterModel) (p : ℕ) (ts : List ℕ) (m : Meter)
       → FreeGives p ts a
   pub tells : (t : ℕ) (r : MeterStep) (terms′ work′ : List ℕ) → TermCall model m t terms work r terms′ work′
       → Tells termNumbers (toldFree (r .reading))
+  pub decided : (t : ℕ) (r : MeterStep) (terms′ work′ : List ℕ)
+      → TermCall model m t terms work r terms′ work′
+      → Decided (termConditions p (length ts) t) (toldFree (r .reading))
   pub term-told : (t : ℕ) (r : MeterStep) (terms′ work′ : List ℕ)
       → TermCall model m t terms work r terms′ work′
       → (a : FreeFigures)
@@ -109,6 +128,13 @@ pub record MeterRight (model : MeterModel) (p : ℕ) (ts : List ℕ) (m : Meter)
       → (n : ℕ)
       → toldFree (r .reading) ≡ refused n
       → (r .meter ≡ m) × (terms′ ≡ terms) × (work′ ≡ work)
+  pub some-reading : Remembers model → (r : FreeRating) × ReadingCall model m r
+  pub some : Remembers model
+      → (t : ℕ)
+      → (r : MeterStep)
+      × (terms′ : List ℕ)
+      × (work′ : List ℕ)
+      × TermCall model m t terms work r terms′ work′
   pub one-reading : (r s : FreeRating) → ReadingCall model m r → ReadingCall model m s → r ≡ s
   pub one : (t : ℕ) (r s : MeterStep) (terms′ terms″ work′ work″ : List ℕ)
       → TermCall model m t terms work r terms′ work′
@@ -127,6 +153,7 @@ MeterPromise =
 pub record ProfileRight (p : ℕ) (ts profile : List ℕ) (status : ℕ) (profile′ : List ℕ) : Type 0 where
   pub status-told : StatusTold (startMeter p) status
   pub answers : Tells startNumbers (startMeter p)
+  pub decided : Decided (startConditions p) (startMeter p)
   pub kept : (n : ℕ) → startMeter p ≡ refused n → profile′ ≡ profile
   pub entries : status ≡ 0
       → T (areElements (GF p) ts)
@@ -142,3 +169,8 @@ ProfileExport =
     (p : ℕ) (ts profile : List ℕ) (status : ℕ) (profile′ : List ℕ)
     → ProfileExported p ts profile status profile′
     → ProfileRight p ts profile status profile′
+
+abbrev pub ProfileAnswers : Type 0
+ProfileAnswers =
+    (p : ℕ) (ts profile : List ℕ)
+    → ExactlyOne {R = ℕ × List ℕ} (λ r. ProfileExported p ts profile (r .0) (r .1))

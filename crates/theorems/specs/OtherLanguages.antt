@@ -5,7 +5,10 @@
 -- and 0 is told of nothing but an answer. The lent numbers and bytes are the figures of the answer, or as
 -- they were. What is told, and what is left in the answer, work and buffer bytes, has the promises of the
 -- wrapped call: demand 1 (`answers`) and demand 2 (`right`). The exported question for primes has the
--- contract `PrimeCall`, and so its promise.
+-- contract `PrimeCall`, and so its promise and its demand 1.
+--
+-- ExportAnswers says that on every input some result meets the contract of an exported call, and one only, in
+-- the status and in every lent number and byte.
 use Prim.Native.Nat.{ℕ}
 use mathlib.Core.Path.{_≡_}
 use mathlib.Core.Logic.{_↔_}
@@ -22,17 +25,24 @@ use Rattle.meaning.specs.Free.{FreeFigures}
 use Rattle.meaning.specs.Continuation.{continueSequence}
 use Rattle.meaning.specs.Irreducibility.{askIrreducible}
 use Rattle.meaning.specs.Answers.{SetTold}
+use Rattle.meaning.specs.Calls.{PrimeCall}
 use Rattle.meaning.specs.FlatBytes.{bytesOfAll}
 use Rattle.meaning.specs.Exports.{statusOf, numberAfter, PowerTold, PowerExported, SetExported, wordOf}
 use Rattle.meaning.specs.Exports.{FreeExported, Filled, yesAfter, Question}
 use Rattle.theorems.specs.Answering.{periodNumbers, setNumbers, freeNumbers}
 use Rattle.theorems.specs.Answering.{continueNumbers, irreducibleNumbers, Answered, Tells}
-use Rattle.theorems.specs.Answering.{RatingAnswers}
+use Rattle.theorems.specs.Answering.{Decided, listConditions, listsConditions, freeConditions}
+use Rattle.theorems.specs.Answering.{continueConditions, irreducibleConditions, RatingAnswers}
 use Rattle.theorems.specs.Ratings.{GF, PeriodRight, SetRight, FreeAnswered, ContinueRight}
 
 pub record StatusTold {A : Type 0} (told : Result A) (status : ℕ) : Type 0 where
   pub is : status ≡ statusOf told
   pub zero : status ≡ 0 → Answered told
+
+-- of results r, which are a status and what is left in lent numbers and bytes
+pub record ExactlyOne {R : Type 0} (Call : R → Type 0) : Type 0 where
+  pub some : (r : R) × Call r
+  pub one : (r s : R) → Call r → Call s → r ≡ s
 
 -- THE PERIOD WAY: power, degree and repeat length are lent numbers
 
@@ -41,7 +51,9 @@ pub record PeriodExportRight (p : ℕ) (f : Polynomial) (ts answer work : List �
   pub told : Result PowerFigures
   pub status-told : StatusTold told status
   pub figures-told : PowerTold told power degree repeat status power′ degree′ repeat′
-  pub answers : RatingAnswers periodNumbers (λ a. a .degree) told answer work answer′ work′
+  pub answers :
+      RatingAnswers periodNumbers (listConditions p f ts (length answer) (length work)) (λ a. a .degree) told
+      answer work answer′ work′
   pub right : PeriodRight p (monicMultiple (GF p) f) ts told answer′
 
 abbrev pub PeriodExport : Type 0
@@ -64,7 +76,10 @@ pub record SetExportRight (p : ℕ) (fs : List Polynomial) (vs ts answer work po
   pub repeat-told : repeat′ ≡ numberAfter (λ a. a .repeat) told repeat
   pub powers-told : Answered told → powers′ ≡ take (length powers) (bytesOfAll eight) ++ drop 64 powers
   pub powers-kept : (n : ℕ) → told ≡ refused n → powers′ ≡ powers
-  pub answers : RatingAnswers setNumbers (λ a. a .degree) told answer work answer′ work′
+  pub answers :
+      RatingAnswers setNumbers (listsConditions p fs vs ts (length answer) (length work))
+      (λ a. a .degree) told
+      answer work answer′ work′
   pub right : SetRight p (map (monicMultiple (GF p)) fs) vs ts told eight answer′
 
 abbrev pub SetExport : Type 0
@@ -83,7 +98,10 @@ pub record FreeExportRight (p : ℕ) (ts answer work : List ℕ) (degree unique 
   pub status-told : StatusTold told status
   pub degree-told : degree′ ≡ numberAfter (λ a. a .degree) told degree
   pub word-told : unique′ ≡ numberAfter wordOf told unique
-  pub answers : RatingAnswers freeNumbers (λ a. a .degree) told answer work answer′ work′
+  pub answers :
+      RatingAnswers freeNumbers (freeConditions p ts (length answer) (length work))
+      (λ a. a .degree) told answer
+      work answer′ work′
   pub right : (a : FreeFigures) → told ≡ answered a → FreeAnswered p ts a answer′
 
 abbrev pub FreeExport : Type 0
@@ -100,6 +118,7 @@ pub record ContinueExportRight (p : ℕ) (g : Polynomial) (start buffer : List �
   pub told : Result (Unit {0})
   pub status-told : StatusTold told status
   pub answers : Tells continueNumbers told
+  pub decided : Decided (continueConditions p g start place (length buffer)) told
   pub right : ContinueRight p (monicMultiple (GF p) g) start buffer place told buffer′
 
 abbrev pub ContinueExport : Type 0
@@ -114,6 +133,7 @@ pub record IrreducibleExportRight (p : ℕ) (f : Polynomial) (yes status yes′ 
   pub status-told : StatusTold told status
   pub yes-told : yes′ ≡ yesAfter told yes
   pub answers : Tells irreducibleNumbers told
+  pub decided : Decided (irreducibleConditions p f) told
   pub right : (said : Bool) → told ≡ answered said → T said ↔ NotAProduct (GF p) f
 
 abbrev pub IrreducibleExport : Type 0
@@ -121,3 +141,26 @@ IrreducibleExport =
     (p : ℕ) (f : Polynomial) (yes status yes′ : ℕ)
     → Question (askIrreducible p f) yes status yes′
     → IrreducibleExportRight p f yes status yes′
+
+-- DEMAND 1
+
+pub record ExportAnswers : Type 0 where
+  pub period : (p : ℕ) (f : Polynomial) (ts answer work : List ℕ) (power degree repeat : ℕ)
+      → ExactlyOne {R = ℕ × List ℕ × List ℕ × ℕ × ℕ × ℕ}
+      (λ r.
+      PowerExported (ratePeriod p f ts (length answer) (length work)) answer work power degree repeat (r .0)
+      (r .1) (r .2) (r .3) (r .4) (r .5))
+  pub set : (p : ℕ) (fs : List Polynomial) (vs ts answer work powers : List ℕ) (degree repeat : ℕ)
+      → ExactlyOne {R = ℕ × List ℕ × List ℕ × List ℕ × ℕ × ℕ}
+      (λ r.
+      SetExported (rateSet p fs vs ts (length answer) (length work)) answer work powers degree repeat (r .0)
+      (r .1) (r .2) (r .3) (r .4) (r .5))
+  pub free : (p : ℕ) (ts answer work : List ℕ) (degree unique : ℕ)
+      → ExactlyOne {R = ℕ × List ℕ × List ℕ × ℕ × ℕ}
+      (λ r. FreeExported p ts answer work degree unique (r .0) (r .1) (r .2) (r .3) (r .4))
+  pub continuation : (p : ℕ) (g : Polynomial) (start buffer : List ℕ) (place : ℕ)
+      → ExactlyOne {R = ℕ × List ℕ}
+      (λ r. Filled (continueSequence p g start place buffer) buffer (r .0) (r .1))
+  pub irreducibility : (p : ℕ) (f : Polynomial) (yes : ℕ)
+      → ExactlyOne {R = ℕ × ℕ} (λ r. Question (askIrreducible p f) yes (r .0) (r .1))
+  pub primes : (n : ℕ) → ExactlyOne (PrimeCall n)

@@ -36,10 +36,10 @@ use Rattle.theorems.specs.CutAnywhere.{CutAnywherePromise}
 use Rattle.theorems.specs.Files.{FilePromise, RecordPromise, ProgramAsCall, ProgramPromise}
 use Rattle.theorems.specs.Density.{DensityPromise}
 use Rattle.theorems.specs.OtherLanguages.{PeriodExport, SetExport, FreeExport}
-use Rattle.theorems.specs.OtherLanguages.{ContinueExport, IrreducibleExport}
-use Rattle.theorems.specs.Meters.{StartAnswers, MeterPromise, ProfileExport}
+use Rattle.theorems.specs.OtherLanguages.{ContinueExport, IrreducibleExport, ExportAnswers}
+use Rattle.theorems.specs.Meters.{StartAnswers, MeterPromise, ProfileExport, ProfileAnswers}
 use Rattle.theorems.specs.Catalogue.{SearchAnswers, EntryAnswers, CataloguePromise, EntryPromise}
-use Rattle.theorems.specs.Catalogue.{SearchExport}
+use Rattle.theorems.specs.Catalogue.{SearchExport, SearchExportAnswers}
 
 pub record Promises : Type 0 where
   -- demand 1
@@ -88,3 +88,6 @@ pub record Promises : Type 0 where
   pub irreducible-export : IrreducibleExport
   pub profile-export : ProfileExport
   pub search-export : SearchExport
+  pub export-answers : ExportAnswers
+  pub profile-answers : ProfileAnswers
+  pub search-export-answers : SearchExportAnswers

@@ -59,8 +59,10 @@ pub record Returns (g : Polynomial) (told : ℕ) (answer′ : List ℕ) : Type 0
 -- THE WAYS
 
 -- The period way: the power is the least that annihilates the endless repetition, the polynomial returned is
--- the minimal polynomial of it, and the repeat length is its least period. (In every way the degree is at
--- most 4,096, so that the list has its place in the 4,097 answer bytes: `small`.)
+-- the minimal polynomial of it, and the repeat length is its least period (`repeat`). What the repeat length
+-- of a portion says it says too (`repeat-meaning`), and it is never 0 (`repeat-positive`): a period has a
+-- least period, at most its number of terms, and x does not divide its polynomial. (In every way the degree
+-- is at most 4,096, so that the list has its place in the 4,097 answer bytes: `small`.)
 pub record PeriodAnswered (p : ℕ) (f : Polynomial) (ts : List ℕ) (a : PowerFigures) (answer′ : List ℕ)
     : Type 0 where
   pub small : a .degree ≤ 4096
@@ -68,6 +70,8 @@ pub record PeriodAnswered (p : ℕ) (f : Polynomial) (ts : List ℕ) (a : PowerF
   pub minimal : MinimalPolynomial (GF p) (listIn answer′ (a .degree)) (periodic ts)
   pub returns : Returns (power (GF p) f (a .power)) (a .degree) answer′
   pub repeat : LeastPeriod (periodic ts) (a .repeat)
+  pub repeat-meaning : RepeatMeaning (listIn answer′ (a .degree)) (periodic ts) (a .repeat)
+  pub repeat-positive : 0 < a .repeat
 
 -- 17 means that no power of f, however large, annihilates it.
 pub record PeriodRight (p : ℕ) (f : Polynomial) (ts : List ℕ) (told : Result PowerFigures) (answer′ : List ℕ)

@@ -17,8 +17,8 @@ use lib.ListN.{length, getD, replicate, length-map, List·getD-map}
 use lib.Bits.{bitXor}
 use Rattle.meaning.specs.Field.{prime}
 use Rattle.meaning.specs.Polynomial.{plus, scale}
-use Rattle.bridge.proofs.Interpretation.{prime-add-product, prime-size, mod-mul-mod}
-use Rattle.bridge.proofs.WordLists.{xor-low, one-bit}
+use Rattle.bridge.proofs.Basics.Interpretation.{prime-add-product, prime-size, mod-mul-mod}
+use Rattle.bridge.proofs.Binary.WordLists.{xor-low, one-bit}
 use Rattle.arith.specs.Slices.{combined}
 use Rattle.action.specs.bits.Bits.{bytes, bitsOf}
 

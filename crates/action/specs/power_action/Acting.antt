@@ -1,7 +1,8 @@
 -- What the contract of a power that acts cites.
 --
 --   Actable field w h n f u == the n terms of half h of w are elements of the field, f is a polynomial over
---                        it, not empty, and f^u has a degree of at most n, u at most 4,096
+--                        it, not empty and of at most 33 coefficients, and f^u has a degree of at most
+--                        n, u at most 4,096
 --   PowerActed field w h n f u w′ r == the action of f^u on these terms is the terms at the place r of w′, w
 --                        has become w′
 use Prim.Native.Nat.{ℕ, _*_, _-_, _≤_, _<_}
@@ -22,7 +23,7 @@ pub record Actable (field : GaloisField) (w : List ℕ) (h n : ℕ) (f : Polynom
   pub terms : T (areElements (fieldOf field) (half w h n))
   pub elements : T (areElements (fieldOf field) f)
   pub nonempty : 0 < length f
-  pub short : length f ≤ 4097
+  pub short : length f ≤ 33
   pub few : u ≤ 4096
   pub enough : u * degree f ≤ n
 

@@ -4,7 +4,7 @@ use native.Mathlib.Omega.{arith}
 use borrow.Author.Needs.{needs}
 use lib.ListN.{getD, List·getD-eq-default}
 use Rattle.meaning.specs.Catalogue.{catalogue}
-use Rattle.bridge.proofs.CatalogueTable.{table, catalogue-table, catalogue-count}
+use Rattle.bridge.proofs.Binary.CatalogueTable.{table, catalogue-table, catalogue-count}
 use Rattle.catalogue.proofs.catalogue_entry.Statement.{statement}
 use Rattle.catalogue.proofs.catalogue_entry.Tie as tie
 

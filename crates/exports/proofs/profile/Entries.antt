@@ -18,17 +18,15 @@ use Rattle.meaning.specs.declared.Meter.{Meter}
 use Rattle.meaning.specs.declared.MeterStep.{MeterStep}
 use Rattle.meaning.specs.Result.{Result, refused, answered}
 use Rattle.meaning.specs.Free.{FreeFigures}
-use Rattle.meaning.specs.Meter.{termTable, takeTerm, meterReading, unlessRefused, profileEntry}
-use Rattle.meaning.specs.Meter.{readingEntry}
+use Rattle.meaning.specs.Meter.{termTable, takeTerm, meterReading, unlessRefused, profileEntry, readingEntry}
 use Rattle.meaning.specs.Answers.{numberOf, toldFree}
 use Rattle.meaning.specs.Calls.{TermCall, TermTaken, ReadingCall}
 use Rattle.meaning.specs.Exports.{statusOf}
-use Rattle.bridge.proofs.Searches.{settle-answered, answered-same, never-answered}
-use Rattle.bridge.proofs.Meters.{holding-more}
+use Rattle.bridge.proofs.Basics.Searches.{settle-answered, answered-same, never-answered}
+use Rattle.bridge.proofs.Massey.Meters.{holding-more}
 use Rattle.meter.specs.Model.{meterModel}
 use Rattle.meter.proofs.Keeping.{holding-reading, holding-numbers}
-use Rattle.exports.specs.profile.Entries.{heldWith, entryOf, Ready, EntryWritten}
-use Rattle.exports.specs.profile.Entries.{TermEntered}
+use Rattle.exports.specs.profile.Entries.{heldWith, entryOf, Ready, EntryWritten, TermEntered}
 
 -- A meter and lent bytes that are those of another are ready for the same
 pub ready-same : {p : ℕ} {held : List ℕ} {m m′ : Meter} {terms work terms′ work′ : List ℕ}

@@ -20,13 +20,13 @@ use Rattle.meaning.specs.declared.Meter.{Meter}
 use Rattle.meaning.specs.declared.MeterStart.{MeterStart}
 use Rattle.meaning.specs.Result.{Result, refused, answered, written}
 use Rattle.meaning.specs.Free.{FreeFigures}
-use Rattle.meaning.specs.Meter.{startMeter, termTable, takeTerm, meterReading, unlessRefused}
-use Rattle.meaning.specs.Meter.{profileEntry, readingEntry, profileOf}
+use Rattle.meaning.specs.Meter.{startMeter, termTable, takeTerm, meterReading, unlessRefused, profileEntry}
+use Rattle.meaning.specs.Meter.{readingEntry, profileOf}
 use Rattle.meaning.specs.Answers.{numberOf, toldStart}
 use Rattle.meaning.specs.Calls.{StartCall}
 use Rattle.meaning.specs.Exports.{statusOf, ProfileExported}
-use Rattle.bridge.proofs.Searches.{settle-answered, map-answered, map-refused}
-use Rattle.bridge.proofs.Meters.{holding-none, reading-taken}
+use Rattle.bridge.proofs.Basics.Searches.{settle-answered, map-answered, map-refused}
+use Rattle.bridge.proofs.Massey.Meters.{holding-none, reading-taken}
 use Rattle.meter.specs.Model.{meterModel}
 use Rattle.exports.specs.profile.Entries.{heldWith, heldAfter, entryOf, Ready, TermEntered}
 use Rattle.exports.specs.profile.Entries.{ProfileWritten}

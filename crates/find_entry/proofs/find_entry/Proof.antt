@@ -3,7 +3,8 @@
 use native.Mathlib.Omega.{arith}
 use denote.Ref.{now}
 use borrow.Author.Needs.{needs}
-use Rattle.find_entry.proofs.Call.{two-prime, entry-refused, room, searched-period, entry-call}
+use Rattle.bridge.proofs.Binary.Bits.{two-prime}
+use Rattle.find_entry.proofs.Call.{entry-refused, work-enough, searched-period, entry-call}
 use Rattle.find_entry.proofs.find_entry.Statement.{statement}
 use Rattle.find_entry.proofs.find_entry.Tie as tie
 
@@ -32,7 +33,7 @@ first-entry-requires c κs =
     let w = now (s .args .work) in
     let k = verdict a .free-verdict .ensures in (
       o .of-prime .ensures,
-      (room ts w k (a .enum-told .given .1), searched-period ts w k (a .enum-told .given .1)),
+      (work-enough ts w k (a .enum-told .given .1), searched-period ts w k (a .enum-told .given .1)),
     )
 
 clear-requires : tie.Need-clear-requires
@@ -42,7 +43,7 @@ clear-requires c κs =
     let s = verdict a .before .before .before in
     omega (
       arith,
-      room (now (s .args .terms)) (now (s .args .work)) (verdict a .free-verdict .ensures)
+      work-enough (now (s .args .terms)) (now (s .args .work)) (verdict a .free-verdict .ensures)
           (a .enum-told .given .1),
       f .first-entry .ensures .kept .size,
     )

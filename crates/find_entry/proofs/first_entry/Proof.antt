@@ -2,7 +2,7 @@
 -- number of entries that are left. Assumes nothing.
 use Prim.Native.Nat.{_-_}
 use borrow.Author.Needs.{needs}
-use Rattle.find_entry.proofs.Entries.{look-places, Searching, searching-none, searching-room}
+use Rattle.find_entry.proofs.Entries.{look-places, Searching, searching-none, searching-enough}
 use Rattle.find_entry.proofs.Entries.{searching-more, searching-found, searching-end}
 use Rattle.find_entry.proofs.first_entry.Statement.{statement}
 use Rattle.find_entry.proofs.first_entry.Tie as tie
@@ -34,7 +34,7 @@ search-entry-requires c κs =
     let x = s .pre .1 .1 in (
       s .pre .0,
       (
-        searching-room (l .loop .inv) (s .pre .1 .0),
+        searching-enough (l .loop .inv) (s .pre .1 .0),
         (
           search needs,
           (

@@ -6,10 +6,15 @@ use Rattle.find_entry.proofs.search_after_look.Statement.{statement}
 use Rattle.find_entry.proofs.search_after_look.Tie as tie
 
 vanishes-at-requires : tie.Need-vanishes-at-requires
-vanishes-at-requires c κs = search needs
+vanishes-at-requires c κs =
+    let s = c .before .before .before in
+    (s .pre .0 .wellFormed, s .pre .1 .1 .1 .1)
 
 search-level-requires : tie.Need-search-level-requires
-search-level-requires c κs = search needs
+search-level-requires c κs =
+    let s = c .before .before .before .before .before .before in
+    let x = s .pre .1 .1 in
+    (s .pre .0 .wellFormed, (s .pre .1 .0, (x .0, x .1 .0)))
 
 same-length : tie.Need-same-length
 same-length c = search needs

@@ -30,7 +30,7 @@ search-after-look-requires c κs =
     let s = k .before .before .before in
     let x = s .pre .1 .1 in
     let e = entry-coefficients (k .catalogue-entry .ensures) (u .unpack .ensures) in (
-      s .pre .0 .wellFormed,
+      s .pre .0,
       (
         s .pre .1 .0,
         (

@@ -20,11 +20,11 @@ use lib.Dec.{T}
 use borrow.Rule.Slice.PartMut.{putMid}
 use Rattle.meaning.specs.Field.{Field, areElements}
 use Rattle.meaning.specs.Polynomial.{Polynomial, degree, times, power}
-use Rattle.bridge.proofs.Interpretation.{IsField, size-two}
-use Rattle.bridge.proofs.Coefficients.{getD-zeros}
-use Rattle.bridge.proofs.Continuations.{take-elements}
-use Rattle.bridge.proofs.Remainders.{Congruent, congruent-trans, congruent-places}
-use Rattle.bridge.proofs.Residues.{monomial-congruent, heights-times}
+use Rattle.bridge.proofs.Basics.Interpretation.{IsField, size-two}
+use Rattle.bridge.proofs.Lists.Coefficients.{getD-zeros}
+use Rattle.bridge.proofs.Sequences.Continuations.{take-elements}
+use Rattle.bridge.proofs.Lists.Remainders.{Congruent, congruent-trans, congruent-places}
+use Rattle.bridge.proofs.Lists.Residues.{monomial-congruent, heights-times}
 use Rattle.arith.specs.Represented.{fieldOf, WellFormed}
 use Rattle.arith.specs.declared.field.GaloisField.{GaloisField}
 use Rattle.arith.proofs.Represented.{field-isField}
@@ -33,7 +33,7 @@ use Rattle.lent.proofs.Parts.{put-paste}
 use Rattle.poly.specs.common_divisor.Common.{Trimmed}
 use Rattle.poly.specs.residues.Residues.{Modulus, Factors, Residue}
 use Rattle.irreducible.specs.frobenius.Table.{row, Table}
-use Rattle.bridge.proofs.Polynomials.{set-elements, zeros-elements}
+use Rattle.bridge.proofs.Lists.Polynomials.{set-elements, zeros-elements}
 use Rattle.lent.proofs.Parts.{copied}
 use Rattle.lent.proofs.Parts.{copied-back}
 use Rattle.poly.proofs.common_divisor.Trimming.{trimmed-within, trimmed-part, trimmed-size, trimmed-places}
@@ -105,11 +105,11 @@ module _ {field : GaloisField} (v : WellFormed field) {f : Polynomial} (y : Poly
     abbrev src : List ℕ
     src = take (e - 0) now
 
-    whole : src ≡ take d now
-    whole = let same : e - 0 ≡ d = omega arith in ap (λ n. take n now) same
+    src-whole : src ≡ take d now
+    src-whole = let same : e - 0 ≡ d = omega arith in ap (λ n. take n now) same
 
     src-length : length src ≡ d
-    src-length = ap length whole ∙ length-take-le d now (omega (arith, h .rowSize, M .small))
+    src-length = ap length src-whole ∙ length-take-le d now (omega (arith, h .rowSize, M .small))
 
     pub src-fits : length src ≤ length (take (32 * j + e - 32 * j) (drop (32 * j) table))
     src-fits =
@@ -123,7 +123,7 @@ module _ {field : GaloisField} (v : WellFormed field) {f : Polynomial} (y : Poly
         )
 
     pub src-elements : T (areElements F src)
-    src-elements = subst (λ u. T (areElements F u)) (sym whole) (h .elements)
+    src-elements = subst (λ u. T (areElements F u)) (sym src-whole) (h .elements)
 
     pub src-degree : length src ≡ degree f
     src-degree = src-length
@@ -132,8 +132,8 @@ module _ {field : GaloisField} (v : WellFormed field) {f : Polynomial} (y : Poly
         (c : ys ≡ take (length src) src
         ++ drop (length src) (take (32 * j + e - 32 * j) (drop (32 * j) table)))
         (r : Residue field f (times F y src) zs) where
-      room : length (take (32 * j + e - 32 * j) (drop (32 * j) table)) ≡ d
-      room =
+      row-length : length (take (32 * j + e - 32 * j) (drop (32 * j) table)) ≡ d
+      row-length =
           omega (
             arith,
             length-take (32 * j + e - 32 * j) (drop (32 * j) table),
@@ -143,32 +143,32 @@ module _ {field : GaloisField} (v : WellFormed field) {f : Polynomial} (y : Poly
           )
 
       ys-is : ys ≡ src
-      ys-is = c ∙ copied _ src (omega (arith, src-length, room))
+      ys-is = c ∙ copied _ src (omega (arith, src-length, row-length))
 
       ys-length : length ys ≡ d
       ys-length = ap length ys-is ∙ src-length
 
-      fits : 32 * j + d ≤ length table
-      fits = omega (arith, h .tableSize, M .small)
+      row-fits : 32 * j + d ≤ length table
+      row-fits = omega (arith, h .tableSize, M .small)
 
-      pasted : putMid (32 * j) (32 * j + e - 32 * j) table ys ≡ paste table (32 * j) ys d
-      pasted =
+      row-pasted : putMid (32 * j) (32 * j + e - 32 * j) table ys ≡ paste table (32 * j) ys d
+      row-pasted =
           ap (λ n. putMid (32 * j) (32 * j + n - 32 * j) table ys) s ∙ put-paste table (32 * j) d ys ys-length
 
       old-rows :
           (k : ℕ) → k < j → row (putMid (32 * j) (32 * j + e - 32 * j) table ys) k d ≡ row table k d
       old-rows k m =
-          ap (λ u. row u k d) pasted
-          ∙ part-paste-before table (32 * j) ys d fits (omega (arith, ys-length)) (32 * k) d
+          ap (λ u. row u k d) row-pasted
+          ∙ part-paste-before table (32 * j) ys d row-fits (omega (arith, ys-length)) (32 * k) d
           (omega (arith, M .small))
 
       new-row : row (putMid (32 * j) (32 * j + e - 32 * j) table ys) j d ≡ take d now
       new-row =
-          ap (λ u. row u j d) pasted
-          ∙ part-paste-inside table (32 * j) ys d fits (omega (arith, ys-length))
+          ap (λ u. row u j d) row-pasted
+          ∙ part-paste-inside table (32 * j) ys d row-fits (omega (arith, ys-length))
           ∙ take-all d ys (omega (arith, ys-length))
           ∙ ys-is
-          ∙ whole
+          ∙ src-whole
 
       next-row : take d (zs ++ drop (e - 0) now) ≡ zs
       next-row = take-at zs (drop (e - 0) now) d (r .size)
@@ -178,8 +178,8 @@ module _ {field : GaloisField} (v : WellFormed field) {f : Polynomial} (y : Poly
       filling-next =
           record {
             tableSize =
-                ap length pasted
-                ∙ length-paste table (32 * j) ys d fits (omega (arith, ys-length))
+                ap length row-pasted
+                ∙ length-paste table (32 * j) ys d row-fits (omega (arith, ys-length))
                 ∙ h .tableSize;
             rowSize =
                 length-append zs (drop (e - 0) now)
@@ -194,7 +194,7 @@ module _ {field : GaloisField} (v : WellFormed field) {f : Polynomial} (y : Poly
                 subst (λ u. Congruent I f (power F (0 ∷ 1 ∷ []) ((j + 1) * F .size)) u) (sym next-row)
                 (subst (λ n. Congruent I f (power F (0 ∷ 1 ∷ []) n) zs) more
                 (heights-times I (F .size) (j * F .size) (p w)
-                (subst (Congruent I f (power F (0 ∷ 1 ∷ []) (j * F .size))) (sym whole) (h .current p w))
+                (subst (Congruent I f (power F (0 ∷ 1 ∷ []) (j * F .size))) (sym src-whole) (h .current p w))
                 (r .congruent w)));
             rows = λ p k m. elim (decLt k j) [
               | yes a ↦ subst (Residue field f _) (sym (old-rows k a)) (h .rows p k a)

@@ -15,18 +15,18 @@ use lib.Seq.{take-all}
 use lib.Dec.{T}
 use Rattle.meaning.specs.Field.{Field, areElements}
 use Rattle.meaning.specs.Polynomial.{Polynomial, degree, power}
-use Rattle.bridge.proofs.Interpretation.{IsField}
-use Rattle.bridge.proofs.Polynomials.{plus-elements, scale-elements}
-use Rattle.bridge.proofs.Coefficients.{getD-zeros}
-use Rattle.bridge.proofs.Remainders.{Congruent}
-use Rattle.bridge.proofs.Residues.{rows-start, rows-next}
+use Rattle.bridge.proofs.Basics.Interpretation.{IsField}
+use Rattle.bridge.proofs.Lists.Polynomials.{plus-elements, scale-elements}
+use Rattle.bridge.proofs.Lists.Coefficients.{getD-zeros}
+use Rattle.bridge.proofs.Lists.Remainders.{Congruent}
+use Rattle.bridge.proofs.Lists.Residues.{rows-start, rows-next}
 use Rattle.arith.specs.Represented.{fieldOf, WellFormed}
 use Rattle.arith.specs.Slices.{combined}
 use Rattle.arith.specs.declared.field.GaloisField.{GaloisField}
 use Rattle.arith.proofs.Represented.{field-isField, size-power}
 use Rattle.arith.proofs.Slices.{length-combined}
 use Rattle.irreducible.specs.frobenius.Table.{row, Rows, Summed}
-use Rattle.bridge.proofs.Polynomials.{zeros-elements}
+use Rattle.bridge.proofs.Lists.Polynomials.{zeros-elements}
 
 pub record Summing (field : GaloisField) (table h sum : List ℕ) (j : ℕ) : Type 0 where
   pub within : j ≤ length h

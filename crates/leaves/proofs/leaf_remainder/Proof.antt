@@ -5,9 +5,9 @@ use lib.Dec.{T}
 use denote.Ref.{now}
 use borrow.Author.Needs.{needs}
 use Rattle.meaning.specs.Field.{Field, prime, primeInRange, areElements}
-use Rattle.bridge.proofs.Searches.{not-false}
-use Rattle.bridge.proofs.Accepted.{terms-accepted}
-use Rattle.bridge.proofs.Multiples.{Leads, coefficients-lead}
+use Rattle.bridge.proofs.Basics.Searches.{not-false}
+use Rattle.bridge.proofs.Ways.Accepted.{terms-accepted}
+use Rattle.bridge.proofs.Lists.Multiples.{Leads, coefficients-lead}
 use Rattle.leaves.specs.Remaindered.{Remaindered}
 use Rattle.leaves.proofs.Remaindering.{kept-out-of-range, kept-coefficient, kept-out-of-field}
 use Rattle.leaves.proofs.leaf_remainder.Statement.{statement}
@@ -67,7 +67,8 @@ returns-4 : tie.Need-returns-4
 returns-4 c =
     let r = c .before .before in
     let o = r .before .before in
-    let a = o .before .before .before .before .before .before .before .before .before .before .args in
+    let m = o .before .before .before .before in
+    let a = m .before .before .before .before .before .before .args in
     let f′ = r .divide .last .1 .0 in
     subst (λ (F : Field). Remaindered (primeInRange (a .p)) F (now (a .g)) (now (a .f)) f′)
     (o .of-prime .ensures .isField)

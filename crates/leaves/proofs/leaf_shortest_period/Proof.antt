@@ -4,7 +4,7 @@ use Prim.Native.Nat.{_<_}
 use native.Mathlib.Omega.{arith}
 use lib.ListN.{length}
 use denote.Ref.{now}
-use Rattle.repetition.proofs.Deciding.{all-decide}
+use Rattle.repeat.proofs.shortest.Deciding.{all-decide}
 use Rattle.leaves.proofs.Repeating.{nothing-found, found}
 use Rattle.leaves.proofs.leaf_shortest_period.Statement.{statement}
 use Rattle.leaves.proofs.leaf_shortest_period.Tie as tie

@@ -15,8 +15,8 @@ use borrow.Rule.Slice.PartMut.{putMid}
 use Rattle.meaning.specs.Field.{Field}
 use Rattle.meaning.specs.Polynomial.{Polynomial}
 use Rattle.meaning.specs.Sequence.{periodic}
-use Rattle.bridge.proofs.Actions.{actStride, length-cut, cut-equal}
-use Rattle.bridge.proofs.KnownActions.{allZero}
+use Rattle.bridge.proofs.Sequences.Actions.{actStride, length-cut, cut-equal}
+use Rattle.bridge.proofs.Sequences.KnownActions.{allZero}
 use Rattle.arith.specs.Slices.{part}
 use Rattle.arith.proofs.Slices.{length-part}
 use Rattle.lent.specs.blocks.Blocks.{blockOnPeriod, Block, BlockActed}

@@ -1,6 +1,6 @@
 -- The halves of the work bytes, after an action and cut shorter.
 --
---   acted-values      == the values of an action stand at the front of the other half
+--   acted-values      == the values of the action of a power stand at the front of the other half
 --   acted-same        == the half that was read is as it was
 --   take-min, half-cut == the first terms that are among the first m, of a list and of a half
 --   lent-half         == a half lent as a part
@@ -8,7 +8,7 @@
 --
 -- Assumes nothing.
 use Prim.Native.Nat.{ℕ, _+_, _*_, _-_, _≤_, _<_, min}
-use mathlib.Core.Path.{_≡_, refl, sym, ap, subst, _∙_}
+use mathlib.Core.Path.{_≡_, refl, sym, ap, ap₂, subst, _∙_}
 use mathlib.Core.Bool.{Bool, true, false}
 use mathlib.Core.List.{List, _++_}
 use native.Mathlib.Nat as ℕ
@@ -18,10 +18,13 @@ use lib.ListN.{length, take, drop, replicate, length-take}
 use lib.Seq.{take-take, take-all}
 use lib.Dec.{T}
 use Rattle.meaning.specs.Field.{Field}
-use Rattle.meaning.specs.Polynomial.{Polynomial, degree}
+use Rattle.meaning.specs.Polynomial.{Polynomial, degree, power}
+use Rattle.meaning.specs.Sequence.{actOnKnown}
 use Rattle.meaning.specs.Result.{cleared}
-use Rattle.bridge.proofs.Searches.{true-T, false-T}
-use Rattle.bridge.proofs.KnownActions.{allZero, strideOnKnown, length-strideOnKnown, strideOnKnown-none}
+use Rattle.bridge.proofs.Basics.Searches.{true-T, false-T}
+use Rattle.bridge.proofs.Basics.Interpretation.{IsField}
+use Rattle.bridge.proofs.Lists.Products.{degree-power}
+use Rattle.bridge.proofs.Sequences.KnownActions.{allZero, allZero-nil, length-actOnKnown, actOnKnown-short}
 use Rattle.arith.proofs.Slices.{length-part}
 use Rattle.lent.specs.halves.Halves.{half, Halves, Placed, Acted}
 use Rattle.lent.specs.halves.Kept.{Kept}
@@ -68,16 +71,18 @@ placed-same {w} {h} {k} {values} {w′} n l x =
     ∙ ap (take n) (x .kept)
     ∙ take-take n 4096 (drop (4096 * k) w) l
 
--- An action with a stride
-module _ (F : Field) (f : Polynomial) (q : ℕ) {w : List ℕ} {h n : ℕ} {w′ : List ℕ} {r : Bool}
-    (halves : Halves w h n) (x : Acted w h (strideOnKnown F f q (half w h n)) w′ r) where
-  acted-length : length (strideOnKnown F f q (half w h n)) ≡ n - q * degree f
+-- An action of a power
+module _ {F : Field} (I : IsField F) (f : Polynomial) (nonempty : 0 < length f) (q : ℕ) {w : List ℕ} {h n : ℕ}
+    {w′ : List ℕ} {r : Bool} (halves : Halves w h n)
+    (x : Acted w h (actOnKnown F (power F f q) (half w h n)) w′ r) where
+  acted-length : length (actOnKnown F (power F f q) (half w h n)) ≡ n - q * degree f
   acted-length =
-      length-strideOnKnown F f q (half w h n) ∙ ap (λ m. m - q * degree f) (half-length halves)
+      length-actOnKnown F (power F f q) (half w h n)
+      ∙ ap₂ _-_ (half-length halves) (degree-power I f q nonempty)
 
-  pub acted-values : half w′ (1 - h) (n - q * degree f) ≡ strideOnKnown F f q (half w h n)
+  pub acted-values : half w′ (1 - h) (n - q * degree f) ≡ actOnKnown F (power F f q) (half w h n)
   acted-values =
-      subst (λ m. half w′ (1 - h) m ≡ strideOnKnown F f q (half w h n)) acted-length (x .placed .made)
+      subst (λ m. half w′ (1 - h) m ≡ actOnKnown F (power F f q) (half w h n)) acted-length (x .placed .made)
 
   pub acted-same : half w′ h n ≡ half w h n
   acted-same = placed-same n (halves .few) (x .placed)
@@ -101,15 +106,20 @@ module _ (F : Field) (f : Polynomial) (q : ℕ) {w : List ℕ} {h n : ℕ} {w′
   pub acted-kept : Kept w w′
   acted-kept = placed-kept (x .placed)
 
-  pub acted-zero : r ≡ true → T (allZero (strideOnKnown F f q (half w h n)))
+  pub acted-zero : r ≡ true → T (allZero (actOnKnown F (power F f q) (half w h n)))
   acted-zero e = true-T (sym (x .zero) ∙ e)
 
-  pub acted-nonzero : r ≡ false → ¬ T (allZero (strideOnKnown F f q (half w h n)))
+  pub acted-nonzero : r ≡ false → ¬ T (allZero (actOnKnown F (power F f q) (half w h n)))
   acted-nonzero e = false-T (sym (x .zero) ∙ e)
 
   -- something is left only where there were enough terms
   pub acted-enough : r ≡ false → q * degree f < n
   acted-enough e =
       let no : ¬ (n ≤ q * degree f)
-      = λ l. acted-nonzero e (strideOnKnown-none F f q (half w h n) (omega (arith, half-length halves))) in
+      = λ l.
+      acted-nonzero e
+      (subst (λ v. T (allZero v))
+      (sym (actOnKnown-short F (power F f q) (half w h n)
+      (omega (arith, half-length halves, degree-power I f q nonempty))))
+      allZero-nil) in
       omega arith

@@ -21,13 +21,13 @@ use Rattle.lent.specs.halves.Halves.{half, Placed}
 module _ (l : List ℕ) (x : ℕ) (t : List ℕ) (i m : ℕ) (h : x + i + m ≤ length l) (k : i + m ≤ length t) where
   paste-more : paste (paste l x t i) (x + i) (part t i m) m ≡ paste l x t (i + m)
   paste-more =
-      ap₂ (λ a b. a ++ take m (part t i m) ++ b) (take-paste l x t i (omega arith) (omega arith)) rest
+      ap₂ (λ a b. a ++ take m (part t i m) ++ b) (take-paste l x t i (omega arith) (omega arith)) paste-rest
       ∙ ap (λ a. take x l ++ take i t ++ a ++ drop (x + (i + m)) l) (take-take m m (drop i t) (omega arith))
       ∙ ap (λ a. a ++ drop (x + (i + m)) l)
       (append-assoc (take x l) (take i t) (part t i m) ∙ ap (λ a. take x l ++ a) (sym (take-add i m t)))
     where
-      rest : drop (x + i + m) (paste l x t i) ≡ drop (x + (i + m)) l
-      rest =
+      paste-rest : drop (x + i + m) (paste l x t i) ≡ drop (x + (i + m)) l
+      paste-rest =
           let e : x + i + m ≡ x + (i + m) = omega arith in
           sym (drop-drop m (x + i) (paste l x t i))
           ∙ ap (drop m) (drop-paste l x t i (omega arith) (omega arith))

@@ -14,7 +14,7 @@ use mathlib.Core.Bool.{Bool}
 use mathlib.Core.List.{List}
 use lib.ListN.{length, drop}
 use Rattle.meaning.specs.Polynomial.{Polynomial}
-use Rattle.bridge.proofs.KnownActions.{allZero}
+use Rattle.bridge.proofs.Sequences.KnownActions.{allZero}
 use Rattle.arith.specs.Slices.{part}
 
 abbrev pub half : List ℕ → ℕ → ℕ → List ℕ

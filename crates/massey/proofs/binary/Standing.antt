@@ -1,6 +1,6 @@
--- The state of the model over GF(2) in words and numbers, at the changedAt and after each step.
+-- The state of the model over GF(2) in words and numbers, at the start and after each step.
 --
---   hold-start       == what stands at the changedAt is the state after no terms
+--   hold-start       == what stands at the start is the state after no terms
 --   hold-sizes       == the numbers of a state
 --   hold-reached, hold-misfit == after the terms that f fits, and at the first that it does not
 --   hold-aligned, misfit-aligned == g is moved down by whole words
@@ -21,21 +21,22 @@ use lib.Seq.{getD-set-same, getD-set-other}
 use lib.Arith.{lt-of-le-ne}
 use Rattle.meaning.specs.Field.{prime, negative}
 use Rattle.meaning.specs.Sequence.{actAt, known}
-use Rattle.bridge.proofs.Interpretation.{prime-size, prime-add, prime-mul}
-use Rattle.bridge.proofs.Actions.{actAt-nil, actAt-cons, known-getD}
-use Rattle.bridge.proofs.Monics.{digit}
-use Rattle.bridge.proofs.Bits.{two}
-use Rattle.bridge.proofs.WordLists.{raised, raised-none, raised-same, digit-below, digit-zero, digit-beyond}
-use Rattle.bridge.proofs.WordLists.{digit-top, digit-shl-low}
-use Rattle.bridge.proofs.MasseyBits.{kept-bit, changed-bit, negative-bit, discrepancy-bits, discrepancy-one}
-use Rattle.bridge.proofs.MasseyImages.{image, marked, image-high, image-between, image-low, image-empty}
-use Rattle.bridge.proofs.MasseyImages.{marked-at, marked-off, image-fits, image-misfits, image-corrected}
-use Rattle.bridge.proofs.MasseySteps.{MasseyState, polynomialOf, discrepancy, correction, correctionAt}
-use Rattle.bridge.proofs.MasseySteps.{kept, changed, length-kept, length-changed, keptState, changedState}
-use Rattle.bridge.proofs.MasseySteps.{masseyStart, masseyAfter, masseyStep, after-zero, after-suc}
-use Rattle.bridge.proofs.MasseySteps.{step-zero, step-kept, step-changed, MasseySizes, massey-sizes}
+use Rattle.bridge.proofs.Basics.Interpretation.{prime-add, prime-mul}
+use Rattle.bridge.proofs.Sequences.Actions.{actAt-nil, actAt-cons, known-getD}
+use Rattle.bridge.proofs.Lists.Monics.{digit}
+use Rattle.bridge.proofs.Binary.Bits.{binary-isField}
+use Rattle.bridge.proofs.Binary.WordLists.{raised, raised-none, raised-same, digit-below, digit-zero}
+use Rattle.bridge.proofs.Binary.WordLists.{digit-beyond}
+use Rattle.bridge.proofs.Binary.WordLists.{digit-top, digit-shl-low}
+use Rattle.bridge.proofs.Massey.Bits.{kept-bit, changed-bit, negative-bit, discrepancy-bits, discrepancy-one}
+use Rattle.bridge.proofs.Massey.Images.{image, marked, image-high, image-between, image-low, image-empty}
+use Rattle.bridge.proofs.Massey.Images.{marked-at, marked-off, image-fits, image-misfits, image-corrected}
+use Rattle.bridge.proofs.Massey.Steps.{MasseyState, polynomialOf, discrepancy, correction, correctionAt}
+use Rattle.bridge.proofs.Massey.Steps.{kept, changed, length-kept, length-changed, keptState, changedState}
+use Rattle.bridge.proofs.Massey.Steps.{masseyStart, masseyAfter, masseyStep, after-zero, after-suc}
+use Rattle.bridge.proofs.Massey.Steps.{step-zero, step-kept, step-changed, MasseySizes, massey-sizes}
 use Rattle.arith.specs.Inverse.{inverse}
-use Rattle.arith.proofs.Inverse.{inverse-product}
+use Rattle.arith.proofs.Inverse.{inverse-one}
 use Rattle.massey.specs.declared.binary.Progress.{Progress}
 use Rattle.massey.specs.words.Words.{bitOf, Room, TermsPacked, NextOne, Added, Exchanged}
 use Rattle.massey.specs.binary.Binary.{changedAt, reachedWith, changedWith, Aligned, WordsStand}
@@ -44,7 +45,7 @@ use Rattle.massey.proofs.step.Halves.{keptBy, changedBy}
 use Rattle.massey.proofs.words.Moving.{bit-word, words-beyond}
 use Rattle.massey.proofs.binary.Aligning.{aligned-image}
 
--- The changedAt: f is 1, and g is 0
+-- The start: f is 1, and g is 0
 module _ (ts f g : List ℕ) (p : TermsPacked ts f) (l : length g ≡ 66)
     (z : (j : ℕ) → getD g j 0 ≡ 0) where
   abbrev first : List ℕ
@@ -231,27 +232,28 @@ module _ {ts : List ℕ} {r : Progress} {f g : List ℕ} {a : ℕ} (h : WordsHol
   sizes : MasseySizes (r .seen) x
   sizes = massey-sizes (prime 2) (inverse (prime 2)) ts (r .seen)
 
-  led : length (polynomialOf x) ≡ length (x .lower) + 1
-  led = length-append (x .lower) (1 ∷ [])
+  length-polynomial : length (polynomialOf x) ≡ length (x .lower) + 1
+  length-polynomial = length-append (x .lower) (1 ∷ [])
 
   -- a discrepancy as an action, and as a bit
-  acts :
+  action-discrepancy :
       (n : ℕ)
       → r .seen ≤ n
       → actAt (prime 2) (polynomialOf x) (known ts) (n + 1 - length (polynomialOf x))
       ≡ discrepancy (prime 2) ts n (x .lower)
-  acts n l =
-      ap (actAt (prime 2) (polynomialOf x) (known ts)) (omega (arith, led))
+  action-discrepancy n l =
+      ap (actAt (prime 2) (polynomialOf x) (known ts)) (omega (arith, length-polynomial))
       ∙ discrepancy-bits ts n (x .lower) (omega (arith, sizes))
 
-  told :
+  bit-action :
       (n : ℕ)
       → r .seen ≤ n
       → 64 * a + n < 4096
       → bitOf f (4095 - n) ≡ actAt (prime 2) (polynomialOf x) (known ts) (n + 1 - length (polynomialOf x))
-  told n l b =
+  bit-action n l b =
       h .current (4095 - n) (omega arith)
-      ∙ image-low ts (polynomialOf x) (r .seen) (4095 - n) (omega (arith, led, sizes)) (omega arith)
+      ∙ image-low ts (polynomialOf x) (r .seen) (4095 - n) (omega (arith, length-polynomial, sizes))
+      (omega arith)
       ∙ ap (actAt (prime 2) (polynomialOf x) (known ts)) (omega arith)
 
   module _ {n m : ℕ} (b : 64 * a + m ≤ 4096) (k : NextOne f (r .seen) m n) where
@@ -262,19 +264,19 @@ module _ {ts : List ℕ} {r : Progress} {f g : List ℕ} {a : ℕ} (h : WordsHol
     zero-acts i l =
         let c = k .high in
         let n = r .seen + i in
-        sym (told n (omega arith) (omega arith)) ∙ k .zeros n (omega arith) (omega arith)
+        sym (bit-action n (omega arith) (omega arith)) ∙ k .zeros n (omega arith) (omega arith)
 
-    skipped : masseyAfter (prime 2) (inverse (prime 2)) ts n ≡ x
-    skipped =
+    after-reached : masseyAfter (prime 2) (inverse (prime 2)) ts n ≡ x
+    after-reached =
         let e : n ≡ r .seen + (n - r .seen) = omega (arith, k .low) in
         ap (masseyAfter (prime 2) (inverse (prime 2)) ts) e
         ∙ after-skip ts (r .seen) (n - r .seen)
-        (λ i l. sym (acts (r .seen + i) (omega arith)) ∙ zero-acts i l)
+        (λ i l. sym (action-discrepancy (r .seen + i) (omega arith)) ∙ zero-acts i l)
 
     pub hold-reached : {r′ : Progress} → r′ ≡ reachedWith r n → WordsHold ts r′ f g a
     hold-reached {r′} u =
         subst (λ r. WordsHold ts r f g a) (sym u)
-        (subst (λ x. WordsStand ts x (reachedWith r n) f g a) (sym skipped)
+        (subst (λ x. WordsStand ts x (reachedWith r n) f g a) (sym after-reached)
         (record {
           degree = h .degree;
           earlier = h .earlier;
@@ -286,7 +288,8 @@ module _ {ts : List ℕ} {r : Progress} {f g : List ℕ} {a : ℕ} (h : WordsHol
           current = λ i l.
               let e : r .seen + (n - r .seen) ≡ n = omega (arith, k .low) in
               h .current i l
-              ∙ image-skip ts (polynomialOf x) (r .seen) (n - r .seen) (omega (arith, led, sizes))
+              ∙ image-skip ts (polynomialOf x) (r .seen) (n - r .seen)
+              (omega (arith, length-polynomial, sizes))
               (omega (arith, k .high)) zero-acts i
               ∙ ap (λ n. image ts (polynomialOf x) n i) e;
           previous = h .previous;
@@ -295,11 +298,11 @@ module _ {ts : List ℕ} {r : Progress} {f g : List ℕ} {a : ℕ} (h : WordsHol
     pub hold-misfit : {r′ : Progress} → n < m → r′ ≡ reachedWith r n → Misfits ts r′
     hold-misfit {r′} l u =
         let one : 1 ≡ discrepancy (prime 2) ts n (x .lower) =
-        sym (k .one l) ∙ told n (k .low) (omega arith) ∙ acts n (k .low) in
+        sym (k .one l) ∙ bit-action n (k .low) (omega arith) ∙ action-discrepancy n (k .low) in
         subst (Misfits ts) (sym u)
         (λ z.
         let none : discrepancy (prime 2) ts n (x .lower) ≡ 0 =
-        ap (λ x. discrepancy (prime 2) ts n (x .lower)) (sym skipped) ∙ z in
+        ap (λ x. discrepancy (prime 2) ts n (x .lower)) (sym after-reached) ∙ z in
         absurd (omega arith))
 
 -- g is moved down
@@ -323,11 +326,9 @@ module _ (ts : List ℕ) {r r′ : Progress} {g g′ : List ℕ} {a : ℕ} (k : 
   misfit-aligned h = subst (Misfits ts) (sym (k .numbers)) h
 
 -- The factor of the correction
-correction-one : correction (prime 2) (inverse (prime 2)) 1 1 ≡ 1
+correction-one : correction (prime 2) 1 1 ≡ 1
 unfolding correction
-correction-one =
-    ap (negative (prime 2)) (inverse-product two (omega (arith, prime-size 2)) (λ q. omega arith))
-    ∙ negative-bit 1 (omega arith)
+correction-one = ap (negative (prime 2)) (prime-mul 2 1 1) ∙ negative-bit 1 (omega arith)
 
 -- A step
 module _ (ts : List ℕ) {r : Progress} {f g : List ℕ} {a : ℕ} (h : WordsHold ts r f g a)
@@ -350,14 +351,14 @@ module _ (ts : List ℕ) {r : Progress} {f g : List ℕ} {a : ℕ} (h : WordsHol
       ap (masseyAfter (prime 2) (inverse (prime 2)) ts) (add-one (r .seen))
       ∙ after-suc (prime 2) (inverse (prime 2)) ts (r .seen)
 
-  restate :
+  stands-stepped :
       {y : MasseyState} {f′ g′ : List ℕ} {r′ r″ : Progress}
       → masseyAfter (prime 2) (inverse (prime 2)) ts (r .seen + 1) ≡ y
       → r′ ≡ r″
       → r″ .seen ≡ r .seen + 1
       → WordsStand ts y r″ f′ g′ a
       → WordsStepped ts r r′ f′ g′ a
-  restate {y} {f′} {g′} {r′} {r″} e u v s =
+  stands-stepped {y} {f′} {g′} {r′} {r″} e u v s =
       subst (λ r′. WordsStepped ts r r′ f′ g′ a) (sym u)
       (record {
         seen = v;
@@ -366,10 +367,9 @@ module _ (ts : List ℕ) {r : Progress} {f g : List ℕ} {a : ℕ} (h : WordsHol
             (sym (ap (masseyAfter (prime 2) (inverse (prime 2)) ts) v ∙ e)) s;
       })
 
-  factor : correctionAt (prime 2) (inverse (prime 2)) ts (r .seen) now′ ≡ 1
-  factor =
-      ap₂ (correction (prime 2) (inverse (prime 2))) (discrepancy-one ts (r .seen) lower nonzero) (h .one)
-      ∙ correction-one
+  correctionAt-one : correctionAt (prime 2) ts (r .seen) now′ ≡ 1
+  correctionAt-one =
+      ap₂ (correction (prime 2)) (discrepancy-one ts (r .seen) lower nonzero) (h .one) ∙ correction-one
 
   bits : (i : ℕ) → getD lower i 0 < 2
   bits = lower-bits ts f lower (r .seen) (64 * a) (omega (arith, counts)) (h .current)
@@ -381,10 +381,10 @@ module _ (ts : List ℕ) {r : Progress} {f g : List ℕ} {a : ℕ} (h : WordsHol
   marked-current =
       let l = length-append lower (1 ∷ []) in
       image-misfits ts (lower ++ (1 ∷ [])) (r .seen) (omega (arith, counts)) (omega arith)
-      (acts h (r .seen) (omega arith) ∙ discrepancy-one ts (r .seen) lower nonzero)
+      (action-discrepancy h (r .seen) (omega arith) ∙ discrepancy-one ts (r .seen) lower nonzero)
 
   -- the words of f after a correction, for the polynomial y that has the bits of x^k·f + x^j·g
-  corrected :
+  corrected-image :
       {f′ : List ℕ} (y : List ℕ) (j k : ℕ)
       → Added f g a (r .seen + 1 - r .aligned) f′
       → length y ≡ k + length (lower ++ (1 ∷ []))
@@ -395,7 +395,7 @@ module _ (ts : List ℕ) {r : Progress} {f g : List ℕ} {a : ℕ} (h : WordsHol
       → (i : ℕ)
       → 64 * a ≤ i
       → bitOf f′ i ≡ image ts y (r .seen + 1) i
-  corrected y j k u d m s w e i l =
+  corrected-image y j k u d m s w e i l =
       let n = r .seen + 1 in
       let c = changedAt r in
       let z : c ≤ n = omega (arith, h .least, h .most) in
@@ -417,7 +417,7 @@ module _ (ts : List ℕ) {r : Progress} {f g : List ℕ} {a : ℕ} (h : WordsHol
       let s : 2 * length lower - suc (r .seen) ≡ r .degree - m = omega (arith, counts, h .degree) in
       next
       ∙ step-kept (prime 2) (inverse (prime 2)) ts (r .seen) now′ nonzero (omega (arith, counts, h .degree))
-      ∙ ap₂ (λ c s. keptBy (prime 2) c s now′) factor s
+      ∙ ap₂ (λ c s. keptBy (prime 2) c s now′) correctionAt-one s
 
   -- f + x^(L−m)·g
   pub hold-kept :
@@ -434,7 +434,7 @@ module _ (ts : List ℕ) {r : Progress} {f g : List ℕ} {a : ℕ} (h : WordsHol
       let size = length-kept (prime 2) 1 s lower earlier (omega arith) in
       let n = length-append lower (1 ∷ []) in
       let o = length-append (kept (prime 2) 1 s lower earlier) (1 ∷ []) in
-      restate (kept-state l) e refl
+      stands-stepped (kept-state l) e refl
       (record {
         degree = d ∙ sym size;
         earlier = p;
@@ -444,7 +444,7 @@ module _ (ts : List ℕ) {r : Progress} {f g : List ℕ} {a : ℕ} (h : WordsHol
         first = u .words;
         second = h .second;
         current =
-            corrected (kept (prime 2) 1 s lower earlier ++ (1 ∷ [])) s 0 u (omega arith)
+            corrected-image (kept (prime 2) 1 s lower earlier ++ (1 ∷ [])) s 0 u (omega arith)
             (omega (arith, counts)) (omega (arith, counts)) (omega arith)
             (λ j.
             kept-bit 1 s lower earlier bits i j
@@ -453,14 +453,16 @@ module _ (ts : List ℕ) {r : Progress} {f g : List ℕ} {a : ℕ} (h : WordsHol
       })
 
   changed-state : r .degree < m → masseyAfter (prime 2) (inverse (prime 2)) ts (r .seen + 1)
-      ≡ changedBy (prime 2) 1 (m - r .degree) (discrepancy (prime 2) ts (r .seen) lower) now′
+      ≡ changedBy (prime 2) 1 (m - r .degree) 1 now′
   unfolding changedState
   changed-state l =
       let s : suc (r .seen) - 2 * length lower ≡ m - r .degree = omega (arith, counts, h .degree) in
       next
       ∙ step-changed (prime 2) (inverse (prime 2)) ts (r .seen) now′ nonzero
       (omega (arith, counts, h .degree))
-      ∙ ap₂ (λ c s. changedBy (prime 2) c s (discrepancy (prime 2) ts (r .seen) lower) now′) factor s
+      ∙ ap₂ (λ c i. changedBy (prime 2) c (suc (r .seen) - 2 * length lower) i now′) correctionAt-one
+      (ap (inverse (prime 2)) (discrepancy-one ts (r .seen) lower nonzero) ∙ inverse-one binary-isField)
+      ∙ ap (λ s. changedBy (prime 2) 1 s 1 now′) s
 
   -- x^(m−L)·f + g, and the former f becomes g
   pub hold-changed :
@@ -479,17 +481,17 @@ module _ (ts : List ℕ) {r : Progress} {f g : List ℕ} {a : ℕ} (h : WordsHol
       let o = length-append (changed (prime 2) 1 s lower earlier) (1 ∷ []) in
       let y = changed (prime 2) 1 s lower earlier ++ (1 ∷ []) in
       let k = length y - length earlier - (r .seen + 1 - changedAt r) in
-      restate (changed-state l) e refl
+      stands-stepped (changed-state l) e refl
       (record {
         degree = omega arith;
         earlier = omega arith;
-        one = discrepancy-one ts (r .seen) lower nonzero;
+        one = refl;
         least = omega arith;
         most = omega arith;
         first = u .added .words;
         second = u .words;
         current =
-            corrected (changed (prime 2) 1 s lower earlier ++ (1 ∷ [])) k s (u .added) (omega arith)
+            corrected-image (changed (prime 2) 1 s lower earlier ++ (1 ∷ [])) k s (u .added) (omega arith)
             (omega (arith, counts)) (omega (arith, counts)) (omega (arith, counts))
             (λ j.
             changed-bit 1 s lower earlier bits i j

@@ -19,13 +19,13 @@ use lib.ListN.{length, getD, length-append, List·getD-append}
 use lib.Seq.{ext-getD}
 use Rattle.meaning.specs.Field.{prime, negative}
 use Rattle.meaning.specs.Result.{written, cleared}
-use Rattle.bridge.proofs.WordLists.{raised-none}
-use Rattle.bridge.proofs.MasseyBits.{kept-bit, negative-bit}
-use Rattle.bridge.proofs.MasseyImages.{image, marked, marked-off, image-upper}
-use Rattle.bridge.proofs.MasseySteps.{MasseyState, masseyAfter, kept, length-kept, massey-sizes}
-use Rattle.bridge.proofs.MasseySteps.{massey-earlier}
-use Rattle.bridge.proofs.MasseyFirst.{reduceAt, reduced, firstLower, masseyFirst, reduced-zero}
-use Rattle.bridge.proofs.MasseyFirst.{reduced-suc}
+use Rattle.bridge.proofs.Binary.WordLists.{raised-none}
+use Rattle.bridge.proofs.Massey.Bits.{kept-bit, negative-bit}
+use Rattle.bridge.proofs.Massey.Images.{image, marked, marked-off, image-upper}
+use Rattle.bridge.proofs.Massey.Steps.{MasseyState, masseyAfter, kept, length-kept, massey-sizes}
+use Rattle.bridge.proofs.Massey.Steps.{massey-earlier}
+use Rattle.bridge.proofs.Massey.First.{reduceAt, reduced, firstLower, masseyFirst, reduced-zero}
+use Rattle.bridge.proofs.Massey.First.{reduced-suc}
 use Rattle.arith.specs.Inverse.{inverse}
 use Rattle.massey.specs.declared.binary.Progress.{Progress}
 use Rattle.massey.specs.words.Words.{bitOf, bitsFrom, Room, Added}
@@ -63,13 +63,13 @@ led-bits (a ∷ f) b zero = b 0
 led-bits (a ∷ f) b (suc i) = led-bits f (λ i. b (suc i)) i
 
 -- the bits that x^s·g is moved down by
-moved : (l e n : ℕ) → 1 ≤ e → l + e ≤ n + 1 → n < 2 * l
+moved-bits : (l e n : ℕ) → 1 ≤ e → l + e ≤ n + 1 → n < 2 * l
     → 2 * l - 1 - n + e + (n + 1 - (l + e - 1)) ≡ l + 1
-moved l e n a b c = omega arith
+moved-bits l e n a b c = omega arith
 
 -- and how far up it reaches
-reach : (l e n : ℕ) → l + e ≤ n + 1 → 2 * l - 1 - n + e ≤ l + e - 1 + 64
-reach l e n b = omega arith
+raised-bound : (l e n : ℕ) → l + e ≤ n + 1 → 2 * l - 1 - n + e ≤ l + e - 1 + 64
+raised-bound l e n b = omega arith
 
 module _ (ts : List ℕ) where
   abbrev t : MasseyState
@@ -181,12 +181,12 @@ module _ (ts : List ℕ) where
     bits : (i : ℕ) → getD u i 0 < 2
     bits = lower-bits ts f u (length ts) (4096 - length ts) (coefficients-room h) (h .current)
 
-    fits : s + length v ≤ length u
-    fits = omega (arith, words-turning-sizes, h .size, h .earlier)
+    raised-fits : s + length v ≤ length u
+    raised-fits = omega (arith, words-turning-sizes, h .size, h .earlier)
 
     -- the coefficient of f that is to become 0
-    place : bitOf f (4157 + r .degree + r .earlier - r .seen) ≡ getD u (length v - 1 + s) 0
-    place =
+    cancelled-bit : bitOf f (4157 + r .degree + r .earlier - r .seen) ≡ getD u (length v - 1 + s) 0
+    cancelled-bit =
         let z = words-turning-sizes in
         let d = h .size in
         let e = h .earlier in
@@ -197,7 +197,7 @@ module _ (ts : List ℕ) where
         ∙ List·getD-append u (1 ∷ []) 0 (length v - 1 + s) (omega arith)
 
     -- f + c·x^s·g
-    turned :
+    words-turning-more :
         {r′ : Progress} {f′ g′ : List ℕ} (c : ℕ)
         → negative (prime 2) (getD u (length v - 1 + s) 0) ≡ c
         → r′ ≡ alignedWith r (r′ .aligned)
@@ -211,8 +211,8 @@ module _ (ts : List ℕ) where
         → ((i : ℕ) → 64 * a ≤ i → bitOf g′ i ≡ marked ts v (changedAt r) (i + (r′ .aligned - changedAt r)))
         → WordsTurning ts (reachedWith r′ (r′ .seen + 1)) f′ g′ a
     unfolding reduceAt
-    turned {r′} {f′} {g′} c e q m o x y p w =
-        let k : s ≤ length u = omega (arith, fits) in
+    words-turning-more {r′} {f′} {g′} c e q m o x y p w =
+        let k : s ≤ length u = omega (arith, raised-fits) in
         let d : r′ .degree ≡ r .degree = ap (λ r. r .degree) q in
         let n : r′ .seen ≡ r .seen = ap (λ r. r .seen) q in
         let z : r′ .earlier ≡ r .earlier = ap (λ r. r .earlier) q in
@@ -244,14 +244,14 @@ module _ (ts : List ℕ) where
         }
 
     -- f + 0·x^s·g is f
-    same : kept (prime 2) 0 s u v ++ (1 ∷ []) ≡ u ++ (1 ∷ [])
-    same =
+    kept-nothing : kept (prime 2) 0 s u v ++ (1 ∷ []) ≡ u ++ (1 ∷ [])
+    kept-nothing =
         ext-getD 0 (kept (prime 2) 0 s u v ++ (1 ∷ [])) (u ++ (1 ∷ []))
         (length-append (kept (prime 2) 0 s u v) (1 ∷ [])
-        ∙ ap (λ n. n + 1) (length-kept (prime 2) 0 s u v (omega (arith, fits)))
+        ∙ ap (λ n. n + 1) (length-kept (prime 2) 0 s u v (omega (arith, raised-fits)))
         ∙ sym (length-append u (1 ∷ [])))
         (λ i _.
-        kept-bit 0 s u v bits fits i
+        kept-bit 0 s u v bits raised-fits i
         ∙ ap (λ n. n % 2) (omega arith)
         ∙ ℕ.mod-eq-of-lt (led-bits u bits i))
 
@@ -271,7 +271,7 @@ module _ (ts : List ℕ) where
           let z = words-turning-sizes in
           let o = length-append u (1 ∷ []) in
           let w = length-append (kept (prime 2) 1 s u v) (1 ∷ []) in
-          let size = length-kept (prime 2) 1 s u v (omega (arith, fits)) in
+          let size = length-kept (prime 2) 1 s u v (omega (arith, raised-fits)) in
           let j = i + (r .seen + 1 - r′ .aligned) in
           let e : j + (r′ .aligned - changedAt r) ≡ i + (r .seen + 1 - changedAt r) =
           omega (arith, h .least, k .more, k .most) in
@@ -289,14 +289,14 @@ module _ (ts : List ℕ) where
           (image-upper ts (u ++ (1 ∷ [])) v (kept (prime 2) 1 s u v ++ (1 ∷ [])) (length ts) (changedAt r)
           (r .seen + 1 - changedAt r) s 0 (omega arith)
           (ap (λ n. s + n + (r .seen + 1 - changedAt r)) (sym d)
-          ∙ moved (r .degree) (r .earlier) (r .seen) (z .0) (z .1) b
+          ∙ moved-bits (r .degree) (r .earlier) (r .seen) (z .0) (z .1) b
           ∙ ap (λ n. n + 1) (q ∙ sym size)
           ∙ sym w)
           (omega arith) (omega arith)
-          (subst (λ n. s + n ≤ changedAt r + 64) d (reach (r .degree) (r .earlier) (r .seen) (z .1)))
+          (subst (λ n. s + n ≤ changedAt r + 64) d (raised-bound (r .degree) (r .earlier) (r .seen) (z .1)))
           (omega arith)
           (λ j.
-          kept-bit 1 s u v bits fits j
+          kept-bit 1 s u v bits raised-fits j
           ∙ ap₂ (λ x y. (x + y) % 2) (sym (raised-none (u ++ (1 ∷ [])) j)) (omega arith))
           i l)
 
@@ -306,17 +306,20 @@ module _ (ts : List ℕ) where
         → WordsTurning ts (reachedWith r′ (r′ .seen + 1)) f′ g′ a
     words-turning-cancelled {r′} {f′} {g′} (none z q x y) =
         let e : r′ .aligned ≡ r .aligned = ap (λ r. r .aligned) q in
-        turned 0 (ap (negative (prime 2)) (sym place ∙ z) ∙ negative-bit 0 (omega arith))
+        words-turning-more 0 (ap (negative (prime 2)) (sym cancelled-bit ∙ z) ∙ negative-bit 0 (omega arith))
         (q ∙ ap (alignedWith r) (sym e)) (omega arith) (omega (arith, h .most))
         (subst Room (sym x) (h .first)) (subst Room (sym y) (h .second))
-        (λ i l. ap (λ w. bitOf w i) x ∙ h .current i l ∙ ap (λ f. image ts f (length ts) i) (sym same))
+        (λ i l. ap (λ w. bitOf w i) x
+        ∙ h .current i l
+        ∙ ap (λ f. image ts f (length ts) i) (sym kept-nothing))
         (λ i l.
         ap (λ w. bitOf w i) y
         ∙ h .previous i l
         ∙ ap (λ n. marked ts v (changedAt r) (i + (n - changedAt r))) (sym e))
     words-turning-cancelled {r′} {f′} {g′} (taken z k m) =
         let y = subst (λ n. Added f g′ a (n + 1 - r′ .aligned) f′) (ap (λ r. r .seen) (k .numbers)) m in
-        turned 1 (ap (negative (prime 2)) (sym place ∙ z) ∙ negative-bit 1 (omega arith)) (k .numbers)
+        words-turning-more 1
+        (ap (negative (prime 2)) (sym cancelled-bit ∙ z) ∙ negative-bit 1 (omega arith)) (k .numbers)
         (k .more) (k .most) (y .words) (k .words) (added-current k y) (aligned-previous k y)
 
 pub cancelled-numbers :

@@ -17,9 +17,9 @@ use lib.Bits.{bitXor}
 use native.Mathlib.Nat.{mod-lt, mod-eq-of-lt, div-add-mod'}
 use native.Mathlib.Decide.{decLt}
 use native.Mathlib.Omega.{arith}
-use Rattle.bridge.proofs.Monics.{digit}
-use Rattle.bridge.proofs.WordLists.{digit-below, digit-zero, digit-beyond, digit-xor, digit-shr}
-use Rattle.bridge.proofs.WordLists.{digit-shl-low, digit-shl-high}
+use Rattle.bridge.proofs.Lists.Monics.{digit}
+use Rattle.bridge.proofs.Binary.WordLists.{digit-below, digit-zero, digit-beyond, digit-xor, digit-shr}
+use Rattle.bridge.proofs.Binary.WordLists.{digit-shl-low, digit-shl-high}
 use Rattle.massey.specs.words.Words.{bitOf, Window, Room, Moved, Added, Exchanged}
 
 -- A bit and none

@@ -17,10 +17,10 @@ use lib.Pow.{pow-mono}
 use native.Mathlib.Nat.{mod-lt, div-add-mod', div-one, pow-suc}
 use native.Mathlib.Decide.{decLt}
 use native.Mathlib.Omega.{arith}
-use Rattle.bridge.proofs.Actions.{length-cut, getD-cut}
-use Rattle.bridge.proofs.Monics.{digit}
-use Rattle.bridge.proofs.Words.{low-digit, high-digits}
-use Rattle.bridge.proofs.WordLists.{digit-zero, digit-shr, digit-shl-low, digit-shl-high}
+use Rattle.bridge.proofs.Sequences.Actions.{length-cut, getD-cut}
+use Rattle.bridge.proofs.Lists.Monics.{digit}
+use Rattle.bridge.proofs.Binary.Words.{low-digit, high-digits}
+use Rattle.bridge.proofs.Binary.WordLists.{digit-zero, digit-shr, digit-shl-low, digit-shl-high}
 use Rattle.arith.specs.Slices.{part}
 use Rattle.massey.specs.words.Words.{bitOf, bitsFrom, TermsPacked}
 use Rattle.massey.proofs.words.Moving.{bit-word}

@@ -16,8 +16,8 @@ use lib.Count.{leadingZeros, leading-top}
 use native.Mathlib.Nat.{mod-lt, div-add-mod'}
 use native.Mathlib.Decide.{decLt}
 use native.Mathlib.Omega.{arith}
-use Rattle.bridge.proofs.Monics.{digit}
-use Rattle.bridge.proofs.WordLists.{digit-zero, digit-beyond, digit-top, digit-shl-low, digit-shl-high}
+use Rattle.bridge.proofs.Lists.Monics.{digit}
+use Rattle.bridge.proofs.Binary.WordLists.{digit-zero, digit-beyond, digit-top, digit-shl-low, digit-shl-high}
 use Rattle.massey.specs.words.Words.{bitOf, NextOne}
 use Rattle.massey.proofs.words.Moving.{bit-word}
 

@@ -6,7 +6,7 @@
 --   Aligned r g a r′ g′ == g is moved down by whole words, and fewer than 64 bits are left
 --   WordsStand ts x r f g a == the state x of the model stands in the words of f and g, from word a on, and
 --                        in the numbers r: those of f have its image, and those of g its marked image, moved
---                        down (MasseyImages of `bridge`)
+--                        down (Massey/Images of `bridge`)
 --   WordsHold ts r f g a == what stands there is the state after the terms of ts that r has seen
 --   WordsReady r f g a == f can be corrected: the numbers are in range, and g is aligned
 --   Misfits ts r      == f does not fit the term after those seen
@@ -25,9 +25,9 @@ use mathlib.Core.Logic.{_≢_}
 use mathlib.Core.List.{List}
 use lib.ListN.{length, getD}
 use Rattle.meaning.specs.Field.{prime}
-use Rattle.bridge.proofs.MasseySteps.{MasseyState, masseyAfter, polynomialOf, discrepancy}
-use Rattle.bridge.proofs.MasseyFirst.{masseyFirst}
-use Rattle.bridge.proofs.MasseyImages.{image, marked}
+use Rattle.bridge.proofs.Massey.Steps.{MasseyState, masseyAfter, polynomialOf, discrepancy}
+use Rattle.bridge.proofs.Massey.First.{masseyFirst}
+use Rattle.bridge.proofs.Massey.Images.{image, marked}
 use Rattle.arith.specs.Inverse.{inverse}
 use Rattle.massey.specs.declared.binary.Progress.{Progress}
 use Rattle.massey.specs.words.Words.{bitOf, Room, Added}
@@ -61,7 +61,7 @@ pub record Aligned (r : Progress) (g : List ℕ) (a : ℕ) (r′ : Progress) (g�
 pub record WordsStand (ts : List ℕ) (x : MasseyState) (r : Progress) (f g : List ℕ) (a : ℕ) : Type 0 where
   pub degree : r .degree ≡ length (x .lower)
   pub earlier : r .earlier ≡ length (x .previous)
-  pub one : x .value ≡ 1
+  pub one : x .inverse ≡ 1
   pub least : changedAt r ≤ r .aligned
   pub most : r .aligned ≤ r .seen + 1
   pub first : Room f

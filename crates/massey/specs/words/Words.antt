@@ -18,7 +18,7 @@ use mathlib.Core.Path.{_≡_}
 use mathlib.Core.List.{List}
 use lib.ListN.{length, getD}
 use Rattle.meaning.specs.Sequence.{cut}
-use Rattle.bridge.proofs.Monics.{digit}
+use Rattle.bridge.proofs.Lists.Monics.{digit}
 
 abbrev pub bitOf : List ℕ → ℕ → ℕ
 bitOf w i = digit 2 (getD w (i / 64) 0) (i % 64)

@@ -2,7 +2,7 @@
 use native.Mathlib.Omega.{arith}
 use borrow.Author.Needs.{needs}
 use mathlib.Core.Path.{sym, _∙_}
-use Rattle.bridge.proofs.Accepted.{prime-accepted}
+use Rattle.bridge.proofs.Ways.Accepted.{prime-accepted}
 use Rattle.meter.proofs.Keeping.{usable-no, usable-last, not-prime-refuses}
 use Rattle.meter.proofs.is_usable.Statement.{statement}
 use Rattle.meter.proofs.is_usable.Tie as tie

@@ -15,11 +15,15 @@ returns c = start-refused _ (sym (c .before .not-prime .ensures) ∙ c .if1 .tak
 start-requires : tie.Need-start-requires
 start-requires c κs = search needs
 
+meter-of-requires : tie.Need-meter-of-requires
+meter-of-requires c κs = search needs
+
 returns-2 : tie.Need-returns-2
 returns-2 c =
-    let b = c .before .before in
-    start-taken _ (sym (b .before .not-prime .ensures) ∙ b .if1 .left) (c .start .ensures)
-    (omega (arith, c .start .kept .0))
+    let s = c .before in
+    let b = s .before .before in
+    start-taken _ (sym (b .before .not-prime .ensures) ∙ b .if1 .left) (s .start .ensures)
+    (omega (arith, s .start .kept .0)) (c .meter-of .ensures)
 
 pub start-meter-spec : {M : Type 1} → statement M
-start-meter-spec = tie.close (tie.spec not-prime-requires returns start-requires returns-2)
+start-meter-spec = tie.close (tie.spec not-prime-requires returns start-requires meter-of-requires returns-2)

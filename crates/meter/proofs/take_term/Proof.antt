@@ -18,6 +18,13 @@ not-false : (b : Bool) → not b ≡ false → b ≡ true
 not-false true e = refl
 not-false false e = absurd (subst T e tt)
 
+-- the place where the meter is usable, from the one where the verdict accepts, and the entry
+abbrev usable : tie.After-enum-told → tie.Else1
+usable v = v .before .before .before
+
+abbrev entry : tie.Else1 → tie.Start
+entry u = u .before .before
+
 is-usable-requires : tie.Need-is-usable-requires
 is-usable-requires c κs = search needs
 
@@ -39,8 +46,8 @@ enum-told c = search needs
 take-requires : tie.Need-take-requires
 take-requires c κs =
     let v = c .before .before in
-    let u = v .before .before .before in
-    let m = u .before .before .args .meter in (
+    let u = usable v in
+    let m = entry u .args .meter in (
       subst (Usable m) (not-false (u .before .is-usable .result) (u .if1 .left))
           (u .before .is-usable .ensures),
       (

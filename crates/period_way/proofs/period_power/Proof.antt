@@ -2,10 +2,17 @@
 use mathlib.Core.Path.{_∙_}
 use native.Mathlib.Omega.{arith}
 use borrow.Author.Needs.{needs}
-use Rattle.powers.proofs.levels.Climbing.{size-base}
+use Rattle.powers.proofs.levels.Climbing.{field-base}
 use Rattle.period_way.proofs.Periodic.{cleared-found}
 use Rattle.period_way.proofs.period_power.Statement.{statement}
 use Rattle.period_way.proofs.period_power.Tie as tie
+
+-- the places on the way back: the level is found, and searched
+abbrev at-level : tie.After-level-dividing → tie.Start
+at-level c = c .before .before .before .before .before
+
+abbrev searched : tie.After-clear → tie.After-search-level
+searched c = c .before .before .before .before
 
 cast-level-dividing : tie.Need-cast-level-dividing
 cast-level-dividing c = search needs
@@ -13,29 +20,29 @@ cast-level-dividing c = search needs
 level-dividing-requires : tie.Need-level-dividing-requires
 level-dividing-requires c κs =
     let s = c .before .before .before .before in
-    (size-base (s .pre .0), s .pre .1 .1 .atLeastOne, s .pre .1 .1 .notMany)
+    (field-base (s .pre .0), s .pre .1 .1 .atLeastOne, s .pre .1 .1 .notMany)
 
 search-level-requires : tie.Need-search-level-requires
 search-level-requires c κs =
     let d = c .before in
-    let s = d .before .before .before .before .before in
+    let s = at-level d in
     (s .pre .0, (s .pre .1 .0, (s .pre .1 .1, d .level-dividing .ensures)))
 
 clear-requires : tie.Need-clear-requires
 clear-requires c κs =
     let l = c .before .before .before in
-    let s = l .before .before .before .before .before .before .before in
+    let s = at-level (l .before .before) in
     omega (arith, s .pre .1 .0, l .search-level .ensures .kept .size)
 
 same-length : tie.Need-same-length
 same-length c =
     let k = c .before .before in
-    k .clear .kept .0 ∙ k .before .before .before .before .search-level .ensures .kept .size
+    k .clear .kept .0 ∙ searched k .search-level .ensures .kept .size
 
 returns : tie.Need-returns
 returns c =
     let k = c .before .before in
-    cleared-found (k .before .before .before .before .search-level .ensures) (k .clear .ensures)
+    cleared-found (searched k .search-level .ensures) (k .clear .ensures)
 
 pub period-power-spec : {M : Type 1} → statement M
 period-power-spec =

@@ -6,15 +6,19 @@ use lib.ListN.{length-take}
 use denote.Ref.{now}
 use borrow.Author.Needs.{needs}
 use Rattle.period_way.proofs.Periodic.{period-nonempty, period-fits, period-searchable}
+use Rattle.period_way.proofs.Periodic.{period-levelled}
 use Rattle.period_way.proofs.Periodic.{searched-none, searched-some}
 use Rattle.period_way.proofs.search_level.Statement.{statement}
 use Rattle.period_way.proofs.search_level.Tie as tie
 
-abbrev start : tie.After-annihilates-period → tie.Start
+abbrev start : tie.After-annihilates-at-level → tie.Start
 start a = a .before .before .before .before
 
-annihilates-period-requires : tie.Need-annihilates-period-requires
-annihilates-period-requires c κs = search needs
+annihilates-at-level-requires : tie.Need-annihilates-at-level-requires
+annihilates-at-level-requires c κs =
+    let s = c .before .before .before in
+    let x = s .pre .1 .1 in
+    (s .pre .0, period-levelled (s .pre .0) _ _ (x .0) (s .args .level) (x .1))
 
 sub-smaller : tie.Need-sub-smaller
 sub-smaller c =
@@ -82,7 +86,7 @@ returns c =
     let s = start (i .before) in
     let x = s .pre .1 .1 in
     searched-some (s .pre .0) _ _ (x .0) (s .args .level) (x .1)
-    (i .before .annihilates-period .ensures)
+    (i .before .annihilates-at-level .ensures)
     (m .smaller .ensures)
     (o .load .ensures)
     (i .if1 .taken)
@@ -93,7 +97,7 @@ returns-2 c =
     let s = start (c .before) in
     let x = s .pre .1 .1 in
     searched-none (s .pre .0) _ _ (x .0) (s .args .level) (x .1)
-    (c .before .annihilates-period .ensures)
+    (c .before .annihilates-at-level .ensures)
     _
     (c .if1 .left)
 
@@ -101,7 +105,7 @@ pub search-level-spec : {M : Type 1} → statement M
 search-level-spec =
     tie.close
     (tie.spec
-    annihilates-period-requires
+    annihilates-at-level-requires
     sub-smaller
     mul-smaller
     smaller-requires

@@ -3,7 +3,7 @@
 --   euclid-ends       == where the remainder is 0, b is a greatest common divisor
 --   euclid-turns      == b and the remainder, without the zeros at its end, are what the next turn asks for
 --   euclid-goes-on    == and what it finds is a greatest common divisor of a and b
---   turned            == all of this, as the code makes it; `turned-…`: what the recursion takes of it
+--   euclid-turned     == all of this, as the code makes it; `turned-…`: what the recursion takes of it
 --
 -- Assumes nothing.
 use Prim.Native.Nat.{ℕ, _-_, _≤_, _<_}
@@ -16,11 +16,11 @@ use lib.ListN.{length, getD, take, length-take, List·getD-eq-default}
 use lib.Seq.{getD-take, length-take-le}
 use Rattle.meaning.specs.Field.{Field}
 use Rattle.meaning.specs.Polynomial.{Polynomial, degree, leading}
-use Rattle.bridge.proofs.Interpretation.{IsField}
-use Rattle.bridge.proofs.Polynomials.{length-degree, leading-getD, leading-nonempty}
-use Rattle.bridge.proofs.Continuations.{take-elements}
-use Rattle.bridge.proofs.Remainders.{Congruent, congruent-trans, congruent-places}
-use Rattle.bridge.proofs.IrreducibleTests.{CommonDegree, common-nothing, common-step}
+use Rattle.bridge.proofs.Basics.Interpretation.{IsField}
+use Rattle.bridge.proofs.Lists.Polynomials.{length-degree, leading-getD, leading-nonempty}
+use Rattle.bridge.proofs.Sequences.Continuations.{take-elements}
+use Rattle.bridge.proofs.Lists.Remainders.{Congruent, congruent-trans, congruent-places}
+use Rattle.bridge.proofs.Lists.IrreducibleTests.{CommonDegree, common-nothing, common-step}
 use Rattle.arith.specs.Represented.{fieldOf, WellFormed}
 use Rattle.arith.specs.declared.field.GaloisField.{GaloisField}
 use Rattle.arith.proofs.Represented.{field-isField}
@@ -32,11 +32,11 @@ module _ {F : Field} (I : IsField F) {a b : Polynomial} (E : Euclidean F a b) wh
   abbrev e : ℕ
   e = length b - 1
 
-  pub some : 0 < length b
-  some = leading-nonempty b (E .nonzero)
+  pub divisor-nonempty : 0 < length b
+  divisor-nonempty = leading-nonempty b (E .nonzero)
 
   degree-b : degree b ≡ e
-  degree-b = length-degree b (omega (arith, some))
+  degree-b = length-degree b (omega (arith, divisor-nonempty))
 
   pub euclid-divisible : Divisible F a b
   euclid-divisible = record { divisor = E .divisor; nonzero = E .nonzero; elements = E .dividend }
@@ -64,11 +64,11 @@ module _ {F : Field} (I : IsField F) {a b : Polynomial} (E : Euclidean F a b) wh
       abbrev next : List ℕ
       next = take n a′
 
-      short : n ≤ e
-      short = omega (arith, t .within, length-take (e - 0) a′)
+      remainder-short : n ≤ e
+      remainder-short = omega (arith, t .within, length-take (e - 0) a′)
 
       length-next : length next ≡ n
-      length-next = length-take-le n a′ (omega (arith, short, divided-size))
+      length-next = length-take-le n a′ (omega (arith, remainder-short, divided-size))
 
       trimmed-congruent : Congruent I b a next
       trimmed-congruent = congruent-trans I rest-congruent (congruent-places I rest next places)
@@ -76,7 +76,7 @@ module _ {F : Field} (I : IsField F) {a b : Polynomial} (E : Euclidean F a b) wh
           places : (i : ℕ) → getD rest i 0 ≡ getD next i 0
           places i = elim (decLt i n) [
             | yes l ↦
-                getD-take (e - 0) a′ i 0 (omega (arith, short)) ∙ sym (getD-take n a′ i 0 l)
+                getD-take (e - 0) a′ i 0 (omega (arith, remainder-short)) ∙ sym (getD-take n a′ i 0 l)
             | no l ↦
                 t .zeros i (omega arith)
                 ∙ sym (List·getD-eq-default next 0 (omega (arith, length-next)))
@@ -87,13 +87,13 @@ module _ {F : Field} (I : IsField F) {a b : Polynomial} (E : Euclidean F a b) wh
           record {
             dividend = E .divisor;
             divisor = take-elements F n a′ (d .elements);
-            shorter = omega (arith, length-next, short);
+            shorter = omega (arith, length-next, remainder-short);
             nonzero = λ z. t .last (omega arith) (last ∙ z);
           }
         where
           last : getD rest (n - 1) 0 ≡ leading next
           last =
-              let below : n - 1 < e - 0 = omega (arith, short) in
+              let below : n - 1 < e - 0 = omega (arith, remainder-short) in
               let within : n - 1 < n = omega arith in
               let top-place : degree next ≡ n - 1 = length-degree next (length-next ∙ omega arith) in
               getD-take (e - 0) a′ (n - 1) 0 below
@@ -105,16 +105,16 @@ module _ {F : Field} (I : IsField F) {a b : Polynomial} (E : Euclidean F a b) wh
       euclid-goes-on g = common-step I trimmed-congruent g
 
 -- The turn as the code makes it
-pub turned :
+pub euclid-turned :
     {field : GaloisField} (v : WellFormed field) {a b a′ : List ℕ} {c n : ℕ}
     → Euclidean (fieldOf field) a b
     → Divided (fieldOf field) c b a a′
     → Trimmed (take (length b - 1 - 0) a′) n
     → Turned field a b a′ n
-turned v E d t =
+euclid-turned v E d t =
     record {
       first = d .size;
-      falls = omega (arith, short (field-isField v) E d t, some (field-isField v) E);
+      falls = omega (arith, remainder-short (field-isField v) E d t, divisor-nonempty (field-isField v) E);
       ends = λ z w. euclid-ends (field-isField w) E d t z;
       turns = λ h. euclid-turns (field-isField v) E d t h;
       goesOn = λ k w g. euclid-goes-on (field-isField w) E d t g;
@@ -122,14 +122,14 @@ turned v E d t =
 
 -- The recursion
 module _ {field : GaloisField} {a b a′ : List ℕ} {n : ℕ} (t : Turned field a b a′ n) where
-  whole : n ≡ n - 0
-  whole = omega arith
+  length-lent : n ≡ n - 0
+  length-lent = omega arith
 
   pub turned-ends : n ≡ 0 → Common field a b (length b - 1)
   turned-ends z = record { degree = λ w. t .ends z w }
 
-  pub turned-again : n ≢ 0 → Euclidean (fieldOf field) b (take (n - 0) a′)
-  turned-again h = subst (λ k. Euclidean (fieldOf field) b (take k a′)) whole (t .turns h)
+  pub turned-euclidean : n ≢ 0 → Euclidean (fieldOf field) b (take (n - 0) a′)
+  turned-euclidean h = subst (λ k. Euclidean (fieldOf field) b (take k a′)) length-lent (t .turns h)
 
   pub turned-falls : length (take (n - 0) a′) < length b
   turned-falls = omega (arith, t .falls, length-take (n - 0) a′)
@@ -139,5 +139,5 @@ module _ {field : GaloisField} {a b a′ : List ℕ} {n : ℕ} (t : Turned field
       record {
         degree = λ w.
             t .goesOn k w
-            (subst (λ m. CommonDegree (field-isField w) b (take m a′) k) (sym whole) (c .degree w));
+            (subst (λ m. CommonDegree (field-isField w) b (take m a′) k) (sym length-lent) (c .degree w));
       }

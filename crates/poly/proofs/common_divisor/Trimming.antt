@@ -17,7 +17,7 @@ use native.Mathlib.Omega.{arith}
 use lib.ListN.{length, getD, take, length-append, List·getD-eq-default}
 use lib.Seq.{getD-take, length-take-le, take-append-le}
 use Rattle.meaning.specs.Polynomial.{degree, leading}
-use Rattle.bridge.proofs.Polynomials.{length-degree, leading-getD}
+use Rattle.bridge.proofs.Lists.Polynomials.{length-degree, leading-getD}
 use Rattle.lent.proofs.Parts.{lent-back}
 use Rattle.poly.specs.common_divisor.Common.{Trimmed}
 
@@ -47,11 +47,11 @@ module _ {f : List ℕ} {n : ℕ} (t : Trimming f n) where
 
 -- What is left of a part
 module _ (ys t : List ℕ) {d n : ℕ} (e : length ys ≡ d) (u : Trimmed (take (d - 0) (ys ++ t)) n) where
-  front : take (d - 0) (ys ++ t) ≡ ys
-  front = lent-back ys t e
+  lent-front : take (d - 0) (ys ++ t) ≡ ys
+  lent-front = lent-back ys t e
 
   pub trimmed-within : n ≤ d
-  trimmed-within = omega (arith, u .within, ap length front)
+  trimmed-within = omega (arith, u .within, ap length lent-front)
 
   pub trimmed-room : n ≤ length (ys ++ t)
   trimmed-room = omega (arith, trimmed-within, length-append ys t)
@@ -67,7 +67,7 @@ module _ (ys t : List ℕ) {d n : ℕ} (e : length ys ≡ d) (u : Trimmed (take 
   trimmed-size = ap length trimmed-part ∙ length-take-le n ys (omega (arith, trimmed-within))
 
   pub trimmed-zeros : (i : ℕ) → n ≤ i → getD ys i 0 ≡ 0
-  trimmed-zeros i l = ap (λ g. getD g i 0) (sym front) ∙ u .zeros i l
+  trimmed-zeros i l = ap (λ g. getD g i 0) (sym lent-front) ∙ u .zeros i l
 
   pub trimmed-places : (i : ℕ) → getD short i 0 ≡ getD ys i 0
   trimmed-places i = elim (decLt i n) [
@@ -80,7 +80,7 @@ module _ (ys t : List ℕ) {d n : ℕ} (e : length ys ≡ d) (u : Trimmed (take 
   trimmed-leading h z =
       let top : degree short ≡ n - 1 = length-degree short (trimmed-size ∙ omega arith) in
       u .last (omega arith)
-      (ap (λ g. getD g (n - 1) 0) front
+      (ap (λ g. getD g (n - 1) 0) lent-front
       ∙ sym (trimmed-places (n - 1))
       ∙ ap (λ i. getD short i 0) (sym top)
       ∙ sym (leading-getD short)

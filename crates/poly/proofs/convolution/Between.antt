@@ -14,7 +14,7 @@ use native.Mathlib.Omega.{arith}
 use lib.ListN.{length, getD}
 use lib.Seq.{ext-getD, paste, length-paste}
 use Rattle.meaning.specs.Sequence.{Sequence, cut}
-use Rattle.bridge.proofs.Actions.{length-cut, getD-cut}
+use Rattle.bridge.proofs.Sequences.Actions.{length-cut, getD-cut}
 use Rattle.arith.proofs.Slices.{getD-paste-inside, getD-paste-before, getD-paste-after}
 
 pub record Between (w : List ℕ) (to m : ℕ) (s : Sequence) (at : ℕ) (w′ : List ℕ) : Type 0 where
@@ -24,21 +24,21 @@ pub record Between (w : List ℕ) (to m : ℕ) (s : Sequence) (at : ℕ) (w′ :
   pub after : (j : ℕ) → to + m ≤ j → getD w′ j 0 ≡ getD w j 0
 
 module _ (w : List ℕ) (to m : ℕ) (s : Sequence) (at : ℕ) (l : to + m ≤ length w) where
-  enough : m ≤ length (cut s at m)
-  enough = omega (arith, length-cut s at m)
+  cut-enough : m ≤ length (cut s at m)
+  cut-enough = omega (arith, length-cut s at m)
 
   pub between-paste : Between w to m s at (paste w to (cut s at m) m)
   between-paste =
       record {
-        size = length-paste w to (cut s at m) m l enough;
-        before = getD-paste-before w to (cut s at m) m l enough;
+        size = length-paste w to (cut s at m) m l cut-enough;
+        before = getD-paste-before w to (cut s at m) m l cut-enough;
         inside =
             λ j a b.
             let i : j ≡ to + (j - to) = omega arith in
             ap (λ n. getD (paste w to (cut s at m) m) n 0) i
-            ∙ getD-paste-inside w to (cut s at m) m l enough (j - to) (omega arith)
+            ∙ getD-paste-inside w to (cut s at m) m l cut-enough (j - to) (omega arith)
             ∙ getD-cut s at m (j - to) (omega arith);
-        after = getD-paste-after w to (cut s at m) m l enough;
+        after = getD-paste-after w to (cut s at m) m l cut-enough;
       }
 
   pub between-pasted : {w′ : List ℕ} → Between w to m s at w′ → w′ ≡ paste w to (cut s at m) m

@@ -16,7 +16,7 @@ use lib.ListN.{length, getD}
 use lib.Seq.{paste, getD-take}
 use Rattle.meaning.specs.Field.{Field}
 use Rattle.meaning.specs.Sequence.{known, periodic}
-use Rattle.bridge.proofs.Actions.{actStride, cut-equal, known-getD}
+use Rattle.bridge.proofs.Sequences.Actions.{actStride, cut-equal, known-getD}
 use Rattle.arith.specs.Slices.{part}
 use Rattle.arith.proofs.Slices.{length-part}
 use Rattle.lent.specs.blocks.Blocks.{Block, BlockActed}
@@ -35,8 +35,8 @@ module _ {f : List ℕ} {q : ℕ} {w : List ℕ} {at to m n : ℕ} (b : Below f 
       }
 
   -- n − q places forth, i times, are q·i places back
-  back : (k i : ℕ) → q * i ≤ k → k < n → (k + (n - q % n) * i) % n ≡ k - q * i
-  back k i h l =
+  stride-back : (k i : ℕ) → q * i ≤ k → k < n → (k + (n - q % n) * i) % n ≡ k - q * i
+  stride-back k i h l =
       let d = q / n + 1 in
       let e : n - q % n + q ≡ n * d =
       omega (arith, div-add-mod q n, mod-lt q {m = n} (omega arith), mul-suc n (q / n), add-one (q / n)) in
@@ -45,13 +45,17 @@ module _ {f : List ℕ} {q : ℕ} {w : List ℕ} {at to m n : ℕ} (b : Below f 
       ap (λ x. x % n) g ∙ add-mul-mod-self-left (k - q * i) n (d * i) ∙ mod-eq-of-lt (omega arith)
 
   -- what stands there
-  read : (k i : ℕ) → q * i ≤ k → k < n → known w (k - q * i) ≡ periodic (part w 0 n) (k + (n - q % n) * i)
+  stride-reads :
+      (k i : ℕ)
+      → q * i ≤ k
+      → k < n
+      → known w (k - q * i) ≡ periodic (part w 0 n) (k + (n - q % n) * i)
   unfolding periodic
-  read k i h l =
+  stride-reads k i h l =
       known-getD w (k - q * i)
       ∙ sym (ap (λ x. getD (part w 0 n) ((k + (n - q % n) * i) % x) 0)
       (length-part w 0 n (omega (arith, b .order, b .within)))
-      ∙ ap (λ x. getD (part w 0 n) x 0) (back k i h l)
+      ∙ ap (λ x. getD (part w 0 n) x 0) (stride-back k i h l)
       ∙ getD-take n w (k - q * i) 0 (omega arith))
 
   pub acted-convolved : {F : Field} {w′ : List ℕ} {r : Bool}
@@ -65,4 +69,4 @@ module _ {f : List ℕ} {q : ℕ} {w : List ℕ} {at to m n : ℕ} (b : Below f 
       sym (convolved-stride F f q (n - q % n) (known w) (periodic (part w 0 n)) (at + j) (at + j)
       (λ i g.
       let x : i ≤ length f - 1 = omega arith in
-      read (at + j) i (omega (arith, b .reach, mul-le-mul-left q x)) (omega arith)))))
+      stride-reads (at + j) i (omega (arith, b .reach, mul-le-mul-left q x)) (omega arith)))))

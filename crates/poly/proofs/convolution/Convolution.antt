@@ -13,8 +13,8 @@ use native.Mathlib.Omega.{arith}
 use lib.ListN.{length}
 use Rattle.meaning.specs.Field.{Field}
 use Rattle.meaning.specs.Sequence.{Sequence}
-use Rattle.bridge.proofs.Interpretation.{IsField, size-positive, add-below}
-use Rattle.bridge.proofs.Actions.{actStride, actStride-nil, actStride-cons}
+use Rattle.bridge.proofs.Basics.Interpretation.{IsField, size-positive, add-below}
+use Rattle.bridge.proofs.Sequences.Actions.{actStride, actStride-nil, actStride-cons}
 use Rattle.poly.specs.convolution.Convolution.{convolved}
 
 pub convolved-local : (F : Field) (f : List ℕ) (q : ℕ) (s t : Sequence) (k : ℕ)

@@ -12,7 +12,7 @@ use native.Mathlib.Decide.{decLt}
 use native.Mathlib.Omega.{arith}
 use Rattle.meaning.specs.Field.{Field}
 use Rattle.meaning.specs.Sequence.{Sequence, known}
-use Rattle.bridge.proofs.Actions.{known-getD}
+use Rattle.bridge.proofs.Sequences.Actions.{known-getD}
 use Rattle.lent.specs.blocks.Blocks.{Block, BlockActed}
 use Rattle.poly.specs.convolution.Convolution.{convolved, convolvedWithin, Below}
 use Rattle.poly.proofs.convolution.Convolution.{convolved-local}
@@ -36,8 +36,8 @@ module _ (F : Field) (f : List ℕ) (q : ℕ) (w₀ : List ℕ) where
       (d : Between w₀ (to + left) (m - left) s (at + left) w) where
     -- h places below the first of them, from to + k on
     module _ (k h : ℕ) (e : left ≡ k + h) where
-      below : Below f q w (at + k) (to + k) h
-      below =
+      block-below : Below f q w (at + k) (to + k) h
+      block-below =
           record {
             reach = omega (arith, b .reach);
             order = omega (arith, b .order);
@@ -45,37 +45,39 @@ module _ (F : Field) (f : List ℕ) (q : ℕ) (w₀ : List ℕ) where
           }
 
       pub blocks-next : 0 < h → h ≤ 256 → Block w 0 (at + left) (at + k) (to + k) h
-      blocks-next = below-block below (omega arith)
+      blocks-next = below-block block-below (omega arith)
 
       abbrev t : Sequence
       t = convolved F f q (known w)
 
       module _ {w′ : List ℕ} {r : Bool} {n : ℕ} (o : n ≡ at + left)
           (a : BlockActed F w 0 n (at + k) f (n - q % n) (to + k) h w′ r) where
-        made : Between w (to + k) h t (at + k) w′
-        made =
-            subst (Between w (to + k) h t (at + k)) (sym (acted-convolved below (omega arith) a))
-            (between-paste w (to + k) h t (at + k) (below .within))
+        block-made : Between w (to + k) h t (at + k) w′
+        block-made =
+            subst (Between w (to + k) h t (at + k)) (sym (acted-convolved block-below (omega arith) a))
+            (between-paste w (to + k) h t (at + k) (block-below .within))
 
         -- the block is made of numbers that are as they were
-        same : (j : ℕ) → j < at + left → t j ≡ s j
-        same j c =
+        block-unchanged : (j : ℕ) → j < at + left → t j ≡ s j
+        block-unchanged j c =
             convolved-local F f q (known w) (known w₀) j
             (λ i g. known-getD w i ∙ d .before i (omega (arith, b .order)) ∙ sym (known-getD w₀ i))
 
         pub blocks-more : Between w₀ (to + k) (m - k) s (at + k) w′
         blocks-more =
             record {
-              size = made .size ∙ d .size;
-              before = λ j a. made .before j a ∙ d .before j (omega arith);
+              size = block-made .size ∙ d .size;
+              before = λ j a. block-made .before j a ∙ d .before j (omega arith);
               inside =
                   λ j a c. elim (decLt j (to + left)) [
-                    | yes z ↦ made .inside j a (omega arith) ∙ same (at + k + (j - (to + k))) (omega arith)
+                    | yes z ↦
+                        block-made .inside j a (omega arith)
+                        ∙ block-unchanged (at + k + (j - (to + k))) (omega arith)
                     | no z ↦
                         let g : at + left + (j - (to + left)) ≡ at + k + (j - (to + k)) = omega arith in
-                        made .after j (omega arith) ∙ d .inside j (omega arith) (omega arith) ∙ ap s g
+                        block-made .after j (omega arith) ∙ d .inside j (omega arith) (omega arith) ∙ ap s g
                   ];
-              after = λ j a. made .after j (omega arith) ∙ d .after j (omega arith);
+              after = λ j a. block-made .after j (omega arith) ∙ d .after j (omega arith);
             }
 
   pub blocks-all : (to at m : ℕ) (b : Below f q w₀ at to m) {w : List ℕ} {left : ℕ}

@@ -24,17 +24,18 @@ use lib.Dec.{T}
 use borrow.Rule.Slice.PartMut.{putMid}
 use Rattle.meaning.specs.Field.{Field, areElements, negative}
 use Rattle.meaning.specs.Polynomial.{Polynomial, degree, plus, scale, times}
-use Rattle.bridge.proofs.Interpretation.{IsField, number-add-comm, number-add-assoc, number-add-zero}
-use Rattle.bridge.proofs.Interpretation.{number-zero-add, number-add-negative, number-mul-comm}
-use Rattle.bridge.proofs.Interpretation.{number-mul-zero, number-mul-negative, number-one-mul}
-use Rattle.bridge.proofs.Interpretation.{number-mul-assoc}
-use Rattle.bridge.proofs.Interpretation.{add-below, size-positive}
-use Rattle.bridge.proofs.Polynomials.{getD-below, getD-elements, elements-cons}
-use Rattle.bridge.proofs.Polynomials.{scale-elements, times-elements, length-plus, length-scale, length-times}
-use Rattle.bridge.proofs.Polynomials.{leading-getD, leading-nonempty, degree-length}
-use Rattle.bridge.proofs.Coefficients.{getD-sum, getD-multiple, getD-zeros}
-use Rattle.bridge.proofs.Continuations.{take-elements}
-use Rattle.bridge.proofs.Remainders.{Congruent, congruent-sum}
+use Rattle.bridge.proofs.Basics.Interpretation.{IsField, number-add-comm, number-add-assoc, number-add-zero}
+use Rattle.bridge.proofs.Basics.Interpretation.{number-zero-add, number-add-negative, number-mul-comm}
+use Rattle.bridge.proofs.Basics.Interpretation.{number-mul-zero, number-mul-negative, number-one-mul}
+use Rattle.bridge.proofs.Basics.Interpretation.{number-mul-assoc}
+use Rattle.bridge.proofs.Basics.Interpretation.{add-below, size-positive}
+use Rattle.bridge.proofs.Lists.Polynomials.{getD-below, getD-elements, elements-cons}
+use Rattle.bridge.proofs.Lists.Polynomials.{scale-elements, times-elements, length-plus}
+use Rattle.bridge.proofs.Lists.Polynomials.{length-scale, length-times}
+use Rattle.bridge.proofs.Lists.Polynomials.{leading-getD, leading-nonempty, degree-length}
+use Rattle.bridge.proofs.Lists.Coefficients.{getD-sum, getD-multiple, getD-zeros}
+use Rattle.bridge.proofs.Sequences.Continuations.{take-elements}
+use Rattle.bridge.proofs.Lists.Remainders.{Congruent, congruent-sum}
 use Rattle.arith.specs.Slices.{combined}
 use Rattle.arith.proofs.Slices.{length-combined, getD-combined, getD-paste-inside, getD-paste-before}
 use Rattle.arith.proofs.Slices.{getD-paste-after}
@@ -115,11 +116,11 @@ inverse-digit {F} I {g = g} d a l =
     ∙ number-one-mul I l
 
 module _ {F : Field} (I : IsField F) {g : Polynomial} {f : List ℕ} (d : Divisible F f g) where
-  some : 0 < length g
-  some = leading-nonempty g (d .nonzero)
+  divisor-nonempty : 0 < length g
+  divisor-nonempty = leading-nonempty g (d .nonzero)
 
   length-g : length g ≡ suc (degree g)
-  length-g = degree-length g some
+  length-g = degree-length g divisor-nonempty
 
   abbrev e : ℕ
   e = degree g
@@ -161,9 +162,9 @@ module _ {F : Field} (I : IsField F) {g : Polynomial} {f : List ℕ} (d : Divisi
     x = i - e
 
     -- (a − q·b) + q·b
-    restored : (a b : ℕ) → a < F .size
+    digit-restored : (a b : ℕ) → a < F .size
         → (F .add) ((F .add) a ((F .mul) (negative F q) b)) ((F .mul) q b) ≡ a
-    restored a b h =
+    digit-restored a b h =
         number-add-assoc I a ((F .mul) (negative F q) b) ((F .mul) q b)
         ∙ ap ((F .add) a)
         (ap (λ y. (F .add) y ((F .mul) q b))
@@ -176,12 +177,12 @@ module _ {F : Field} (I : IsField F) {g : Polynomial} {f : List ℕ} (d : Divisi
 
     module _ {w′ : List ℕ} (s : Reduced F g q w i w′) where
       -- what stands below, with q·g added
-      lower : (j : ℕ) → x ≤ j
+      lower-place : (j : ℕ) → x ≤ j
           → (F .add) (getD (take i w′) j 0) ((F .mul) q (getD g (j - x) 0)) ≡ getD (take k w) j 0
-      lower j h = elim (decLt j i) [
+      lower-place j h = elim (decLt j i) [
         | yes a ↦
             ap (λ y. (F .add) y ((F .mul) q (getD g (j - x) 0))) (getD-take i w′ j 0 a ∙ s .inside j h a)
-            ∙ restored (getD w j 0) (getD g (j - x) 0) (getD-below I w (m .elements) j)
+            ∙ digit-restored (getD w j 0) (getD g (j - x) 0) (getD-below I w (m .elements) j)
             ∙ sym (getD-take k w j 0 (omega arith))
         | no a ↦
             ap (λ y. (F .add) y ((F .mul) q (getD g (j - x) 0))) (take-beyond i w′ j (omega arith))
@@ -205,9 +206,9 @@ module _ {F : Field} (I : IsField F) {g : Polynomial} {f : List ℕ} (d : Divisi
               ∙ ap (λ z. getD w z 0) (sym u)
 
       -- the quotient has q before the coefficients that it had
-      quotient : scale F c (drop i w′) ≡ q ∷ known
+      quotient-digit : scale F c (drop i w′) ≡ q ∷ known
       unfolding scale
-      quotient =
+      quotient-digit =
           let a : i < length w′ = omega (arith, s .size, m .size, m .within) in
           let b : suc i ≡ k = omega arith in
           ap (scale F c)
@@ -221,11 +222,11 @@ module _ {F : Field} (I : IsField F) {g : Polynomial} {f : List ℕ} (d : Divisi
               getD-drop k w′ j 0 ∙ s .after (k + j) (omega arith) ∙ sym (getD-drop k w j 0))
 
       -- what the product with g adds at place j
-      higher : (j : ℕ) → x ≤ j
+      higher-place : (j : ℕ) → x ≤ j
           → raised x (times F (q ∷ known) g) j
           ≡ (F .add) ((F .mul) q (getD g (j - x) 0)) (raised (k - e) (times F known g) j)
       unfolding times
-      higher j h =
+      higher-place j h =
           raised-high x (times F (q ∷ known) g) j h
           ∙ getD-sum I (scale F q g) (0 ∷ old) (j - x) (scale-elements I q g)
           (elements-cons F old (size-positive I) (times-elements I known g))
@@ -258,7 +259,7 @@ module _ {F : Field} (I : IsField F) {g : Polynomial} {f : List ℕ} (d : Divisi
             within = omega (arith, m .within);
             least = λ h. omega arith;
             elements = reduced-elements;
-            total = λ j. m .total j ∙ sym (ap (sum j) quotient ∙ same j);
+            total = λ j. m .total j ∙ sym (ap (sum j) quotient-digit ∙ same j);
           }
         where
           old : ℕ → ℕ
@@ -275,9 +276,9 @@ module _ {F : Field} (I : IsField F) {g : Polynomial} {f : List ℕ} (d : Divisi
                 (raised-low x (times F (q ∷ known) g) j a
                 ∙ sym (raised-low (k - e) (times F known g) j (omega arith)))
             | no a ↦
-                ap ((F .add) (getD (take i w′) j 0)) (higher j (omega arith))
+                ap ((F .add) (getD (take i w′) j 0)) (higher-place j (omega arith))
                 ∙ sym (number-add-assoc I (getD (take i w′) j 0) ((F .mul) q (getD g (j - x) 0)) (old j))
-                ∙ ap (λ y. (F .add) y (old j)) (lower j (omega arith))
+                ∙ ap (λ y. (F .add) y (old j)) (lower-place j (omega arith))
           ]
 
   -- the length of the sum of a remainder and a product with g
@@ -292,7 +293,7 @@ module _ {F : Field} (I : IsField F) {g : Polynomial} {f : List ℕ} (d : Divisi
               arith,
               length-take e w,
               n,
-              length-times I (scale F c (drop e w)) g (omega (arith, n)) some,
+              length-times I (scale F c (drop e w)) g (omega (arith, n)) divisor-nonempty,
               length-g,
             )
         | no h ↦
@@ -350,7 +351,7 @@ pub divided-congruent :
 divided-congruent {F} I {c} {g} {f′ = f′} d = congruent-sum I (scale F c (drop (degree g) f′)) (d .equation)
 
 -- the part that comes back from the update
-module _ (F : Field) (g : Polynomial) (some : 0 < length g) (w : List ℕ) (i : ℕ) (l : length g - 1 ≤ i)
+module _ (F : Field) (g : Polynomial) (nonempty : 0 < length g) (w : List ℕ) (i : ℕ) (l : length g - 1 ≤ i)
     (h : i < length w) where
   abbrev n : ℕ
   n = length g - 1
@@ -380,14 +381,14 @@ module _ (F : Field) (g : Polynomial) (some : 0 < length g) (w : List ℕ) (i : 
         ∙ length-combined F lent v factor lent-length
         ∙ length-lent
 
-    pasted : putMid y (i - y) w ys ≡ paste w y ys n
-    pasted =
+    update-pasted : putMid y (i - y) w ys ≡ paste w y ys n
+    update-pasted =
         let t : i ≡ y + n = omega arith in
         ap (λ k. putMid y (k - y) w ys) t ∙ put-paste w y n ys length-ys
 
-    updated : (j : ℕ) → j < n
+    update-place : (j : ℕ) → j < n
         → getD ys j 0 ≡ (F .add) (getD w (y + j) 0) ((F .mul) (negative F u) (getD g j 0))
-    updated j b =
+    update-place j b =
         ap (λ u. getD u j 0) e
         ∙ getD-combined F lent v factor j
         (omega (arith, length-lent))
@@ -413,7 +414,7 @@ module _ (F : Field) (g : Polynomial) (some : 0 < length g) (w : List ℕ) (i : 
         let t : j ≡ y + (j - y) = omega arith in
         ap (λ k. getD (paste w y ys n) k 0) t
         ∙ getD-paste-inside w y ys n (omega arith) (omega (arith, length-ys)) (j - y) (omega arith)
-        ∙ updated (j - y) (omega arith)
+        ∙ update-place (j - y) (omega arith)
         ∙ ap (λ k. (F .add) (getD w k 0) ((F .mul) (negative F u) (getD g (j - y) 0))) (sym t)
 
     after-pasted : (j : ℕ) → i ≤ j → getD (paste w y ys n) j 0 ≡ getD w j 0
@@ -422,10 +423,30 @@ module _ (F : Field) (g : Polynomial) (some : 0 < length g) (w : List ℕ) (i : 
     pub reduced-put : Reduced F g u w i (putMid y (i - y) w ys)
     unfolding degree
     reduced-put =
-        subst (Reduced F g u w i) (sym pasted)
+        subst (Reduced F g u w i) (sym update-pasted)
         (record {
           size = length-pasted;
           before = before-pasted;
           inside = inside-pasted;
           after = after-pasted;
         })
+
+-- the same for a number of terms that is the degree
+module _ (F : Field) (g : Polynomial) (nonempty : 0 < length g) (w : List ℕ) (i : ℕ) (l : length g - 1 ≤ i)
+    (h : i < length w) (m : ℕ) (z : m ≡ length g - 1) where
+  pub lent-length-at : length (take (m - 0) g) ≤ length (take (i - (i - m)) (drop (i - m) w))
+  lent-length-at =
+      subst (λ m. length (take (m - 0) g) ≤ length (take (i - (i - m)) (drop (i - m) w))) (sym z)
+      (lent-length F g nonempty w i l h)
+
+  pub reduced-put-at :
+      (u : ℕ) {ys : List ℕ} {v : ℕ}
+      → v ≡ negative F u
+      → ys ≡ combined F (take (i - (i - m)) (drop (i - m) w)) v (take (m - 0) g)
+      → Reduced F g u w i (putMid (i - m) (i - (i - m)) w ys)
+  reduced-put-at u {ys} {v} q e =
+      subst
+      (λ m.
+      ys ≡ combined F (take (i - (i - m)) (drop (i - m) w)) v (take (m - 0) g)
+      → Reduced F g u w i (putMid (i - m) (i - (i - m)) w ys))
+      (sym z) (reduced-put F g nonempty w i l h u q) e

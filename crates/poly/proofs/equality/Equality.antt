@@ -14,11 +14,11 @@ use Rattle.meaning.specs.Polynomial.{same}
 
 same-cons : (a b : ℕ) (f g : List ℕ) → same (a ∷ f) (b ∷ g) ≡ eqb a b && same f g
 unfolding same
-same-cons a b f g = by (eqb a b)
+same-cons a b f g = bool-cases (eqb a b)
   where
-    by : (x : Bool) → elim x [ true ↦ same f g | false ↦ false ] ≡ x && same f g
-    by true = refl
-    by false = refl
+    bool-cases : (x : Bool) → elim x [ true ↦ same f g | false ↦ false ] ≡ x && same f g
+    bool-cases true = refl
+    bool-cases false = refl
 
 pub same-length : (f g : List ℕ) → (length f ≡ length g → ⊥) → false ≡ same f g
 unfolding same
@@ -34,16 +34,16 @@ same-length (a ∷ f) (b ∷ g) h =
 -- Lists of one length, equal before i: the rest decides.
 module _ (f g : List ℕ) (i : ℕ) (n : length f ≡ length g) {x : Bool}
     (e : same (drop i f) (drop i g) ≡ x) where
-  split : i < length f → eqb (getD f i 0) (getD g i 0) && same (drop (i + 1) f) (drop (i + 1) g) ≡ x
-  split h =
+  same-split : i < length f → eqb (getD f i 0) (getD g i 0) && same (drop (i + 1) f) (drop (i + 1) g) ≡ x
+  same-split h =
       rw add-one
       (sym (same-cons _ _ _ _) ∙ (rw (drop-cons f i 0 h, drop-cons g i 0 (omega arith)) at e))
 
   pub same-differ : i < length f → (getD f i 0 ≡ getD g i 0 → ⊥) → false ≡ x
-  same-differ h q = rw (ne-eqb _ _ q) at (split h)
+  same-differ h q = rw (ne-eqb _ _ q) at (same-split h)
 
   pub same-next : i < length f → getD f i 0 ≡ getD g i 0 → same (drop (i + 1) f) (drop (i + 1) g) ≡ x
-  same-next h q = rw (eq-eqb _ _ q) at (split h)
+  same-next h q = rw (eq-eqb _ _ q) at (same-split h)
 
   pub same-over : length f ≤ i → true ≡ x
   unfolding same

@@ -15,8 +15,8 @@ use Rattle.meaning.specs.Polynomial.{Polynomial, degree}
 use Rattle.meaning.specs.Conditions.{named, totalDegree, upperPowersOutOfRange}
 use Rattle.meaning.specs.Slices.{listsOf}
 use Rattle.meaning.proofs.Slices.{nowhere, lists-length, lists-at}
-use Rattle.bridge.proofs.Products.{length-named}
-use Rattle.bridge.proofs.Accepted.{total-accepted}
+use Rattle.bridge.proofs.Lists.Products.{length-named}
+use Rattle.bridge.proofs.Ways.Accepted.{total-accepted}
 use Rattle.poly.proofs.factors.Capped.{capped-within, capped-beyond, sum-beyond, sum-within}
 
 named-at : (fs : List Polynomial) (us : List ℕ) (i : ℕ) → i < length fs
@@ -66,14 +66,14 @@ module _ (fs : List (RefT (List ℕ))) (us : List ℕ) (i s : ℕ) {D : ℕ}
   -- the product r of factor i, as far as the limit, of its upper power and its degree
   module _ (h : i < length fs) {r u d : ℕ} (er : r ≡ min (u * d) 4097) (eu : u ≡ getD us i 0)
       (ed : d ≡ degree (now (getD fs i nowhere))) where
-    split : s + (u * d + totalDegree (drop (i + 1) (named (listsOf fs) us))) ≡ D
-    split = rw (eu, ed, ← total-at fs us i h) e
+    total-split : s + (u * d + totalDegree (drop (i + 1) (named (listsOf fs) us))) ≡ D
+    total-split = rw (eu, ed, ← total-at fs us i h) e
 
     pub total-beyond : 4096 < s + r → 4097 ≡ min D 4097
-    total-beyond b = capped-beyond D (omega (arith, split, sum-beyond s (u * d) (rw er at b)))
+    total-beyond b = capped-beyond D (omega (arith, total-split, sum-beyond s (u * d) (rw er at b)))
 
     pub total-next : s + r ≤ 4096 → s + r + totalDegree (drop (i + 1) (named (listsOf fs) us)) ≡ D
-    total-next b = omega (arith, split, er, sum-within s (u * d) (rw er at b))
+    total-next b = omega (arith, total-split, er, sum-within s (u * d) (rw er at b))
 
 pub total-known : (l : List (Polynomial × ℕ)) → upperPowersOutOfRange l ≡ false
     → (totalDegree l ≤ 4096) × (min (totalDegree l) 4097 ≡ totalDegree l)

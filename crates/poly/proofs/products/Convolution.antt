@@ -16,11 +16,11 @@ use lib.Dec.{T}
 use Rattle.meaning.specs.Field.{Field, areElements}
 use Rattle.meaning.specs.Polynomial.{plus, scale, times}
 use Rattle.meaning.specs.Sequence.{Sequence, known}
-use Rattle.bridge.proofs.Interpretation.{IsField, number-add-comm, number-zero-add, number-mul-zero}
-use Rattle.bridge.proofs.Polynomials.{scale-elements, times-elements, append-elements, zeros-elements}
-use Rattle.bridge.proofs.Spread.{spread}
-use Rattle.bridge.proofs.Actions.{known-getD}
-use Rattle.bridge.proofs.Coefficients.{getD-zeros, getD-sum, getD-multiple}
+use Rattle.bridge.proofs.Basics.Interpretation.{IsField, number-add-comm, number-zero-add, number-mul-zero}
+use Rattle.bridge.proofs.Lists.Polynomials.{scale-elements, times-elements, append-elements, zeros-elements}
+use Rattle.bridge.proofs.Lists.Spread.{spread}
+use Rattle.bridge.proofs.Sequences.Actions.{known-getD}
+use Rattle.bridge.proofs.Lists.Coefficients.{getD-zeros, getD-sum, getD-multiple}
 use Rattle.poly.specs.convolution.Convolution.{convolved}
 use Rattle.poly.proofs.convolution.Convolution.{convolved-below}
 use Rattle.poly.proofs.products.Rows.{times-spread-cons, times-spread-one}
@@ -35,17 +35,17 @@ module _ {F : Field} (I : IsField F) where
       ap (convolved F f q s) (sym (ap (λ (n : ℕ). k - n) (mul-zero q) ∙ omega arith))
   convolved-skip (suc i) [] q s k h = refl
   convolved-skip (suc i) (c ∷ f) q s k h =
-      ap (λ x. (F .add) ((F .mul) c x) (convolved F f q s (k - q))) here
+      ap (λ x. (F .add) ((F .mul) c x) (convolved F f q s (k - q))) first-zero
       ∙ ap (λ x. (F .add) x (convolved F f q s (k - q))) (number-mul-zero I c)
       ∙ number-zero-add I (convolved-below I f q s (k - q))
-      ∙ convolved-skip i f q s (k - q) (λ j l. ap s (back j) ∙ h (suc j) (omega arith))
-      ∙ ap (convolved F (drop i f) q s) (back i)
+      ∙ convolved-skip i f q s (k - q) (λ j l. ap s (stride-back j) ∙ h (suc j) (omega arith))
+      ∙ ap (convolved F (drop i f) q s) (stride-back i)
     where
-      back : (j : ℕ) → k - q - q * j ≡ k - q * suc j
-      back j = omega (arith, mul-suc q j)
+      stride-back : (j : ℕ) → k - q - q * j ≡ k - q * suc j
+      stride-back j = omega (arith, mul-suc q j)
 
-      here : s k ≡ 0
-      here = ap s (sym (ap (λ (n : ℕ). k - n) (mul-zero q) ∙ omega arith)) ∙ h 0 (omega arith)
+      first-zero : s k ≡ 0
+      first-zero = ap s (sym (ap (λ (n : ℕ). k - n) (mul-zero q) ∙ omega arith)) ∙ h 0 (omega arith)
 
   -- the first coefficients of f, as many as there are, meet zeros
   pub convolved-zero : (f : List ℕ) (q : ℕ) (s : Sequence) (k : ℕ)
@@ -61,20 +61,20 @@ module _ {F : Field} (I : IsField F) where
     abbrev u : Sequence
     u = known a
 
-    scaled : (c k : ℕ) → getD (scale F c a) k 0 ≡ (F .mul) c (u k)
-    scaled c k = getD-multiple I c a k ∙ ap ((F .mul) c) (sym (known-getD a k))
+    getD-scaled : (c k : ℕ) → getD (scale F c a) k 0 ≡ (F .mul) c (u k)
+    getD-scaled c k = getD-multiple I c a k ∙ ap ((F .mul) c) (sym (known-getD a k))
 
     -- a sum with c·a
-    summed : (v : List ℕ) (c k : ℕ)
+    getD-summed : (v : List ℕ) (c k : ℕ)
         → T (areElements F v)
         → getD (plus F v (scale F c a)) k 0 ≡ (F .add) ((F .mul) c (u k)) (getD v k 0)
-    summed v c k h =
+    getD-summed v c k h =
         getD-sum I v (scale F c a) k h (scale-elements I c a)
-        ∙ ap ((F .add) (getD v k 0)) (scaled c k)
+        ∙ ap ((F .add) (getD v k 0)) (getD-scaled c k)
         ∙ number-add-comm I (getD v k 0) ((F .mul) c (u k))
 
-    shifted : (q : ℕ) (v : List ℕ) → T (areElements F v) → T (areElements F (replicate q 0 ++ v))
-    shifted q v h = append-elements F (replicate q 0) v (zeros-elements I q) h
+    shifted-elements : (q : ℕ) (v : List ℕ) → T (areElements F v) → T (areElements F (replicate q 0 ++ v))
+    shifted-elements q v h = append-elements F (replicate q 0) v (zeros-elements I q) h
 
     -- the coefficient at place k, by the coefficients of f up to b, which are those that reach it
     pub times-convolved : (f : List ℕ) (q b k : ℕ)
@@ -87,13 +87,13 @@ module _ {F : Field} (I : IsField F) where
     times-convolved [] q b k pos l m h = absurd (omega arith)
     times-convolved (c ∷ []) q zero k pos l m h =
         ap (λ v. getD v k 0) (times-spread-one I a some q c)
-        ∙ summed (replicate (length a) 0) c k (zeros-elements I (length a))
+        ∙ getD-summed (replicate (length a) 0) c k (zeros-elements I (length a))
         ∙ ap ((F .add) ((F .mul) c (u k))) (getD-zeros (length a) k)
     times-convolved (c ∷ []) q (suc b) k pos l m h = absurd (omega arith)
     times-convolved (c ∷ d ∷ g) q zero k pos l m h =
         ap (λ v. getD v k 0) (times-spread-cons I a some q pos c (d ∷ g) (omega arith))
-        ∙ summed (replicate q 0 ++ times F (spread q (d ∷ g)) a) c k
-        (shifted q (times F (spread q (d ∷ g)) a) (times-elements I (spread q (d ∷ g)) a))
+        ∙ getD-summed (replicate q 0 ++ times F (spread q (d ∷ g)) a) c k
+        (shifted-elements q (times F (spread q (d ∷ g)) a) (times-elements I (spread q (d ∷ g)) a))
         ∙ ap ((F .add) ((F .mul) c (u k))) first
       where
         low : k < q
@@ -106,8 +106,8 @@ module _ {F : Field} (I : IsField F) where
             ∙ getD-zeros q k
     times-convolved (c ∷ d ∷ g) q (suc b) k pos l m h =
         ap (λ v. getD v k 0) (times-spread-cons I a some q pos c (d ∷ g) (omega arith))
-        ∙ summed (replicate q 0 ++ times F (spread q (d ∷ g)) a) c k
-        (shifted q (times F (spread q (d ∷ g)) a) (times-elements I (spread q (d ∷ g)) a))
+        ∙ getD-summed (replicate q 0 ++ times F (spread q (d ∷ g)) a) c k
+        (shifted-elements q (times F (spread q (d ∷ g)) a) (times-elements I (spread q (d ∷ g)) a))
         ∙ ap ((F .add) ((F .mul) c (u k)))
         (later ∙ times-convolved (d ∷ g) q b (k - q) pos (omega arith) (omega (arith, mul-suc q b)) next)
       where

@@ -20,10 +20,10 @@ use lib.Seq.{ext-getD, getD-take, getD-drop, getD-append-add, length-take-le}
 use Rattle.meaning.specs.Field.{Field}
 use Rattle.meaning.specs.Polynomial.{degree, times}
 use Rattle.meaning.specs.Sequence.{Sequence, known}
-use Rattle.bridge.proofs.Interpretation.{IsField}
-use Rattle.bridge.proofs.Polynomials.{length-times}
-use Rattle.bridge.proofs.Spread.{spread, spread-nonempty, length-spread}
-use Rattle.bridge.proofs.Actions.{known-getD}
+use Rattle.bridge.proofs.Basics.Interpretation.{IsField}
+use Rattle.bridge.proofs.Lists.Polynomials.{length-times}
+use Rattle.bridge.proofs.Lists.Spread.{spread, spread-nonempty, length-spread}
+use Rattle.bridge.proofs.Sequences.Actions.{known-getD}
 use Rattle.poly.specs.convolution.Convolution.{convolved, convolvedWithin, Below}
 use Rattle.poly.proofs.convolution.Convolution.{convolved-local}
 use Rattle.poly.proofs.convolution.Between.{Between, between-paste}
@@ -79,8 +79,8 @@ module _ {F : Field} (I : IsField F) {f : List ℕ} {q : ℕ} {answer₀ : List 
       ∙ omega (arith, length-a, length-spread q (p .stride) f (p .someFactor))
 
   -- past the degree the polynomial has zeros
-  none : (j : ℕ) → n < j → known a j ≡ 0
-  none j l = known-getD a j ∙ List·getD-eq-default a 0 (omega (arith, length-a))
+  known-beyond : (j : ℕ) → n < j → known a j ≡ 0
+  known-beyond j l = known-getD a j ∙ List·getD-eq-default a 0 (omega (arith, length-a))
 
   pub multiplying-start : Multiplying F f q answer₀ n answer₀ (length f) (n + 1 + q * (length f - 1))
   multiplying-start =
@@ -146,15 +146,15 @@ module _ {F : Field} (I : IsField F) {f : List ℕ} {q : ℕ} {answer₀ : List 
     abbrev reaching : List ℕ
     reaching = take (c + 1 - (c - back)) (drop (c - back) f)
 
-    before : suc c ≡ b
-    before = omega arith
+    next-block : suc c ≡ b
+    next-block = omega arith
 
     -- c is as far back as there are coefficients, or so far that only zeros come before
     back-bound : back ≤ c
     back-bound = omega (arith, min-le-left c (n / q))
 
-    blocks : q * c ≡ q * (c - back) + q * back
-    blocks =
+    block-places : q * c ≡ q * (c - back) + q * back
+    block-places =
         let e : c ≡ c - back + back = omega (arith, back-bound) in
         ap (λ i. q * i) e ∙ mul-add q (c - back) back
 
@@ -181,7 +181,7 @@ module _ {F : Field} (I : IsField F) {f : List ℕ} {q : ℕ} {answer₀ : List 
         let e : length reaching - 1 ≡ back = omega (arith, reaching-length) in
         record {
           reach = omega (arith, ap (λ i. q * i) e);
-          order = omega (arith, blocks);
+          order = omega (arith, block-places);
           within = omega (arith, count-bound, m .whole, m .size, p .room);
         }
 
@@ -192,34 +192,34 @@ module _ {F : Field} (I : IsField F) {f : List ℕ} {q : ℕ} {answer₀ : List 
         let t : q * (n / q + 1) ≤ q * (c - i) = mul-le-mul-left q (omega (arith, z)) in
         let d : c ≡ i + (c - i) = omega arith in
         let e : q * c ≡ q * i + q * (c - i) = ap (λ x. q * x) d ∙ mul-add q i (c - i) in
-        none (j - q * i) (omega (arith, lt-mul-div-succ n (p .stride)))
+        known-beyond (j - q * i) (omega (arith, lt-mul-div-succ n (p .stride)))
 
     -- the product at a place of the block, before it is cut to the coefficients that are looked at
     module _ (j : ℕ) (h : q * c ≤ j) (g : j < k) where
       abbrev front : ℕ
       front = convolved F (take (suc c) f) q (known a) j
 
-      coefficient : getD product j 0 ≡ front
-      coefficient =
+      coefficient-front : getD product j 0 ≡ front
+      coefficient-front =
           times-convolved I a (omega (arith, length-a)) f q c j (p .stride) (omega (arith, m .bound)) h
-          (λ x. omega (arith, m .reached (omega arith), ap (λ i. q * i) before))
+          (λ x. omega (arith, m .reached (omega arith), ap (λ i. q * i) next-block))
 
-      looked : front ≡ convolved F reaching q (known answer) (q * back + (j - q * c))
-      looked =
-          let e : j - q * (c - back) ≡ q * back + (j - q * c) = omega (arith, blocks) in
+      coefficient-reached : front ≡ convolved F reaching q (known answer) (q * back + (j - q * c))
+      coefficient-reached =
+          let e : j - q * (c - back) ≡ q * back + (j - q * c) = omega (arith, block-places) in
           convolved-skip I (c - back) (take (suc c) f) q (known a) j (zeros-before j h)
           ∙ ap₂ (λ r i. convolved F r q (known a) i) (sym reaching-front) e
           ∙ convolved-local F reaching q (known a) (known answer) (q * back + (j - q * c))
           (λ i x.
-          known-getD a i ∙ sym (known-getD answer i ∙ m .lower i (omega (arith, blocks))))
+          known-getD a i ∙ sym (known-getD answer i ∙ m .lower i (omega (arith, block-places))))
 
       -- more than n places on there are zeros
-      vanishing : q * c + (n + 1) ≤ j → front ≡ 0
-      vanishing x =
+      coefficient-vanishing : q * c + (n + 1) ≤ j → front ≡ 0
+      coefficient-vanishing x =
           convolved-zero I (take (suc c) f) q (known a) j
           (λ i y.
           let z : q * i ≤ q * c = mul-le-mul-left q (omega (arith, length-take (suc c) f)) in
-          none (j - q * i) (omega arith))
+          known-beyond (j - q * i) (omega arith))
 
     pub multiplying-next : {answer′ : List ℕ}
         → answer′ ≡ convolvedWithin F reaching q answer (q * back) (q * c) count
@@ -233,7 +233,9 @@ module _ {F : Field} (I : IsField F) {f : List ℕ} {q : ℕ} {answer₀ : List 
           size = made .size ∙ m .size;
           lower = λ j x. made .before j x ∙ m .lower j (omega (arith, m .ahead l));
           upper = λ j x y. elim (decLt j (q * c + count)) [
-            | yes z ↦ made .inside j x z ∙ sym (coefficient j x (below j z) ∙ looked j x (below j z))
+            | yes z ↦
+                made .inside j x z
+                ∙ sym (coefficient-front j x (below j z) ∙ coefficient-reached j x (below j z))
             | no z ↦ made .after j (omega arith) ∙ elim (decLt j k) [
               | yes u ↦ zero-there j x u (omega arith)
               | no u ↦ m .upper j (omega arith) y
@@ -263,4 +265,4 @@ module _ {F : Field} (I : IsField F) {f : List ℕ} {q : ℕ} {answer₀ : List 
             let t : count ≡ n + 1 = min-second (k - q * c) (n + 1) ec (omega arith) in
             m .lower j u
             ∙ List·getD-eq-default a 0 (omega (arith, length-a))
-            ∙ sym (coefficient j x u ∙ vanishing j x u (omega arith))
+            ∙ sym (coefficient-front j x u ∙ coefficient-vanishing j x u (omega arith))

@@ -13,12 +13,12 @@ use native.Mathlib.Nat.{le-of-suc-le-suc}
 use native.Mathlib.Omega.{arith}
 use Rattle.meaning.specs.Field.{Field, areElements}
 use Rattle.meaning.specs.Polynomial.{plus, scale, times}
-use Rattle.bridge.proofs.Interpretation.{IsField, number-add-comm, number-zero-add, number-zero-mul}
-use Rattle.bridge.proofs.Interpretation.{size-positive}
-use Rattle.bridge.proofs.Polynomials.{elements-cons, elements-uncons, length-scale}
-use Rattle.bridge.proofs.Polynomials.{length-times}
-use Rattle.bridge.proofs.Polynomials.{scale-elements, times-elements}
-use Rattle.bridge.proofs.Spread.{gap, spread, spread-cons, spread-nil, gap-nil, spread-nonempty}
+use Rattle.bridge.proofs.Basics.Interpretation.{IsField, number-add-comm, number-zero-add, number-zero-mul}
+use Rattle.bridge.proofs.Basics.Interpretation.{size-positive}
+use Rattle.bridge.proofs.Lists.Polynomials.{elements-cons, elements-uncons, length-scale}
+use Rattle.bridge.proofs.Lists.Polynomials.{length-times}
+use Rattle.bridge.proofs.Lists.Polynomials.{scale-elements, times-elements}
+use Rattle.bridge.proofs.Lists.Spread.{gap, spread, spread-cons, spread-nil, gap-nil, spread-nonempty}
 
 gap-nonempty : (k b : ℕ) (g : List ℕ) → 0 < length (gap k (b ∷ g))
 unfolding gap

@@ -2,7 +2,7 @@
 --
 --   padded            == the bytes with these zeros
 --   growing-padded    == the product with f(x^q) can be made there
---   grown             == it is the product with the polynomial that was there, and all beyond is as it was
+--   padded-grown      == it is the product with the polynomial that was there, and all beyond is as it was
 --
 -- Assumes nothing.
 use Prim.Native.Nat.{ℕ, _+_, _*_, _-_, _≤_}
@@ -16,9 +16,9 @@ use borrow.Rule.Slice.PartMut.{putMid}
 use Rattle.meaning.specs.Field.{Field}
 use Rattle.meaning.specs.Polynomial.{degree, times}
 use Rattle.meaning.specs.Result.{written}
-use Rattle.bridge.proofs.Interpretation.{IsField}
-use Rattle.bridge.proofs.Spread.{spread, length-spread}
-use Rattle.bridge.proofs.Coefficients.{getD-zeros}
+use Rattle.bridge.proofs.Basics.Interpretation.{IsField}
+use Rattle.bridge.proofs.Lists.Spread.{spread, length-spread}
+use Rattle.bridge.proofs.Lists.Coefficients.{getD-zeros}
 use Rattle.arith.proofs.Slices.{length-part, getD-paste-inside, part-paste-before}
 use Rattle.lent.proofs.Parts.{put-paste}
 use Rattle.poly.specs.products.Product.{places, Padded, Growing, Multiplied}
@@ -46,8 +46,8 @@ module _ {f : List ℕ} {q : ℕ} {answer : List ℕ} {n : ℕ} (G : Growing f q
   zeros-length : length ys ≡ more
   zeros-length = ap length zeros ∙ length-replicate {A = ℕ} more 0
 
-  pasted : padded ≡ paste answer (n + 1) ys more
-  pasted = put-paste answer (n + 1) more ys zeros-length
+  padded-paste : padded ≡ paste answer (n + 1) ys more
+  padded-paste = put-paste answer (n + 1) more ys zeros-length
 
   pub growing-padded : Padded f q padded n
   growing-padded =
@@ -59,12 +59,12 @@ module _ {f : List ℕ} {q : ℕ} {answer : List ℕ} {n : ℕ} (G : Growing f q
             omega (
               arith,
               room,
-              ap length pasted ∙ length-paste answer (n + 1) ys more room (le-of-eq (sym zeros-length)),
+              ap length padded-paste ∙ length-paste answer (n + 1) ys more room (le-of-eq (sym zeros-length)),
             );
         zeros =
             λ k l h.
             let i : k ≡ n + 1 + (k - (n + 1)) = omega arith in
-            ap₂ (λ w j. getD w j 0) pasted i
+            ap₂ (λ w j. getD w j 0) padded-paste i
             ∙ getD-paste-inside answer (n + 1) ys more room (le-of-eq (sym zeros-length)) (k - (n + 1))
             (omega arith)
             ∙ ap (λ w. getD w (k - (n + 1)) 0) zeros
@@ -72,26 +72,26 @@ module _ {f : List ℕ} {q : ℕ} {answer : List ℕ} {n : ℕ} (G : Growing f q
       }
 
   -- the polynomial, and what comes after the zeros
-  front : take (n + 1) padded ≡ take (n + 1) answer
-  front =
-      ap (take (n + 1)) pasted
+  padded-front : take (n + 1) padded ≡ take (n + 1) answer
+  padded-front =
+      ap (take (n + 1)) padded-paste
       ∙ part-paste-before answer (n + 1) ys more room (le-of-eq (sym zeros-length)) 0 (n + 1) (omega arith)
 
-  beyond : drop (places f q n) padded ≡ drop (places f q n) answer
-  beyond =
-      ap (drop (n + 1 + more)) pasted
+  padded-beyond : drop (places f q n) padded ≡ drop (places f q n) answer
+  padded-beyond =
+      ap (drop (n + 1 + more)) padded-paste
       ∙ drop-paste answer (n + 1) ys more (omega (arith, room)) (le-of-eq (sym zeros-length))
 
-  pub grown : {F : Field} (I : IsField F) {answer′ : List ℕ}
+  pub padded-grown : {F : Field} (I : IsField F) {answer′ : List ℕ}
       → answer′ ≡ times F (spread q f) (take (n + 1) padded) ++ drop (places f q n) padded
       → Multiplied F (spread q f) answer n answer′ (n + 1 + q * (length f - 1) - 1)
   unfolding written degree
-  grown {F} I {answer′} d =
+  padded-grown {F} I {answer′} d =
       record {
         newDegree = omega (arith, length-spread q (G .stride) f (G .someFactor));
         bytes =
             d
-            ∙ ap₂ (λ a b. times F (spread q f) a ++ b) front beyond
+            ∙ ap₂ (λ a b. times F (spread q f) a ++ b) padded-front padded-beyond
             ∙ ap (λ k. product ++ drop k answer) (sym size);
       }
     where
@@ -99,4 +99,4 @@ module _ {f : List ℕ} {q : ℕ} {answer : List ℕ} {n : ℕ} (G : Growing f q
       product = times F (spread q f) (take (n + 1) answer)
 
       size : length product ≡ places f q n
-      size = ap (λ a. length (times F (spread q f) a)) (sym front) ∙ length-product I growing-padded
+      size = ap (λ a. length (times F (spread q f) a)) (sym padded-front) ∙ length-product I growing-padded

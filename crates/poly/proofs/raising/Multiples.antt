@@ -14,10 +14,10 @@ use native.Mathlib.Omega.{arith}
 use Rattle.meaning.specs.Field.{Field, areElements}
 use Rattle.meaning.specs.Polynomial.{times}
 use Rattle.meaning.specs.Result.{written}
-use Rattle.bridge.proofs.Interpretation.{IsField}
-use Rattle.bridge.proofs.Polynomials.{length-times, times-elements, degree-times, length-degree}
-use Rattle.bridge.proofs.Polynomials.{degree-length}
-use Rattle.bridge.proofs.Products.{times-assoc, one-times}
+use Rattle.bridge.proofs.Basics.Interpretation.{IsField}
+use Rattle.bridge.proofs.Lists.Polynomials.{length-times, times-elements, degree-times, length-degree}
+use Rattle.bridge.proofs.Lists.Polynomials.{degree-length}
+use Rattle.bridge.proofs.Lists.Products.{times-assoc, one-times}
 use Rattle.poly.specs.products.Product.{Multiplied}
 
 module _ {F : Field} (I : IsField F) (answer : List ℕ) (n : ℕ) (l : n < length answer) where
@@ -70,14 +70,14 @@ module _ {F : Field} (I : IsField F) (answer : List ℕ) (n : ℕ) (l : n < leng
         subst (λ u. T (areElements F u)) (sym start-product) (times-elements I g (take (n + 1) answer))
 
     module _ {h answer₂ : List ℕ} {n₂ : ℕ} (N : Multiplied F h answer₁ n₁ answer₂ n₂) (t : 0 < length h) where
-      both : times F h (take (n₁ + 1) answer₁) ≡ times F (times F h g) (take (n + 1) answer)
-      both =
+      product-both : times F h (take (n₁ + 1) answer₁) ≡ times F (times F h g) (take (n + 1) answer)
+      product-both =
           ap (times F h) start-product
           ∙ sym (times-assoc I h g (take (n + 1) answer) t s (omega (arith, length-start)))
 
       -- what lies beyond the first product is as it was
-      beyond : (k : ℕ) → n₁ + 1 ≤ k → drop k answer₁ ≡ drop k answer
-      beyond k b =
+      beyond-kept : (k : ℕ) → n₁ + 1 ≤ k → drop k answer₁ ≡ drop k answer
+      beyond-kept k b =
           ap (drop k) bytes-product
           ∙ ap (λ (i : ℕ). drop i (product ++ drop (n₁ + 1) answer)) past
           ∙ drop-append-add product (drop (n₁ + 1) answer) (k - (n₁ + 1))
@@ -90,11 +90,11 @@ module _ {F : Field} (I : IsField F) (answer : List ℕ) (n : ℕ) (l : n < leng
           whole : n₁ + 1 + (k - (n₁ + 1)) ≡ k
           whole = omega arith
 
-      longer : n₁ + 1 ≤ length (times F (times F h g) (take (n + 1) answer))
-      longer =
+      product-longer : n₁ + 1 ≤ length (times F (times F h g) (take (n + 1) answer))
+      product-longer =
           omega (
             arith,
-            ap length (sym both),
+            ap length (sym product-both),
             length-times I h (take (n₁ + 1) answer₁) t
                 (omega (arith, ap length start-product, length-product)),
             ap length start-product,
@@ -108,6 +108,6 @@ module _ {F : Field} (I : IsField F) (answer : List ℕ) (n : ℕ) (l : n < leng
             newDegree = omega (arith, M .newDegree, N .newDegree, degree-times I h g t s);
             bytes =
                 N .bytes
-                ∙ ap (λ z. z ++ drop (length z) answer₁) both
-                ∙ ap (λ d. times F (times F h g) (take (n + 1) answer) ++ d) (beyond _ longer);
+                ∙ ap (λ z. z ++ drop (length z) answer₁) product-both
+                ∙ ap (λ d. times F (times F h g) (take (n + 1) answer) ++ d) (beyond-kept _ product-longer);
           }

@@ -14,9 +14,9 @@ use native.Mathlib.Numerals.{add-one}
 use native.Mathlib.Omega.{arith}
 use Rattle.meaning.specs.Field.{Field, areElements}
 use Rattle.meaning.specs.Polynomial.{Polynomial, degree, power}
-use Rattle.bridge.proofs.Interpretation.{IsField}
-use Rattle.bridge.proofs.Products.{power-zero-list, power-suc-list, power-nonempty, degree-power}
-use Rattle.bridge.proofs.Spread.{spread, spread-nonempty, degree-spread}
+use Rattle.bridge.proofs.Basics.Interpretation.{IsField}
+use Rattle.bridge.proofs.Lists.Products.{power-zero-list, power-suc-list, power-nonempty, degree-power}
+use Rattle.bridge.proofs.Lists.Spread.{spread, spread-nonempty, degree-spread}
 use Rattle.poly.specs.products.Product.{Growing, Multiplied}
 use Rattle.poly.proofs.raising.Multiples.{multiplied-none, multiplied-then, multiplied-length}
 
@@ -25,34 +25,36 @@ module _ {F : Field} (I : IsField F) {f : List ℕ} {q count : ℕ} {answer : Li
   abbrev g : Polynomial
   g = spread q f
 
-  some : 0 < length g
-  some = spread-nonempty q (G .stride) f (G .someFactor)
+  factor-nonempty : 0 < length g
+  factor-nonempty = spread-nonempty q (G .stride) f (G .someFactor)
 
-  start : n < length answer
-  start = omega (arith, G .room)
+  degree-within : n < length answer
+  degree-within = omega (arith, G .room)
 
   pub repeat-none : T (areElements F (take (n + 1) answer)) → Multiplied F (power F g 0) answer n answer n
   repeat-none h =
       subst (λ u. Multiplied F u answer n answer n) (sym (power-zero-list F g))
-      (multiplied-none I answer n start h)
+      (multiplied-none I answer n degree-within h)
 
   module _ {k : ℕ} (l : k ≤ count) {answer₁ : List ℕ} {n₁ : ℕ}
       (M : Multiplied F (power F g k) answer n answer₁ n₁) where
-    step : k * (q * (length f - 1)) ≤ count * (q * (length f - 1))
-    step = mul-le-mul-right (q * (length f - 1)) l
+    degree-step : k * (q * (length f - 1)) ≤ count * (q * (length f - 1))
+    degree-step = mul-le-mul-right (q * (length f - 1)) l
 
     degree-now : n₁ ≡ n + k * (q * (length f - 1))
     unfolding degree
     degree-now =
         M .newDegree
         ∙ ap (λ (d : ℕ). n + d)
-        (degree-power I g k some ∙ ap (λ (d : ℕ). k * d) (degree-spread q (G .stride) f (G .someFactor)))
+        (degree-power I g k factor-nonempty
+        ∙ ap (λ (d : ℕ). k * d) (degree-spread q (G .stride) f (G .someFactor)))
 
-    within : n₁ < length answer
-    within = omega (arith, degree-now, step, G .room)
+    degree-within-now : n₁ < length answer
+    degree-within-now = omega (arith, degree-now, degree-step, G .room)
 
     pub repeat-length : length answer₁ ≡ length answer
-    repeat-length = multiplied-length I answer n start M (power-nonempty I g k some) within
+    repeat-length =
+        multiplied-length I answer n degree-within M (power-nonempty I g k factor-nonempty) degree-within-now
 
     pub repeat-all : count ≤ k → Multiplied F (power F g count) answer n answer₁ n₁
     repeat-all m =
@@ -76,4 +78,5 @@ module _ {F : Field} (I : IsField F) {f : List ℕ} {q count : ℕ} {answer : Li
     repeat-more {answer₂} {n₂} N =
         subst (λ u. Multiplied F u answer n answer₂ n₂)
         (sym (ap (power F g) (add-one k) ∙ power-suc-list F g k))
-        (multiplied-then I answer n start M (power-nonempty I g k some) within N some)
+        (multiplied-then I answer n degree-within M (power-nonempty I g k factor-nonempty) degree-within-now N
+        factor-nonempty)

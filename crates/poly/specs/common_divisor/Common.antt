@@ -15,7 +15,7 @@ use lib.ListN.{length, getD, take}
 use lib.Dec.{T}
 use Rattle.meaning.specs.Field.{Field, areElements}
 use Rattle.meaning.specs.Polynomial.{Polynomial, leading}
-use Rattle.bridge.proofs.IrreducibleTests.{CommonDegree}
+use Rattle.bridge.proofs.Lists.IrreducibleTests.{CommonDegree}
 use Rattle.arith.specs.Represented.{fieldOf, WellFormed}
 use Rattle.arith.specs.declared.field.GaloisField.{GaloisField}
 use Rattle.arith.proofs.Represented.{field-isField}

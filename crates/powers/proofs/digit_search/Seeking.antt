@@ -13,12 +13,12 @@ use native.Mathlib.Nat as ℕ
 use native.Mathlib.Omega.{arith}
 use lib.ListN.{take}
 use lib.Dec.{T}
-use Rattle.meaning.specs.Polynomial.{Polynomial, degree}
-use Rattle.bridge.proofs.KnownActions.{allZero, strideOnKnown, strideOnKnown-zeros}
-use Rattle.bridge.proofs.PowerSearch.{digitsFound, powerFound}
+use Rattle.meaning.specs.Polynomial.{Polynomial, degree, power}
+use Rattle.bridge.proofs.Sequences.KnownActions.{allZero, actOnKnown-zeros}
+use Rattle.bridge.proofs.Ways.PowerSearch.{digitsFound, powerFound, powerActs}
 use Rattle.arith.specs.declared.field.GaloisField.{GaloisField}
 use Rattle.arith.specs.Represented.{fieldOf, WellFormed}
-use Rattle.arith.proofs.Represented.{field-isField, size-least}
+use Rattle.arith.proofs.Represented.{field-isField, characteristic-least}
 use Rattle.lent.specs.halves.Halves.{half, Halves}
 use Rattle.lent.specs.halves.Kept.{Kept}
 use Rattle.lent.proofs.halves.Bytes.{half-cut, kept-same, kept-trans}
@@ -28,40 +28,45 @@ use Rattle.powers.proofs.digit_search.Trying.{resumed-level}
 use Rattle.powers.proofs.digit_search.Trying.{level-down, level-parts}
 
 abbrev pub stepOf : GaloisField → Polynomial → ℕ → List ℕ → List ℕ
-stepOf field f = strideOnKnown (fieldOf field) f
+stepOf field f = powerActs (fieldOf field) f
 
 abbrev pub sought : GaloisField → Polynomial → ℕ → List ℕ → ℕ
-sought field f e s = powerFound (stepOf field f) (field .size) (degree f) e s
+sought field f e s = powerFound (stepOf field f) (field .characteristic) (degree f) e s
+
+-- the digits below a level, and the power that is made of a number and of them
+abbrev pub digits : GaloisField → Polynomial → ℕ → List ℕ → ℕ
+digits field f l s = digitsFound (stepOf field f) (field .characteristic) (degree f) l s
+
+abbrev pub resuming : GaloisField → Polynomial → ℕ → ℕ → List ℕ → ℕ
+resuming field f r l s = resumed (stepOf field f) (field .characteristic) (degree f) r l s
 
 pub record Seeking (field : GaloisField) (f : Polynomial) (e top : ℕ) (s w₀ w : List ℕ) (at count l q r : ℕ)
     : Type 0 where
   pub halves : Halves w at count
-  pub isLevel : q ≡ field .size ^ l
-  pub result :
-      resumed (stepOf field f) (field .size) (degree f) r l (half w at count) ≡ sought field f e s
+  pub isLevel : q ≡ field .characteristic ^ l
+  pub result : resuming field f r l (half w at count) ≡ sought field f e s
   pub bound : r - 1 + q ≤ top
   pub kept : Kept w₀ w
 
 pub record Going (field : GaloisField) (f : Polynomial) (e top : ℕ) (s w₀ w : List ℕ) (at count l q r : ℕ)
     : Type 0 where
   pub halves : Halves w at count
-  pub isLevel : q ≡ field .size ^ l
+  pub isLevel : q ≡ field .characteristic ^ l
   pub positive : 0 < r
-  pub result :
-      r + digitsFound (stepOf field f) (field .size) (degree f) l (half w at count) ≡ sought field f e s
+  pub result : r + digits field f l (half w at count) ≡ sought field f e s
   pub bound : r - 1 + q ≤ top
   pub kept : Kept w₀ w
 
 pub seeking-start :
     (field : GaloisField) (f : Polynomial) {w : List ℕ} {h n : ℕ} (e top : ℕ)
     → Halves w h n
-    → top ≡ field .size ^ e
+    → top ≡ field .characteristic ^ e
     → Seeking field f e top (half w h n) w w h n e top 0
 seeking-start field f {w} {h} {n} e top x p =
     record {
       halves = x;
       isLevel = p;
-      result = resumed-start (stepOf field f) (field .size) (degree f) e (half w h n);
+      result = resumed-start (stepOf field f) (field .characteristic) (degree f) e (half w h n);
       bound = omega arith;
       kept = kept-same w;
     }
@@ -75,8 +80,8 @@ module _
         → T (allZero (half w at count))
         → r ≡ sought field f e s
     seeking-zero x h =
-        sym (resumed-zeros (stepOf field f) (field .size) (degree f)
-        (strideOnKnown-zeros (field-isField good) f) r l (half w at count) h)
+        sym (resumed-zeros (stepOf field f) (field .characteristic) (degree f)
+        (λ q. actOnKnown-zeros (field-isField good) (power (fieldOf field) f q)) r l (half w at count) h)
         ∙ x .result
 
     -- the power is at least 1 where something is left
@@ -91,8 +96,8 @@ module _
           isLevel = x .isLevel;
           positive = omega arith;
           result =
-              sym (resumed-first (stepOf field f) (field .size) (degree f) l (half w at count) h)
-              ∙ ap (λ n. resumed (stepOf field f) (field .size) (degree f) n l (half w at count)) (sym z)
+              sym (resumed-first (stepOf field f) (field .characteristic) (degree f) l (half w at count) h)
+              ∙ ap (λ n. resuming field f n l (half w at count)) (sym z)
               ∙ x .result;
           bound = omega (arith, x .bound);
           kept = x .kept;
@@ -109,7 +114,7 @@ module _
           isLevel = x .isLevel;
           positive = k;
           result =
-              sym (resumed-later (stepOf field f) (field .size) (degree f) r l (half w at count) k)
+              sym (resumed-later (stepOf field f) (field .characteristic) (degree f) r l (half w at count) k)
               ∙ x .result;
           bound = x .bound;
           kept = x .kept;
@@ -118,32 +123,37 @@ module _
     module _ (x : Going field f e top s w₀ w at count l q r) where
       pub going-end : l ≡ 0 → r ≡ sought field f e s
       going-end z =
-          sym (resumed-none (stepOf field f) (field .size) (degree f) r (half w at count))
-          ∙ ap (λ n. r + digitsFound (stepOf field f) (field .size) (degree f) n (half w at count)) (sym z)
+          sym (resumed-none (stepOf field f) (field .characteristic) (degree f) r (half w at count))
+          ∙ ap (λ n. r + digits field f n (half w at count)) (sym z)
           ∙ x .result
 
       -- the level below
       module _ (above : l ≡ 0 → ⊥) where
-        below : q / field .size ≡ field .size ^ (l - 1)
-        below = level-down (field .size) l q (omega (arith, size-least good)) above (x .isLevel)
+        pub going-level : q / field .characteristic ≡ field .characteristic ^ (l - 1)
+        going-level =
+            level-down (field .characteristic) l q (omega (arith, characteristic-least good)) above
+            (x .isLevel)
 
-        parts : (field .size - 1) * (q / field .size) + q / field .size ≡ q
-        parts = level-parts (field .size) l q (omega (arith, size-least good)) above (x .isLevel)
+        parts : (field .characteristic - 1) * (q / field .characteristic) + q / field .characteristic ≡ q
+        parts =
+            level-parts (field .characteristic) l q (omega (arith, characteristic-least good)) above
+            (x .isLevel)
 
-        pub going-near : top ≤ 4096 * field .size → q / field .size ≤ 4096
+        pub going-near : top ≤ 4096 * field .characteristic → q / field .characteristic ≤ 4096
         going-near h =
-            ℕ.div-le-of-le-mul (field .size) (omega (arith, x .bound, ℕ.mul-comm 4096 (field .size)))
+            ℕ.div-le-of-le-mul (field .characteristic)
+            (omega (arith, x .bound, ℕ.mul-comm 4096 (field .characteristic)))
 
         module _ {w′ : List ℕ} {at′ count′ i : ℕ} (halves : Halves w′ at′ count′) (kept : Kept w w′)
             (tried :
-            Tried (stepOf field f) (field .size - 1) (q / field .size) (half w at count) i
+            Tried (stepOf field f) (field .characteristic - 1) (q / field .characteristic) (half w at count) i
             (half w′ at′ count′)) where
-          pub going-fits : r + i * (q / field .size) + q / field .size ≤ r + q
-          going-fits = omega (arith, parts, ℕ.mul-le-mul-right (q / field .size) (tried-low tried))
+          pub going-fits : r + i * (q / field .characteristic) + q / field .characteristic ≤ r + q
+          going-fits = omega (arith, parts, ℕ.mul-le-mul-right (q / field .characteristic) (tried-low tried))
 
           pub going-next :
-              Seeking field f e top s w₀ w′ at′ (min count′ (q / field .size * degree f)) (l - 1)
-              (q / field .size) (r + i * (q / field .size))
+              Seeking field f e top s w₀ w′ at′ (min count′ (q / field .characteristic * degree f)) (l - 1)
+              (q / field .characteristic) (r + i * (q / field .characteristic))
           going-next =
               record {
                 halves =
@@ -152,11 +162,11 @@ module _
                       which = halves .which;
                       few = omega (arith, halves .few);
                     };
-                isLevel = below;
+                isLevel = going-level;
                 result =
                     ap
-                    (resumed (stepOf field f) (field .size) (degree f) (r + i * (q / field .size)) (l - 1))
-                    (half-cut w′ at′ count′ (q / field .size * degree f))
+                    (resuming field f (r + i * (q / field .characteristic)) (l - 1))
+                    (half-cut w′ at′ count′ (q / field .characteristic * degree f))
                     ∙ level
                     ∙ x .result;
                 bound = omega (arith, going-fits, x .bound, x .positive);
@@ -165,32 +175,34 @@ module _
             where
               at-level :
                   (k : ℕ)
-                  → k ≡ field .size ^ (l - 1)
-                  → Tried (stepOf field f) (field .size - 1) k (half w at count) i (half w′ at′ count′)
-                  → resumed (stepOf field f) (field .size) (degree f) (r + i * k) (l - 1)
+                  → k ≡ field .characteristic ^ (l - 1)
+                  → Tried (stepOf field f) (field .characteristic - 1) k (half w at count) i
+                  (half w′ at′ count′)
+                  → resuming field f (r + i * k) (l - 1)
                   (take (k * degree f) (half w′ at′ count′))
                   ≡ r
-                  + digitsFound (stepOf field f) (field .size) (degree f) (suc (l - 1)) (half w at count)
+                  + digits field f (suc (l - 1)) (half w at count)
               at-level k p t =
                   subst
                   (λ m.
-                  Tried (stepOf field f) (field .size - 1) m (half w at count) i (half w′ at′ count′)
-                  → resumed (stepOf field f) (field .size) (degree f) (r + i * m) (l - 1)
+                  Tried (stepOf field f) (field .characteristic - 1) m (half w at count) i
+                  (half w′ at′ count′)
+                  → resuming field f (r + i * m) (l - 1)
                   (take (m * degree f) (half w′ at′ count′))
                   ≡ r
-                  + digitsFound (stepOf field f) (field .size) (degree f) (suc (l - 1)) (half w at count))
+                  + digits field f (suc (l - 1)) (half w at count))
                   (sym p)
-                  (resumed-level (stepOf field f) (field .size) (degree f) r (l - 1) i (half w at count)
-                  (half w′ at′ count′) (x .positive))
+                  (resumed-level (stepOf field f) (field .characteristic) (degree f) r (l - 1) i
+                  (half w at count) (half w′ at′ count′) (x .positive))
                   t
 
               level :
-                  resumed (stepOf field f) (field .size) (degree f) (r + i * (q / field .size)) (l - 1)
-                  (take (q / field .size * degree f) (half w′ at′ count′))
-                  ≡ r + digitsFound (stepOf field f) (field .size) (degree f) l (half w at count)
+                  resuming field f (r + i * (q / field .characteristic)) (l - 1)
+                  (take (q / field .characteristic * degree f) (half w′ at′ count′))
+                  ≡ r + digits field f l (half w at count)
               level =
                   let b : suc (l - 1) ≡ l = omega (arith, above) in
-                  at-level (q / field .size) below tried
+                  at-level (q / field .characteristic) going-level tried
                   ∙ ap
-                  (λ m. r + digitsFound (stepOf field f) (field .size) (degree f) m (half w at count))
+                  (λ m. r + digits field f m (half w at count))
                   b

@@ -14,11 +14,12 @@ use native.Mathlib.Nat as ℕ
 use native.Mathlib.Omega.{arith}
 use lib.ListN.{take}
 use lib.Dec.{T}
-use Rattle.bridge.proofs.KnownActions.{allZero}
-use Rattle.bridge.proofs.PowerSearch.{digitFound, digitLeft, digitsFound, powerFound, digitFound-none}
-use Rattle.bridge.proofs.PowerSearch.{digitLeft-none, digitFound-stop, digitLeft-stop, digitFound-more}
-use Rattle.bridge.proofs.PowerSearch.{digitLeft-more, digitFound-below, digitsFound-zero, digitsFound-suc}
-use Rattle.bridge.proofs.PowerSearch.{digitsFound-zeros, powerFound-zeros, powerFound-digits}
+use Rattle.bridge.proofs.Sequences.KnownActions.{allZero}
+use Rattle.bridge.proofs.Ways.PowerSearch.{digitFound, digitLeft, digitsFound, powerFound, digitFound-none}
+use Rattle.bridge.proofs.Ways.PowerSearch.{digitLeft-none, digitFound-stop, digitLeft-stop, digitFound-more}
+use Rattle.bridge.proofs.Ways.PowerSearch.{digitLeft-more, digitFound-below, digitsFound-zero}
+use Rattle.bridge.proofs.Ways.PowerSearch.{digitsFound-suc, digitsFound-zeros, powerFound-zeros}
+use Rattle.bridge.proofs.Ways.PowerSearch.{powerFound-digits}
 
 pub record Trying (step : ℕ → List ℕ → List ℕ) (c q : ℕ) (s : List ℕ) (i : ℕ) (t : List ℕ) : Type 0 where
   pub low : i ≤ c

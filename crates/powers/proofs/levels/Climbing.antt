@@ -1,6 +1,6 @@
 -- Powers of p one after the other, up to a number or out of a number.
 --
---   size-base         == the size of a well-formed field is a base of levels
+--   field-base        == the characteristic of a well-formed field is a base of levels
 --   Climbing p r e q  == q is p^e, and the power before it is less than r
 --   Splitting p n e q m == n is q·m, q is p^e, and m is not 0
 --
@@ -9,14 +9,14 @@ use Prim.Native.Nat.{ℕ, suc, _+_, _*_, _^_, _/_, _%_, _≤_, _<_}
 use mathlib.Core.Path.{_≡_, sym, ap, subst, _∙_}
 use native.Mathlib.Nat as ℕ
 use native.Mathlib.Omega.{arith}
-use Rattle.bridge.proofs.Levels.{level-last, below-power, power-next}
+use Rattle.bridge.proofs.Basics.Levels.{level-last, below-power, power-next}
 use Rattle.arith.specs.declared.field.GaloisField.{GaloisField}
 use Rattle.arith.specs.Represented.{WellFormed}
-use Rattle.arith.proofs.Represented.{size-least, size-most}
+use Rattle.arith.proofs.Represented.{characteristic-least, characteristic-most}
 use Rattle.powers.specs.levels.Levels.{Base, Reaching, Dividing}
 
-pub size-base : {field : GaloisField} → WellFormed field → Base (field .size)
-size-base good = record { low = size-least good; high = size-most good }
+pub field-base : {field : GaloisField} → WellFormed field → Base (field .characteristic)
+field-base good = record { low = characteristic-least good; high = characteristic-most good }
 
 -- a product of two small numbers
 pub product-small : {p q : ℕ} → Base p → q ≤ 4096 → q * p ≤ 1028096

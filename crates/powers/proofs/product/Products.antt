@@ -19,12 +19,13 @@ use Rattle.meaning.specs.Field.{Field, areElements}
 use Rattle.meaning.specs.Polynomial.{Polynomial, degree, isMonicOver, times, power, product}
 use Rattle.meaning.specs.Result.{written}
 use Rattle.meaning.specs.Conditions.{named, totalDegree}
-use Rattle.bridge.proofs.Interpretation.{IsField}
-use Rattle.bridge.proofs.Polynomials.{monic-nonempty, monic-elements, degree-length}
-use Rattle.bridge.proofs.Products.{factorAt, powerAt, Nonempties, length-named, factorAt-named, powerAt-named}
-use Rattle.bridge.proofs.Products.{product-nil, product-nonempty, product-elements, product-append}
-use Rattle.bridge.proofs.Products.{product-single, degree-product, degree-power, power-nonempty, times-comm}
-use Rattle.bridge.proofs.Portions.{take-nonempties, single-nonempties}
+use Rattle.bridge.proofs.Basics.Interpretation.{IsField}
+use Rattle.bridge.proofs.Lists.Polynomials.{monic-nonempty, monic-elements, degree-length}
+use Rattle.bridge.proofs.Lists.Products.{factorAt, powerAt, Nonempties, length-named, factorAt-named}
+use Rattle.bridge.proofs.Lists.Products.{product-nil, product-nonempty, product-elements, product-append}
+use Rattle.bridge.proofs.Lists.Products.{powerAt-named, product-single, degree-product, degree-power}
+use Rattle.bridge.proofs.Lists.Products.{power-nonempty, times-comm}
+use Rattle.bridge.proofs.Ways.Portions.{take-nonempties, single-nonempties}
 use Rattle.poly.specs.products.Product.{Multiplied}
 use Rattle.poly.specs.raising.Raising.{Raising}
 use Rattle.powers.specs.product.Writing.{ProductInput, ProductWritten, PowerInput, PowerWritten}
@@ -143,21 +144,23 @@ module _ {F : Field} (I : IsField F) {fs : List Polynomial} {rs : List ℕ} (x :
           ap (λ r. r * degree (factorAt (named fs rs) i)) (powerAt-named fs rs i k)
           ∙ ap (λ f. getD rs i 0 * degree f) (factorAt-named fs rs i)
 
-      room : n + getD rs i 0 * degree (getD fs i []) ≤ 4096
-      room = omega (arith, y .degreeIs, total-part (named fs rs) i place, x .small, part)
+      degree-next-small : n + getD rs i 0 * degree (getD fs i []) ≤ 4096
+      degree-next-small = omega (arith, y .degreeIs, total-part (named fs rs) i place, x .small, part)
 
       size : 4097 ≤ length a₀ → length a ≡ length a₀
       size enough =
           ap length (y .bytes)
-          ∙ length-written (firsts F fs rs i) a₀ (omega (arith, firsts-length i, y .degreeIs, room, enough))
+          ∙ length-written (firsts F fs rs i) a₀
+          (omega (arith, firsts-length i, y .degreeIs, degree-next-small, enough))
 
       pub multiplying-raising : 4097 ≤ length a₀ → Raising F (getD fs i []) (getD rs i 0) a n
       unfolding degree
       multiplying-raising enough =
           record {
             positive = omega (arith, x .positive i k);
-            small = room;
-            room = omega (arith, room, size enough);
+            short = x .short i k;
+            small = degree-next-small;
+            room = omega (arith, degree-next-small, size enough);
             factor = monic-elements F (getD fs i []) (x .monic i k);
             coefficients =
                 subst (λ g. T (areElements F g)) (sym front) (product-elements I (take i (named fs rs)));
@@ -207,6 +210,7 @@ one-input {F} {f} {r} x =
     record {
       monic = monic;
       positive = positive;
+      short = short;
       enough = omega arith;
       small = omega (arith, one-total f r, x .small);
     }
@@ -218,6 +222,10 @@ one-input {F} {f} {r} x =
     positive : (i : ℕ) → i < 1 → 1 ≤ degree (getD (f ∷ []) i [])
     positive zero k = x .positive
     positive (suc i) k = absurd (omega arith)
+
+    short : (i : ℕ) → i < 1 → length (getD (f ∷ []) i []) ≤ 33
+    short zero k = x .short
+    short (suc i) k = absurd (omega arith)
 
 pub one-written :
     {F : Field} (I : IsField F) {f : Polynomial} {r : ℕ} {a a′ : List ℕ} {n : ℕ}

@@ -11,7 +11,7 @@ use native.Mathlib.Omega.{arith}
 use lib.ListN.{length, take}
 use Rattle.meaning.specs.Polynomial.{Polynomial, degree}
 use Rattle.meaning.specs.Conditions.{totalDegree}
-use Rattle.bridge.proofs.Products.{factorAt, powerAt}
+use Rattle.bridge.proofs.Lists.Products.{factorAt, powerAt}
 
 pub total-take :
     (l : List (Polynomial × ℕ)) (j : ℕ)

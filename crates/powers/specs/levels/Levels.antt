@@ -8,7 +8,7 @@
 use Prim.Native.Nat.{ℕ, _*_, _^_, _%_, _≤_}
 use mathlib.Core.Path.{_≡_}
 use mathlib.Core.Logic.{_≢_}
-use Rattle.bridge.proofs.Levels.{Level as Least}
+use Rattle.bridge.proofs.Basics.Levels.{Level as Least}
 use Rattle.powers.specs.declared.levels.Level.{Level}
 
 pub record Base (p : ℕ) : Type 0 where

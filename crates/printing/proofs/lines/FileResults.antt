@@ -19,8 +19,8 @@ use Rattle.meaning.specs.Calls.{FileCall}
 use Rattle.meaning.specs.Print.{report, printed}
 use Rattle.meaning.proofs.Determined.{file-determined}
 use Rattle.meaning.specs.Program.{ratedResult, linesOf}
-use Rattle.bridge.proofs.Searches.{never-answered}
-use Rattle.bridge.proofs.FileRatings.{file-size}
+use Rattle.bridge.proofs.Basics.Searches.{never-answered}
+use Rattle.bridge.proofs.Files.FileRatings.{file-size}
 
 told-refused :
     (o : FileOutcome) (rs answer : List ℕ) {n : ℕ}

@@ -1,22 +1,22 @@
 -- The factors of a file place by place, by the bodies of its records: looking through them, a number of each,
 -- and their coefficients stored one factor after another.
 -- Assumes nothing.
-use Prim.Native.Nat.{ℕ, suc, _+_, _<_}
+use Prim.Native.Nat.{ℕ, _+_, _≤_, _<_}
 use native.Mathlib.Numerals.{add-one}
 use native.Mathlib.Omega.{arith}
 use mathlib.Core.Path.{_≡_, refl, sym, ap, _∙_}
 use mathlib.Core.Bool.{Bool, true, false}
-use mathlib.Core.List.{List, [], _∷_, _++_, map, flatten, map-map}
-use lib.ListN.{length, getD, take, drop, set, length-append, length-map, drop-of-length-le}
-use lib.ListN.{List·getD-map}
-use lib.Seq.{take-all, take-suc, take-suc-set, drop-cons, sets}
+use mathlib.Core.List.{List, [], _∷_, _++_, map, flatten}
+use lib.ListN.{length, getD, take, drop, set, length-append, length-take, length-map, List·getD-map}
+use lib.Seq.{take-all, take-suc, take-suc-set, take-at, length-sets, sets-eq}
 use Rattle.meaning.specs.Search.{holdsForSome}
 use Rattle.meaning.specs.Polynomial.{Polynomial}
 use Rattle.meaning.specs.File.{WrittenFactor, fileFactor, polynomialOf}
-use Rattle.bridge.proofs.Monics.{getD-mapped}
+use Rattle.bridge.proofs.Lists.Monics.{getD-mapped}
 use Rattle.route.specs.payload.Payload.{LaidFactor}
-use Rattle.route.proofs.payload.Stores.{sets-append}
-use Rattle.rate_file.specs.factors.Written.{bodiesIn, factorsIn, polynomialsIn, noFactor, Packed}
+use Rattle.poly.proofs.parts.Packing.{Packing, packing-room, packing-next}
+use Rattle.route.proofs.payload.Stores.{sets-front}
+use Rattle.rate_file.specs.factors.Written.{bodiesIn, factorsIn, polynomialsIn, noFactor}
 
 some-map : {A B : Type 0} (t : B → Bool) (g : A → B) (l : List A)
     → holdsForSome t (map g l) ≡ holdsForSome (λ a. t (g a)) l
@@ -67,7 +67,7 @@ numbers-all file g i n ns same all e =
     ∙ e
     ∙ take-all i (map g (factorsIn file)) (rw length-map (omega arith))
 
--- the polynomials from i on: that of factor i, and then the others
+-- the polynomial of factor i
 module _ (file : List ℕ) (i : ℕ) (body : List ℕ) (b : body ≡ getD (bodiesIn file) i [])
     (inside : i < length (factorsIn file)) where
   pub polynomial-at : (d : Polynomial) → getD (polynomialsIn file) i d ≡ polynomialOf (fileFactor body)
@@ -75,44 +75,43 @@ module _ (file : List ℕ) (i : ℕ) (body : List ℕ) (b : body ≡ getD (bodie
       getD-mapped polynomialOf (factorsIn file) i noFactor d inside
       ∙ ap polynomialOf (factor-body file i body b)
 
-  polynomials-cons : drop i (polynomialsIn file)
-      ≡ polynomialOf (fileFactor body) ∷ drop (i + 1) (polynomialsIn file)
-  polynomials-cons =
-      rw add-one
-      (drop-cons (polynomialsIn file) i [] (rw length-map inside)
-      ∙ ap (λ (g : Polynomial). g ∷ drop (suc i) (polynomialsIn file)) (polynomial-at []))
+  pub factor-place :
+      {to w ns : List ℕ} {at : ℕ}
+      → length (flatten (polynomialsIn file)) ≤ length to
+      → Packing (polynomialsIn file) to i at ns w
+      → at ≤ length w
+  factor-place fits x = omega (arith, packing-room x (rw length-map inside) fits)
 
-  flatten-split : flatten (drop i (polynomialsIn file))
-      ≡ polynomialOf (fileFactor body) ++ flatten (drop (i + 1) (polynomialsIn file))
-  unfolding flatten
-  flatten-split = ap flatten polynomials-cons
+  -- and its coefficients, stored after those of the factors before it
+  module _ {to w w′ ns : List ℕ} {at n : ℕ} (fits : length (flatten (polynomialsIn file)) ≤ length to)
+      (x : Packing (polynomialsIn file) to i at ns w) (l : LaidFactor body at w n w′) where
+    within : i < length (polynomialsIn file)
+    within = rw length-map inside
 
-  -- its coefficients, stored at `at`, and then those of the others
-  pub pack-next : {to to′ : List ℕ} {at n : ℕ} → LaidFactor body at to n to′
-      → sets to at (flatten (drop i (polynomialsIn file)))
-      ≡ sets to′ (at + n) (flatten (drop (i + 1) (polynomialsIn file)))
-  pack-next {to} {to′} {at} {n} l =
-      rw (l .bytes, l .count)
-      (ap (sets to at) flatten-split ∙ sets-append to (polynomialOf (fileFactor body)) _ at)
+    laid-length : n ≡ length (getD (polynomialsIn file) i [])
+    laid-length = l .count ∙ ap length (sym (polynomial-at []))
 
-  pub pack-count : {n : ℕ} → n ≡ length (polynomialOf (fileFactor body))
-      → length (flatten (drop i (polynomialsIn file)))
-      ≡ n + length (flatten (drop (i + 1) (polynomialsIn file)))
-  pack-count e = rw e (ap length flatten-split ∙ length-append (polynomialOf (fileFactor body)) _)
+    pub factor-room : at + n ≤ length w
+    factor-room = omega (arith, laid-length, packing-room x within fits)
 
--- no factor is left, and the numbers are the lengths of all polynomials
-pub pack-over : (file : List ℕ) {to ns to₀ : List ℕ} (at i : ℕ) {n : ℕ} → i ≡ n → n ≡ length (factorsIn file)
-    → take i ns ≡ take i (map (λ f. length (polynomialOf f)) (factorsIn file))
-    → sets to at (flatten (drop i (polynomialsIn file))) ≡ sets to₀ 0 (flatten (polynomialsIn file))
-    → Packed (polynomialsIn file) n to₀ ns to
-unfolding flatten
-pack-over file {to} {ns} at i {n} same all e h =
-    record {
-      lengths =
-          numbers-all file (λ f. length (polynomialOf f)) i n ns same all e
-          ∙ sym (map-map length polynomialOf (factorsIn file));
-      bytes =
-          ap (λ (l : List Polynomial). sets to at (flatten l))
-          (sym (drop-of-length-le (polynomialsIn file) {i = i} (rw length-map (omega arith))))
-          ∙ h;
-    }
+    pub factor-packed :
+        length (factorsIn file) ≤ 8
+        → Packing (polynomialsIn file) to (i + 1) (at + n) (set ns i n) w′
+    factor-packed few =
+        let g = polynomialOf (fileFactor body) in
+        let room : at + length g ≤ length w = omega (arith, l .count, factor-room) in
+        packing-next x within (rw length-map (omega arith)) laid-length
+        (ap length (l .bytes) ∙ length-sets w at g)
+        (ap (take (at + n)) (l .bytes ∙ sets-eq g w at room)
+        ∙ take-at (take at w ++ g) (drop (at + length g) w) (at + n)
+        (omega (arith, length-append (take at w) g, length-take at w, l .count))
+        ∙ ap (λ h. take at w ++ h) (sym (polynomial-at [])))
+
+-- one factor, stored from the front on
+pub front-factor : {body to to′ part : List ℕ} {n : ℕ} → LaidFactor body 0 to n to′
+    → length (polynomialOf (fileFactor body)) ≤ length to
+    → part ≡ take n (drop 0 to′)
+    → part ≡ polynomialOf (fileFactor body)
+front-factor {body} {to} l fits h =
+    let g = polynomialOf (fileFactor body) in
+    h ∙ rw (l .count, l .bytes) (sets-front to g ∙ take-all (length to) g fits)

@@ -1,32 +1,16 @@
--- The factors of an accepted file have all of their coefficients, and their polynomials fit in 33 bytes each.
+-- The factors of an accepted file have all of their coefficients.
 -- Assumes nothing.
-use Prim.Native.Nat.{ℕ, suc, _*_, _-_, _≤_, _<_}
+use Prim.Native.Nat.{ℕ, suc, _-_, _<_}
 use native.Mathlib.Omega.{arith}
 use mathlib.Core.Path.{_≡_, refl, ap, _∙_}
-use mathlib.Core.Bool.{false}
-use mathlib.Core.List.{List, [], _∷_, map, flatten}
-use lib.ListN.{length, getD, length-append, length-drop}
-use Rattle.meaning.specs.Search.{holdsForSome}
-use Rattle.meaning.specs.Field.{Field}
+use mathlib.Core.List.{List, [], _∷_}
+use lib.ListN.{length, getD, length-drop}
 use Rattle.meaning.specs.Route.{lookUp, bodyLengths}
-use Rattle.meaning.specs.File.{WrittenFactor, fileFactor, polynomialOf, fileDegreeOutOfRange}
-use Rattle.bridge.proofs.Searches.{none-uncons}
-use Rattle.bridge.proofs.WrittenFactors.{AllFull, polynomial-short}
+use Rattle.meaning.specs.File.{WrittenFactor, fileFactor}
+use Rattle.bridge.proofs.Files.WrittenFactors.{AllFull}
 use Rattle.route.specs.framing.Framing.{orElse, bodyLength}
 use Rattle.rate_file.specs.factors.Written.{bodiesIn, factorsIn, noFactor}
 use Rattle.rate_file.proofs.factors.Places.{factors-count, factor-body}
-
-pub polynomials-fit : (F : Field) (fs : List WrittenFactor) → AllFull fs
-    → holdsForSome (fileDegreeOutOfRange F) fs ≡ false
-    → length (flatten (map polynomialOf fs)) ≤ 33 * length fs
-unfolding flatten
-polynomials-fit F [] w h = omega arith
-polynomials-fit F (f ∷ fs) w h =
-    let (e, k) = none-uncons (fileDegreeOutOfRange F) f fs h in
-    let n = length-append (polynomialOf f) (flatten (map polynomialOf fs)) in
-    let s = polynomial-short F f (w .0) e in
-    let m = polynomials-fit F fs (w .1) k in
-    omega arith
 
 -- factors that are full at each place
 all-places : (fs : List WrittenFactor)

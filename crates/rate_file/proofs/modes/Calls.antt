@@ -9,20 +9,19 @@ use Rattle.meaning.specs.declared.PowerRating.{PowerRating}
 use Rattle.meaning.specs.declared.FreeRating.{FreeRating}
 use Rattle.meaning.specs.declared.SetRating.{SetRating}
 use Rattle.meaning.specs.declared.FileRating.{FileRating}
-use Rattle.meaning.specs.Polynomial.{Polynomial}
-use Rattle.meaning.specs.Result.{Result, refused, answered, mapResult, Rated, figuresOf}
-use Rattle.meaning.specs.Result.{answerAfter, clears, workAfter}
+use Rattle.meaning.specs.Result.{Result, refused, answered, mapResult, Rated, figuresOf, answerAfter, clears}
+use Rattle.meaning.specs.Result.{workAfter}
 use Rattle.meaning.specs.Power.{PowerFigures}
-use Rattle.meaning.specs.Portion.{SetFigures, rateSet}
-use Rattle.meaning.specs.Period.{ratePeriod}
+use Rattle.meaning.specs.Portion.{SetFigures}
 use Rattle.meaning.specs.Free.{FreeFigures, rateFree}
 use Rattle.meaning.specs.File.{FileFigures, powers, fileAnswer, ofPeriod, ofSet, ofFree}
-use Rattle.meaning.specs.Answers.{toldPower, toldFree, setFiguresTold, setPadded, withPowers}
-use Rattle.meaning.specs.Answers.{labelTold, fileFiguresTold, labelPowers, filePadded}
-use Rattle.meaning.specs.Calls.{LentAfter, PeriodCall, SetCall, FreeCall}
+use Rattle.meaning.specs.Answers.{toldPower, toldFree, setFiguresTold, setPadded, withPowers, labelTold}
+use Rattle.meaning.specs.Answers.{fileFiguresTold, labelPowers, filePadded}
+use Rattle.meaning.specs.Calls.{LentAfter, FreeCall}
 use Rattle.refusals.proofs.Lent.{lent-refused}
-use Rattle.rate_file.specs.outcomes.Outcomes.{powerFigures, freeFigures, Tells, TellsSet}
-use Rattle.rate_file.specs.outcomes.Outcomes.{RatedFile}
+use Rattle.rate_period.specs.Ratings.{RatedAs}
+use Rattle.rate_set.specs.Ratings.{SetRatedAs}
+use Rattle.rate_file.specs.outcomes.Outcomes.{powerFigures, freeFigures, Tells, TellsSet, RatedFile}
 
 -- the lent bytes are left alike where refusals and polynomials are the same
 module _ {answer work answer′ work′ : List ℕ} where
@@ -70,14 +69,12 @@ unfolding ofSet fileAnswer figuresOf mapResult setPadded filePadded labelPowers
 padded-set m (refused n) = refl
 padded-set m (answered a) = refl
 
-pub period-rated : {sender : ℕ} {answer work : List ℕ} {r : FileRating} {answer′ work′ : List ℕ} {p : ℕ}
-    {f ts : List ℕ} {q : PowerRating}
-    → PeriodCall p f ts answer work q answer′ work′
+pub period-rated : {sender : ℕ} {result : Result (Rated PowerFigures)} {answer work : List ℕ} {r : FileRating}
+    {answer′ work′ : List ℕ} {q : PowerRating}
+    → RatedAs result answer work q answer′ work′
     → Tells sender (mapResult powerFigures (toldPower q)) r
-    → RatedFile sender (ofPeriod (ratePeriod p f ts (length answer) (length work))) answer work r answer′
-    work′
-period-rated {answer = answer} {work} {p = p} {f} {ts} h t =
-    let x = ratePeriod p f ts (length answer) (length work) in
+    → RatedFile sender (ofPeriod result) answer work r answer′ work′
+period-rated {result = x} h t =
     record { tells = rw (figures-period x, ← h .rating) t; lent = lent-period x (h .lent) }
 
 module _ (m : ℕ) {sender : ℕ} {answer work : List ℕ} {r : FileRating} {answer′ work′ : List ℕ} where
@@ -90,13 +87,11 @@ module _ (m : ℕ) {sender : ℕ} {answer work : List ℕ} {r : FileRating} {ans
       let x = rateFree p ts (length answer) (length work) in
       record { tells = rw (figures-free m x, ← h .rating) t; lent = lent-free m x (h .lent) }
 
-  pub set-rated : {p : ℕ} {fs : List Polynomial} {us ts : List ℕ} {s : SetRating}
-      → SetCall p fs us ts answer work s answer′ work′
+  pub set-rated : {result : Result (Rated SetFigures)} {s : SetRating}
+      → SetRatedAs result answer work s answer′ work′
       → TellsSet sender m s r
-      → RatedFile sender (ofSet m (rateSet p fs us ts (length answer) (length work))) answer work r answer′
-      work′
-  set-rated {p} {fs} {us} {ts} h t =
-      let x = rateSet p fs us ts (length answer) (length work) in
+      → RatedFile sender (ofSet m result) answer work r answer′ work′
+  set-rated {result = x} h t =
       record {
         tells =
             record {
@@ -109,15 +104,6 @@ module _ (m : ℕ) {sender : ℕ} {answer work : List ℕ} {r : FileRating} {ans
             };
         lent = lent-set m x (h .lent);
       }
-
--- the set way on the same factors and upper powers
-pub set-same : {p : ℕ} {fs gs : List Polynomial} {us vs ts answer work : List ℕ} {s : SetRating}
-    {answer′ work′ : List ℕ}
-    → fs ≡ gs
-    → us ≡ vs
-    → SetCall p fs us ts answer work s answer′ work′
-    → SetCall p gs vs ts answer work s answer′ work′
-set-same e f h = rw (← e, ← f) h
 
 -- the same result in other words
 pub rated-as : {sender : ℕ} {x y : Result (Rated FileFigures)} {answer work : List ℕ} {r : FileRating}

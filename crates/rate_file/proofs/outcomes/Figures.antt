@@ -16,8 +16,8 @@ use Rattle.meaning.specs.declared.FileOutcome.{FileOutcome}
 use Rattle.meaning.specs.declared.FileRating.{FileRating}
 use Rattle.meaning.specs.Result.{refused, answered, mapResult}
 use Rattle.meaning.specs.File.{FileFigures, freeLabel}
-use Rattle.meaning.specs.Answers.{numberOf, toldPower, toldFree, toldSet}
-use Rattle.meaning.specs.Answers.{toldFile, labelTold, fileFiguresTold, padded, labelPowers, filePadded}
+use Rattle.meaning.specs.Answers.{numberOf, toldPower, toldFree, toldSet, toldFile, labelTold}
+use Rattle.meaning.specs.Answers.{fileFiguresTold, padded, labelPowers, filePadded}
 use Rattle.rate_file.specs.outcomes.Outcomes.{powerFigures, freeFigures, Tells, TellsSet}
 
 -- the powers, in eight places

@@ -3,9 +3,10 @@
 --
 --   mode-terms       == the terms are refused, in any mode
 --   period-factors, set-factors == the terms are accepted and the factors refused
---   period-way, set-way == both are accepted
+--   period-way, set-way == both are accepted: the answer of the way past 11
+--   period-checked, set-checked == so its polynomials are what the ways past 11 ask
 -- Assumes nothing.
-use Prim.Native.Nat.{ℕ, _≤_}
+use Prim.Native.Nat.{ℕ, _≤_, _<_}
 use native.Mathlib.Omega.{arith}
 use mathlib.Core.Path.{_≡_, refl, sym, ap, _∙_}
 use mathlib.Core.Bool.{Bool, false, not}
@@ -17,24 +18,28 @@ use Rattle.meaning.specs.Search.{holdsForSome, isNone}
 use Rattle.meaning.specs.Field.{prime}
 use Rattle.meaning.specs.Polynomial.{Polynomial, product}
 use Rattle.meaning.specs.Sequence.{annihilatesKnown}
-use Rattle.meaning.specs.Conditions.{totalDegree, factorCountOutOfRange, isReducible, twoEqual}
-use Rattle.meaning.specs.Conditions.{upperPowersOutOfRange, fewerTermsThan, lentTooShort}
+use Rattle.meaning.specs.Conditions.{named, totalDegree, factorCountOutOfRange, factorDegreeOutOfRange}
+use Rattle.meaning.specs.Conditions.{notMonic, isReducible, twoEqual, upperPowersOutOfRange, fewerTermsThan}
+use Rattle.meaning.specs.Conditions.{lentTooShort}
 use Rattle.meaning.specs.Result.{refused, Check, firstOf}
-use Rattle.meaning.specs.Period.{periodTable, periodPower, periodAnswer, ratePeriod}
-use Rattle.meaning.specs.Portion.{factorsOf, setTable, setAnswer, rateSet}
+use Rattle.meaning.specs.Period.{periodTable, periodPower, periodAnswer}
+use Rattle.meaning.specs.Portion.{factorsOf, setTable, setAnswer}
 use Rattle.meaning.specs.Free.{freeTable, rateFree}
 use Rattle.meaning.specs.Route.{Mode, periodMode, setMode, freeMode}
 use Rattle.meaning.specs.File.{WrittenFactor, polynomialOf, fileDegreeOutOfRange, fileCoefficientOutOfRange}
 use Rattle.meaning.specs.File.{ofPeriod, ofSet, ofFree, rateMode}
 use Rattle.meaning.specs.Answers.{numberOf}
 use Rattle.meaning.proofs.Passes.{Passes}
-use Rattle.bridge.proofs.Accepted.{prime-accepted}
-use Rattle.bridge.proofs.Interpretation.{IsField, inRange-isField}
-use Rattle.bridge.proofs.WrittenFactors.{AllFull, period-lists, set-lists}
+use Rattle.bridge.proofs.Ways.Accepted.{prime-accepted}
+use Rattle.bridge.proofs.Basics.Interpretation.{IsField, inRange-isField}
+use Rattle.bridge.proofs.Basics.Searches.{none-at}
+use Rattle.bridge.proofs.Files.WrittenFactors.{AllFull, named-map, polynomials-ten, polynomials-eleven}
 use Rattle.refusals.specs.declared.Verdict.{Verdict}
 use Rattle.refusals.specs.Verdicts.{numberIn, termsTable}
 use Rattle.refusals.proofs.Order.{first-skip, refused-before, refused-second}
 use Rattle.refusals.proofs.Settled.{settle-refused, verdict-passes}
+use Rattle.rate_period.specs.Ratings as period
+use Rattle.rate_set.specs.Ratings as set
 use Rattle.rate_file.specs.factors.Written.{writtenTable}
 
 count-passes : (n : ℕ) → 1 ≤ n → n ≤ 8 → factorCountOutOfRange n ≡ false
@@ -107,10 +112,12 @@ module _ (p : ℕ) (fs : List WrittenFactor) (ts : List ℕ) (answer work : ℕ)
     mode-terms freeMode q = ap (ofFree (length ts)) (settle-refused _ _ (early _ _ free-parts q) refl)
 
     module _ (accepted : u ≡ Verdict.Accepted) where
-      fieldExists : IsField (prime p)
+      terms : Passes (termsTable p ts)
+      terms = verdict-passes (termsTable p ts) eu accepted
+
+      I : IsField (prime p)
       unfolding termsTable
-      fieldExists =
-          inRange-isField p (prime-accepted p (verdict-passes (termsTable p ts) eu accepted .fieldExists))
+      I = inRange-isField p (prime-accepted p (terms .fieldExists))
 
       -- the terms are accepted, and v is the verdict on the factors
       module _ {v : Verdict} (ev : numberIn v ≡ firstOf (writtenTable p fs)) where
@@ -136,24 +143,55 @@ module _ (p : ℕ) (fs : List WrittenFactor) (ts : List ℕ) (answer work : ℕ)
             refl)
 
         -- the factors are accepted too
-        module _ (q : v ≡ Verdict.Accepted) (full : AllFull fs) where
+        module _ (q : v ≡ Verdict.Accepted) where
           passes : Passes (writtenTable p fs)
           passes = verdict-passes (writtenTable p fs) ev q
 
-          pub period-way : 1 ≤ length fs
-              → rateMode periodMode p fs ts answer work
-              ≡ ofPeriod (ratePeriod p first ts answer work)
+          pub period-way : rateMode periodMode p fs ts answer work
+              ≡ ofPeriod (periodAnswer p false false first ts answer work)
           unfolding rateMode writtenTable
-          period-way low =
-              ap ofPeriod
-              (period-lists p fs full fieldExists (passes .degreesInRange) (passes .coefficientsInRange) ts
-              answer work low)
+          period-way = rw (passes .degreesInRange, passes .coefficientsInRange)
 
-          pub set-way :
-              rateMode setMode p fs ts answer work
-              ≡ ofSet (length ts) (rateSet p (map polynomialOf fs) (map (λ f. f .upper) fs) ts answer work)
+          pub set-way : rateMode setMode p fs ts answer work
+              ≡ ofSet (length ts)
+              (setAnswer p false false (named (map polynomialOf fs) (map (λ f. f .upper) fs)) ts answer work)
           unfolding rateMode writtenTable
-          set-way =
-              ap (ofSet (length ts))
-              (set-lists p fs full fieldExists (passes .degreesInRange) (passes .coefficientsInRange) ts
-              answer work)
+          set-way = rw (passes .degreesInRange, passes .coefficientsInRange, named-map)
+
+          -- so their polynomials are accepted, and monic
+          module _ (full : AllFull fs) (low : 1 ≤ length fs) where
+            tens : holdsForSome (factorDegreeOutOfRange (prime p)) (map polynomialOf fs) ≡ false
+            unfolding writtenTable
+            tens = polynomials-ten (prime p) fs full (passes .degreesInRange)
+
+            monics : holdsForSome (notMonic (prime p)) (map polynomialOf fs) ≡ false
+            unfolding writtenTable
+            monics = polynomials-eleven (prime p) I fs (passes .coefficientsInRange)
+
+            pub period-checked : period.Checked p first ts
+            unfolding termsTable
+            period-checked =
+                let n : 0 < length (map polynomialOf fs) = rw length-map low in
+                record {
+                  accepted =
+                      record {
+                        fieldExists = terms .fieldExists;
+                        degreeInRange =
+                            none-at (factorDegreeOutOfRange (prime p)) [] (map polynomialOf fs) 0 tens n;
+                        monicOver = none-at (notMonic (prime p)) [] (map polynomialOf fs) 0 monics n;
+                      };
+                  countInRange = terms .countInRange;
+                  termsInField = terms .termsInField;
+                }
+
+            pub set-checked : length fs ≤ 8 → set.Checked p (map polynomialOf fs) ts
+            unfolding termsTable
+            set-checked high =
+                record {
+                  fieldExists = terms .fieldExists;
+                  countInRange = terms .countInRange;
+                  termsInField = terms .termsInField;
+                  factorCount = rw length-map (count-passes (length fs) low high);
+                  degreesInRange = tens;
+                  monic = monics;
+                }

@@ -5,41 +5,37 @@ use native.Mathlib.Decide.{ℕ-discrete}
 use native.Mathlib.Omega.{arith}
 use mathlib.Core.Path.{_≡_, refl, sym, ap, _∙_}
 use mathlib.Core.Bool.{false}
-use mathlib.Core.List.{List, [], _∷_, map, flatten}
-use lib.ListN.{length, getD, length-append}
+use mathlib.Core.List.{List, [], map}
+use lib.ListN.{length, getD}
+use lib.Dec.{T}
 use Rattle.meaning.specs.declared.Refusal.{Refusal}
 use Rattle.meaning.specs.Search.{holdsForSome}
-use Rattle.meaning.specs.Field.{prime}
+use Rattle.meaning.specs.Field.{primeInRange}
 use Rattle.meaning.specs.Result.{refused, firstOf, clearing, clears}
-use Rattle.meaning.specs.Period.{ratePeriod}
-use Rattle.meaning.specs.Portion.{rateSet}
+use Rattle.meaning.specs.Period.{periodAnswer}
+use Rattle.meaning.specs.Portion.{setAnswer}
+use Rattle.meaning.specs.Conditions.{named}
 use Rattle.meaning.specs.Free.{rateFree}
 use Rattle.meaning.specs.Route.{Mode, periodMode, setMode, byteOf, bodies}
-use Rattle.meaning.specs.File.{fileDegreeOutOfRange, termsOf, ofPeriod, ofSet, ofFree}
-use Rattle.meaning.specs.File.{rateMode, rateRecords}
+use Rattle.meaning.specs.File.{termsOf, ofPeriod, ofSet, ofFree, rateMode, rateRecords}
 use Rattle.meaning.specs.Answers.{numberOf}
 use Rattle.route.specs.framing.Framing.{recordsFrom}
 use Rattle.refusals.specs.declared.Verdict.{Verdict}
 use Rattle.refusals.specs.Verdicts.{numberIn, termsTable}
-use Rattle.refusals.proofs.Settled.{verdict-passes}
 use Rattle.refusals.proofs.Lent.{never-clears}
 use Rattle.rate_file.specs.factors.Written.{factorsIn, polynomialsIn, writtenTable}
 use Rattle.rate_file.proofs.factors.Places.{factors-count}
-use Rattle.bridge.proofs.WrittenFactors.{AllFull}
-use Rattle.rate_file.proofs.factors.Polynomials.{factors-whole, polynomials-fit}
+use Rattle.bridge.proofs.Files.WrittenFactors.{AllFull}
+use Rattle.rate_file.proofs.factors.Polynomials.{factors-whole}
+use Rattle.bridge.proofs.Ways.Accepted.{prime-accepted}
+use Rattle.meaning.proofs.Passes.{firstOf-passes}
+use Rattle.rate_file.specs.modes.Checked.{CheckedFactor, CheckedFactors}
 use Rattle.rate_file.specs.records.Accepted.{AcceptedRecords, Rateable}
 use Rattle.rate_file.proofs.records.Suited.{one-factor, some-mode, some-factors, by-period, by-set}
-use Rattle.rate_file.proofs.records.Suited.{by-free}
-use Rattle.rate_file.proofs.records.Suited.{rated-refused}
+use Rattle.rate_file.proofs.records.Suited.{by-free, rated-refused}
 use Rattle.rate_file.proofs.records.Terms.{cutTerms, cut-terms, cut-accepted}
 use Rattle.rate_file.proofs.records.Modes.{mode-terms, period-factors, set-factors, period-way}
-use Rattle.rate_file.proofs.records.Modes.{set-way}
-
--- the first list of several is no longer than all
-first-within : (l : List (List ℕ)) → length (getD l 0 []) ≤ length (flatten l)
-unfolding flatten
-first-within [] = omega arith
-first-within (a ∷ l) = omega (arith, length-append a (flatten l))
+use Rattle.rate_file.proofs.records.Modes.{period-checked, set-checked, set-way}
 
 -- a refusal of the terms leaves the work bytes as they were
 pub terms-number : (p : ℕ) (ts : List ℕ) {v : Verdict} {x : Refusal} → numberIn v ≡ firstOf (termsTable p ts)
@@ -72,6 +68,12 @@ module _ (file ts : List ℕ) (p : ℕ) (ok : AcceptedRecords (recordsFrom file 
       m
       q)
 
+-- there is a field
+pub rateable-prime : {p : ℕ} {file ts : List ℕ} → Rateable p file ts → T (primeInRange p)
+unfolding termsTable
+rateable-prime {p} {file} {ts} ok =
+    prime-accepted p (firstOf-passes (termsTable p ts) (ok .passed) .fieldExists)
+
 module _ (file ts : List ℕ) (answer work : ℕ) {p : ℕ} (ok : Rateable p file ts)
     (mode count : ℕ) (mode-is : mode ≡ byteOf 3 (recordsFrom file 0))
     (count-is : count ≡ length (bodies 4 (recordsFrom file 0)))
@@ -95,20 +97,20 @@ module _ (file ts : List ℕ) (answer work : ℕ) {p : ℕ} (ok : Rateable p fil
     pub count-factors : count ≡ length (factorsIn file)
     count-factors = count-is ∙ sym (factors-count file)
 
-    whole : AllFull (factorsIn file)
-    whole = factors-whole file (ok .accepted .whole)
+    factors-full : AllFull (factorsIn file)
+    factors-full = factors-whole file (ok .accepted .whole)
 
     terms-accepted : numberIn Verdict.Accepted ≡ firstOf (termsTable p ts)
     unfolding numberIn
     terms-accepted = sym (ok .passed)
 
-    one : mode ≡ 1 → length (factorsIn file) ≡ 1
-    one e =
+    period-one : mode ≡ 1 → length (factorsIn file) ≡ 1
+    period-one e =
         sym count-factors
         ∙ one-factor (recordsFrom file 0) (ok .accepted .suited) mode count mode-is count-is e
 
-    several : mode ≡ 2 → (1 ≤ length (factorsIn file)) × (length (factorsIn file) ≤ 8)
-    several e =
+    set-several : mode ≡ 2 → (1 ≤ length (factorsIn file)) × (length (factorsIn file) ≤ 8)
+    set-several e =
         rw count-factors at
         (some-factors (recordsFrom file 0) (ok .accepted .suited) mode count mode-is count-is e)
 
@@ -129,8 +131,8 @@ module _ (file ts : List ℕ) (answer work : ℕ) {p : ℕ} (ok : Rateable p fil
           go (no b) =
               let e = not-others a b in
               rated-set e
-              ∙ set-factors p (factorsIn file) ts answer work terms-accepted refl ev (several e .0)
-              (several e .1)
+              ∙ set-factors p (factorsIn file) ts answer work terms-accepted refl ev (set-several e .0)
+              (set-several e .1)
               q
 
       pub factors-number : {x : Refusal} → v ≡ Verdict.Refused x → clears (numberOf x) ≡ false
@@ -138,37 +140,34 @@ module _ (file ts : List ℕ) (answer work : ℕ) {p : ℕ} (ok : Rateable p fil
       factors-number q = never-clears (writtenTable p (factorsIn file)) refl ev q
 
       module _ (q : v ≡ Verdict.Accepted) where
-        degrees : holdsForSome (fileDegreeOutOfRange (prime p)) (factorsIn file) ≡ false
-        unfolding writtenTable
-        degrees = verdict-passes (writtenTable p (factorsIn file)) ev q .degreesInRange
-
         pub records-period : mode ≡ 1
             → rateRecords (recordsFrom file 0) answer work
-            ≡ ofPeriod (ratePeriod p (getD (polynomialsIn file) 0 []) ts answer work)
+            ≡ ofPeriod (periodAnswer p false false (getD (polynomialsIn file) 0 []) ts answer work)
         records-period e =
-            rated-period e
-            ∙ period-way p (factorsIn file) ts answer work terms-accepted refl ev q whole
-            (omega (arith, one e))
+            rated-period e ∙ period-way p (factorsIn file) ts answer work terms-accepted refl ev q
 
         pub records-set : mode ≡ 2
             → rateRecords (recordsFrom file 0) answer work
             ≡ ofSet (length ts)
-            (rateSet p (polynomialsIn file) (map (λ f. f .upper) (factorsIn file)) ts answer work)
-        records-set e =
-            rated-set e ∙ set-way p (factorsIn file) ts answer work terms-accepted refl ev q whole
+            (setAnswer p false false (named (polynomialsIn file) (map (λ f. f .upper) (factorsIn file))) ts
+            answer work)
+        records-set e = rated-set e ∙ set-way p (factorsIn file) ts answer work terms-accepted refl ev q
 
-        -- the polynomials fit in 33 bytes each
-        pub one-fits : mode ≡ 1
-            → (1 ≤ length (factorsIn file)) × (length (getD (polynomialsIn file) 0 []) ≤ 33)
-        one-fits e =
-            let n = one e in
-            let f = polynomials-fit (prime p) (factorsIn file) whole degrees in
-            (omega arith, omega (arith, first-within (polynomialsIn file)))
+        pub one-checked : mode ≡ 1 → CheckedFactor p file ts
+        one-checked e =
+            let low : 1 ≤ length (factorsIn file) = omega (arith, period-one e) in
+            record {
+              some = low;
+              checked =
+                  period-checked p (factorsIn file) ts answer work terms-accepted refl ev q factors-full low;
+            }
 
-        pub all-fit : mode ≡ 2
-            → (count ≡ length (factorsIn file)) × (count ≤ 8)
-            × (length (flatten (polynomialsIn file)) ≤ 264)
-        all-fit e =
-            let f = polynomials-fit (prime p) (factorsIn file) whole degrees in
-            let s = several e in
-            (count-factors, rw count-factors (s .1), omega arith)
+        pub all-checked : mode ≡ 2 → CheckedFactors p file count ts
+        all-checked e =
+            let (low, high) = set-several e in
+            record {
+              all = count-factors;
+              checked =
+                  set-checked p (factorsIn file) ts answer work terms-accepted refl ev q factors-full low
+                  high;
+            }

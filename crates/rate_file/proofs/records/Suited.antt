@@ -10,10 +10,10 @@ use mathlib.Core.Option.{Option, none, some}
 use lib.ListN.{length}
 use borrow.Author.Tests.{ltb-false}
 use Rattle.meaning.specs.Result.{refused}
-use Rattle.meaning.specs.Route.{RouteRecord, Mode, periodMode, setMode, freeMode, lookUp, modeOf}
-use Rattle.meaning.specs.Route.{byteOf, bodies, modeUnsuited}
+use Rattle.meaning.specs.Route.{RouteRecord, Mode, periodMode, setMode, freeMode, lookUp, modeOf, byteOf}
+use Rattle.meaning.specs.Route.{bodies, modeUnsuited}
 use Rattle.meaning.specs.File.{termsOf, rateMode, rateRecords}
-use Rattle.bridge.proofs.FileRatings.{known-mode}
+use Rattle.bridge.proofs.Files.FileRatings.{known-mode}
 use Rattle.route.specs.framing.Framing.{recordsFrom}
 use Rattle.route.proofs.payload.Modes.{unsuited-unknown, period-count, set-none, set-most}
 use Rattle.rate_file.specs.factors.Written.{factorsIn}

@@ -13,7 +13,7 @@ use borrow.Author.Tests.{lt-ltb, ne-eqb}
 use Rattle.meaning.specs.Conditions.{notPrime, countOutOfRange}
 use Rattle.meaning.specs.Result.{firstOf}
 use Rattle.meaning.specs.File.{termsOf}
-use Rattle.bridge.proofs.Accepted.{count-accepted}
+use Rattle.bridge.proofs.Ways.Accepted.{count-accepted}
 use Rattle.route.specs.framing.Framing.{recordsFrom}
 use Rattle.route.specs.payload.Payload.{Gathered}
 use Rattle.route.proofs.payload.Stores.{sets-front}

@@ -5,14 +5,8 @@
 --   polynomialsIn file == their polynomials
 --   noFactor           == what a place beyond the last factor reads as
 --   writtenTable p fs  == the refusals 10 and 11 of factors as a file writes them
---   Packed gs count to ns to′ == the first `count` numbers of ns are the lengths of the polynomials gs, and
---                        the lent bytes `to` are left with their coefficients stored one after another from
---                        their front on
 use Prim.Native.Nat.{ℕ}
-use mathlib.Core.Path.{_≡_}
-use mathlib.Core.List.{List, [], _∷_, map, flatten}
-use lib.ListN.{length, take}
-use lib.Seq.{sets}
+use mathlib.Core.List.{List, [], _∷_, map}
 use Rattle.meaning.specs.Search.{holdsForSome}
 use Rattle.meaning.specs.Field.{prime}
 use Rattle.meaning.specs.Polynomial.{Polynomial}
@@ -39,7 +33,3 @@ writtenTable p fs =
     (10, λ _. holdsForSome (fileDegreeOutOfRange (prime p)) fs)
     ∷ (11, λ _. holdsForSome (fileCoefficientOutOfRange (prime p)) fs)
     ∷ []
-
-pub record Packed (gs : List Polynomial) (count : ℕ) (to ns to′ : List ℕ) : Type 0 where
-  pub lengths : take count ns ≡ map length gs
-  pub bytes : to′ ≡ sets to 0 (flatten gs)

@@ -4,10 +4,9 @@ use mathlib.Core.Path.{sym, subst}
 use Prim.Native.Nat.{ℕ}
 use lib.ListN.{replicate, length-replicate}
 use denote.Ref.{now}
-use Rattle.period_way.specs.one_factor.OneFactor.{Multiple}
-use Rattle.period_way.proofs.one_factor.OneFactor.{given-prime, given-multiple, given-leads, given-short}
-use Rattle.period_way.proofs.one_factor.OneFactor.{given-front, given-room}
-use Rattle.rate_period.proofs.PeriodAnswer.{given-refused, given-rated}
+use Rattle.rate_period.specs.Ratings.{Checked}
+use Rattle.rate_period.proofs.Given.{given-prime, given-checked, given-leads, given-short, given-front}
+use Rattle.rate_period.proofs.Given.{given-room, given-refused, given-rated}
 use borrow.Author.Needs.{needs}
 use Rattle.rate_period.proofs.rate_period.Statement.{statement}
 use Rattle.rate_period.proofs.rate_period.Tie as tie
@@ -39,14 +38,14 @@ monic-multiple-requires c κs =
       (given-leads _ _ _ e q (h .isField), given-short _ _ _ e q (h .isField)),
     )
 
-sub-rate-multiple : tie.Need-sub-rate-multiple
-sub-rate-multiple c = search needs
+sub-rate-checked : tie.Need-sub-rate-checked
+sub-rate-checked c = search needs
 
-part-rate-multiple-start : tie.Need-part-rate-multiple-start
-part-rate-multiple-start c = search needs
+part-rate-checked-start : tie.Need-part-rate-checked-start
+part-rate-checked-start c = search needs
 
-part-rate-multiple-end : tie.Need-part-rate-multiple-end
-part-rate-multiple-end c =
+part-rate-checked-end : tie.Need-part-rate-checked-end
+part-rate-checked-end c =
     let m = c .before .before in
     let o = m .before .before in
     let a = o .before in
@@ -54,8 +53,8 @@ part-rate-multiple-end c =
     (o .of-prime .ensures .isField)
     (replicate 33 0) (length-replicate {A = ℕ} 33 0) (m .monic-multiple .ensures)
 
-rate-multiple-requires : tie.Need-rate-multiple-requires
-rate-multiple-requires c κs =
+rate-checked-requires : tie.Need-rate-checked-requires
+rate-checked-requires c κs =
     let m = c .before .before .before .before .before in
     let o = m .before .before in
     let a = o .before in
@@ -64,9 +63,9 @@ rate-multiple-requires c κs =
     let q = a .enum-told .given .1 in
     let h = o .of-prime .ensures in (
       h,
-      subst (λ g. Multiple (s .args .p) g (now (s .args .terms)))
+      subst (λ g. Checked (s .args .p) g (now (s .args .terms)))
           (sym (given-front _ _ _ e q (h .isField) (replicate 33 0) (m .monic-multiple .ensures)))
-          (given-multiple _ _ _ e q),
+          (given-checked _ _ _ e q),
     )
 
 returns : tie.Need-returns
@@ -89,7 +88,7 @@ returns-2 c =
     let q = a .enum-told .given .1 in
     given-rated _ _ _ _ _ e q
     (given-front _ _ _ e q (o .of-prime .ensures .isField) (replicate 33 0) (m .monic-multiple .ensures))
-    (r .rate-multiple .ensures)
+    (r .rate-checked .ensures)
 
 pub rate-period-spec : {M : Type 1} → statement M
 rate-period-spec =
@@ -101,10 +100,10 @@ rate-period-spec =
     of-prime-requires
     slice-aggregate-monic-multiple
     monic-multiple-requires
-    sub-rate-multiple
-    part-rate-multiple-start
-    part-rate-multiple-end
-    rate-multiple-requires
+    sub-rate-checked
+    part-rate-checked-start
+    part-rate-checked-end
+    rate-checked-requires
     returns
     same-length
     same-length-2

@@ -1,13 +1,48 @@
--- `rate_set` meets its contract: what is given is refused, or the monic multiples are laid and rated.
+-- `rate_set` meets its contract: what is given is refused, or the monic multiples are packed and rated.
 -- Assumes nothing.
-use Prim.Native.Nat.{ℕ}
-use lib.ListN.{length-replicate}
+use Prim.Native.Nat.{ℕ, _-_}
+use mathlib.Core.Path.{_≡_, sym, ap, subst, _∙_}
+use mathlib.Core.Bool.{false}
+use mathlib.Core.List.{List, map}
+use lib.ListN.{length, take, drop, length-replicate}
+use denote.Ref.{now}
 use borrow.Author.Needs.{needs}
-use Rattle.rate_set.proofs.Given.{given-set-refused, given-set-prime, given-set-layable}
-use Rattle.rate_set.proofs.Given.{given-multiples}
-use Rattle.rate_set.proofs.Given.{given-set-rated}
+use native.Mathlib.Omega.{arith}
+use Rattle.meaning.specs.Field.{Field, prime}
+use Rattle.meaning.specs.Polynomial.{Polynomial, monicMultiple}
+use Rattle.meaning.specs.Conditions.{named}
+use Rattle.meaning.specs.Portion.{setAnswer}
+use Rattle.meaning.specs.Slices.{listsOf}
+use Rattle.meaning.proofs.Slices.{lists-length}
+use Rattle.poly.proofs.parts.Splitting.{parts-first}
+use Rattle.rate_set.specs.Ratings.{Checked, SetRatedAs}
+use Rattle.rate_set.proofs.Given.{given-set-refused, given-set-prime, given-set-packable}
+use Rattle.rate_set.proofs.Given.{given-set-few, given-checked, given-set-rated}
 use Rattle.rate_set.proofs.rate_set.Statement.{statement}
 use Rattle.rate_set.proofs.rate_set.Tie as tie
+
+-- what the slices were made from
+abbrev packing : tie.After-nine-parts → tie.After-pack-multiples
+packing n = n .before .before .before .before
+
+abbrev field-made : tie.After-nine-parts → tie.After-of-prime
+field-made n = packing n .before .before
+
+abbrev accepted : tie.After-nine-parts → tie.After-enum-told
+accepted n = field-made n .before
+
+abbrev start : tie.After-nine-parts → tie.Start
+start n = accepted n .before .before .before .before .before .before .before
+
+-- the slices hold the monic multiples
+multiples : (n : tie.After-nine-parts)
+    → listsOf (take (length (now (start n .args .factors)) - 0) (drop 0 (n .nine-parts .result)))
+    ≡ map (monicMultiple (prime (start n .args .p))) (listsOf (now (start n .args .factors)))
+multiples n =
+    let fs = now (start n .args .factors) in
+    parts-first _ _ (n .nine-parts .result) (length fs) (n .nine-parts .ensures)
+    ∙ packing n .pack-multiples .ensures
+    ∙ ap (λ (F : Field). map (monicMultiple F) (listsOf fs)) (field-made n .of-prime .ensures .isField)
 
 given-set-verdict-requires : tie.Need-given-set-verdict-requires
 given-set-verdict-requires c κs = search needs
@@ -25,31 +60,50 @@ of-prime-requires : tie.Need-of-prime-requires
 of-prime-requires c κs =
     given-set-prime _ _ _ (c .before .before .given-set-verdict .ensures) (c .enum-told .given .1)
 
-slice-aggregate-lay-multiples : tie.Need-slice-aggregate-lay-multiples
-slice-aggregate-lay-multiples c = search needs
+slice-aggregate-pack-multiples : tie.Need-slice-aggregate-pack-multiples
+slice-aggregate-pack-multiples c = search needs
 
-lay-multiples-requires : tie.Need-lay-multiples-requires
-lay-multiples-requires c κs =
+pack-multiples-requires : tie.Need-pack-multiples-requires
+pack-multiples-requires c κs =
     let o = c .before in
     let a = o .before in (
       o .of-prime .ensures .wellFormed,
-      given-set-layable _ _ _ (a .before .before .given-set-verdict .ensures) (a .enum-told .given .1)
+      given-set-packable _ _ _ (a .before .before .given-set-verdict .ensures) (a .enum-told .given .1)
           (o .of-prime .ensures .isField) (length-replicate {A = ℕ} 264 0),
     )
 
-slice-aggregate-rate-laid : tie.Need-slice-aggregate-rate-laid
-slice-aggregate-rate-laid c = search needs
+slice-aggregate-nine-parts : tie.Need-slice-aggregate-nine-parts
+slice-aggregate-nine-parts c = search needs
 
-rate-laid-requires : tie.Need-rate-laid-requires
-rate-laid-requires c κs =
-    let m = c .before .before .before .before in
-    let o = m .before .before in
-    let a = o .before in (
-      o .of-prime .ensures,
-      (
-        m .lay-multiples .ensures,
-        given-multiples _ _ _ (a .before .before .given-set-verdict .ensures) (a .enum-told .given .1),
-      ),
+nine-parts-requires : tie.Need-nine-parts-requires
+nine-parts-requires c κs = search needs
+
+sub-rate-checked : tie.Need-sub-rate-checked
+sub-rate-checked c = search needs
+
+part-rate-checked-start : tie.Need-part-rate-checked-start
+part-rate-checked-start c = search needs
+
+part-rate-checked-end : tie.Need-part-rate-checked-end
+part-rate-checked-end c =
+    let n = c .before in
+    let a = accepted n in
+    let fs = now (start n .args .factors) in
+    omega (
+      arith,
+      given-set-few (start n .args .p) (listsOf fs) (now (start n .args .terms))
+          (a .before .before .given-set-verdict .ensures) (a .enum-told .given .1),
+      lists-length fs,
+    )
+
+rate-checked-requires : tie.Need-rate-checked-requires
+rate-checked-requires c κs =
+    let n = c .before .before .before .before in
+    let a = accepted n in
+    let s = start n in (
+      field-made n .of-prime .ensures,
+      subst (λ gs. Checked (s .args .p) gs (now (s .args .terms))) (sym (multiples n))
+          (given-checked _ _ _ (a .before .before .given-set-verdict .ensures) (a .enum-told .given .1)),
     )
 
 returns : tie.Need-returns
@@ -67,10 +121,22 @@ same-length-2 c = search needs
 returns-2 : tie.Need-returns-2
 returns-2 c =
     let r = c .before .before .before .before in
-    let m = r .before .before .before .before .before in
-    let a = m .before .before .before in
+    let n = r .before .before .before .before .before in
+    let a = accepted n in
+    let s = start n in
     given-set-rated _ _ _ _ _ _ (a .before .before .given-set-verdict .ensures) (a .enum-told .given .1)
-    (r .rate-laid .ensures)
+    (subst
+    (λ (gs : List Polynomial).
+    SetRatedAs
+    (setAnswer (s .args .p) false false (named gs (now (s .args .uppers))) (now (s .args .terms))
+    (length (now (s .args .answer))) (length (now (s .args .work))))
+    (now (s .args .answer))
+    (now (s .args .work))
+    (r .rate-checked .result)
+    (r .rate-checked .last .1 .1 .1 .1 .1 .0)
+    (r .rate-checked .last .1 .1 .1 .1 .1 .1 .0))
+    (multiples n)
+    (r .rate-checked .ensures))
 
 pub rate-set-spec : {M : Type 1} → statement M
 rate-set-spec =
@@ -81,10 +147,14 @@ rate-set-spec =
     refused-requires
     enum-told
     of-prime-requires
-    slice-aggregate-lay-multiples
-    lay-multiples-requires
-    slice-aggregate-rate-laid
-    rate-laid-requires
+    slice-aggregate-pack-multiples
+    pack-multiples-requires
+    slice-aggregate-nine-parts
+    nine-parts-requires
+    sub-rate-checked
+    part-rate-checked-start
+    part-rate-checked-end
+    rate-checked-requires
     returns
     same-length
     same-length-2

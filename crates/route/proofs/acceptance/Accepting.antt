@@ -8,8 +8,8 @@ use lib.ListN.{length}
 use Rattle.meaning.specs.Result.{Result, refused, answered, mapResult}
 use Rattle.meaning.specs.Route.{RouteRecord, atStart, walk, modeUnsuited, suited, records}
 use Rattle.route.specs.framing.Framing.{recordsFrom}
-use Rattle.bridge.proofs.Records.{records-long, records-short, walk-walked}
-use Rattle.bridge.proofs.Records as bridge
+use Rattle.bridge.proofs.Files.Records.{records-long, records-short, walk-walked}
+use Rattle.bridge.proofs.Files.Records as bridge
 use Rattle.route.specs.walk.Walking.{verdictOf}
 use Rattle.route.proofs.walk.Walks.{AnswersWhole, walked-whole}
 

@@ -30,8 +30,9 @@ unfolding recordsFrom framed
 from-over file at h = rw (drop-of-length-le file h)
 
 -- inside the file the rest begins with a kind byte
-pub opened : (file : List ℕ) (at : ℕ) → at < length file → drop at file ≡ getD file at 0 ∷ drop (at + 1) file
-opened file at h = rw add-one (drop-cons file at 0 h)
+pub drop-opened : (file : List ℕ) (at : ℕ) → at < length file
+    → drop at file ≡ getD file at 0 ∷ drop (at + 1) file
+drop-opened file at h = rw add-one (drop-cons file at 0 h)
 
 pub framed-cons : (kind : ℕ) (rest : List ℕ) → framed (kind ∷ rest) 0
     ≡ record { kind = kind; body = take (bodyLength kind) rest } ∷ framed (drop (bodyLength kind) rest) 0
@@ -43,7 +44,7 @@ framed-cons kind rest =
 pub from-inside : (file : List ℕ) (at : ℕ) → at < length file
     → recordsFrom file at ≡ recordAt file at ∷ recordsFrom file (at + 1 + bodyLength (getD file at 0))
 unfolding recordsFrom recordAt
-from-inside file at h = rw (opened file at h, framed-cons, drop-drop)
+from-inside file at h = rw (drop-opened file at h, framed-cons, drop-drop)
 
 pub length-small : (k : ℕ) → bodyLength k ≤ 255
 unfolding bodyLength orElse bodyLengths

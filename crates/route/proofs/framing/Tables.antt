@@ -28,15 +28,15 @@ every f i [] = true
 every f i (x ∷ xs) = both (f i x) (every f (suc i) xs)
 
 module _ {A : Type 0} (d : A) where
-  from : (f : ℕ → A → Bool) (xs : List A) (i : ℕ) → T (every f i xs)
+  every-from : (f : ℕ → A → Bool) (xs : List A) (i : ℕ) → T (every f i xs)
       → (k : ℕ) → k < length xs → T (f (i + k) (getD xs k d))
-  from f [] i t k h = absurd (not-suc-le-zero h)
-  from f (x ∷ xs) i t zero h =
+  every-from f [] i t k h = absurd (not-suc-le-zero h)
+  every-from f (x ∷ xs) i t zero h =
       subst (λ (m : ℕ). T (f m x)) (sym (add-zero i)) (both-left (f i x) (every f (suc i) xs) t)
-  from f (x ∷ xs) i t (suc k) h =
+  every-from f (x ∷ xs) i t (suc k) h =
       subst (λ (m : ℕ). T (f m (getD xs k d))) (suc-add i k ∙ sym (add-suc i k))
-      (from f xs (suc i) (both-right (f i x) (every f (suc i) xs) t) k (le-of-suc-le-suc h))
+      (every-from f xs (suc i) (both-right (f i x) (every f (suc i) xs) t) k (le-of-suc-le-suc h))
 
-  pub at : (f : ℕ → A → Bool) (xs : List A) → T (every f 0 xs)
+  pub every-at : (f : ℕ → A → Bool) (xs : List A) → T (every f 0 xs)
       → (k : ℕ) → k < length xs → T (f k (getD xs k d))
-  at f xs t k h = subst (λ (m : ℕ). T (f m (getD xs k d))) (zero-add k) (from f xs 0 t k h)
+  every-at f xs t k h = subst (λ (m : ℕ). T (f m (getD xs k d))) (zero-add k) (every-from f xs 0 t k h)

@@ -15,7 +15,7 @@ use lib.Dec.{T, eqb, eqb→eq}
 use lib.ListN.{length, getD}
 use Rattle.meaning.specs.Route.{Stage, atStart, afterBox, afterField, inFactors, inTerms, afterEnd}
 use Rattle.meaning.specs.Route.{lookUp, admitted}
-use Rattle.route.proofs.framing.Tables.{both, both-left, both-right, every, at}
+use Rattle.route.proofs.framing.Tables.{both, both-left, both-right, every, every-at}
 use Rattle.route.proofs.framing.Lookup.{keysBelow, lookUp-beyond}
 use Rattle.route.specs.walk.Walking.{stageOf, stageTold}
 
@@ -63,10 +63,10 @@ pub after-told : (s k : ℕ) → s ≤ 5 → k ≤ 8
 unfolding rowRight entryRight
 after-told s k hs hk =
     let row = getD afterTable s [] in
-    let t = at [] rowRight afterTable table-right s (omega arith) in
+    let t = every-at [] rowRight afterTable table-right s (omega arith) in
     let l = eqb→eq (length row) 9 (both-left (eqb (length row) 9) (every (entryRight s) 0 row) t) in
     let r = both-right (eqb (length row) 9) (every (entryRight s) 0 row) t in
-    ap stageTold (eqb→eq (getD row k 0) _ (at 0 (entryRight s) row r k (omega arith))) ∙ told-number _
+    ap stageTold (eqb→eq (getD row k 0) _ (every-at 0 (entryRight s) row r k (omega arith))) ∙ told-number _
 
 -- past stage 5 all is over
 pub stage-late : (n : ℕ) → 5 ≤ n → stageOf n ≡ afterEnd

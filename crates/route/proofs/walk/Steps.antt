@@ -17,12 +17,12 @@ use Rattle.meaning.specs.Route.{RouteRecord, lookUp, bodyLengths, admitted, bef
 use Rattle.meaning.specs.declared.Refusal.{Refusal}
 use Rattle.meaning.specs.declared.Refusal.the-variants.{UnknownKind, FileCutShort, RecordOutOfPlace}
 use Rattle.route.specs.framing.Framing.{bodyLength, recordAt}
-use Rattle.route.proofs.framing.Frames.{opened}
+use Rattle.route.proofs.framing.Frames.{drop-opened}
 use Rattle.route.proofs.framing.Lookup.{length-unknown, length-known}
 use Rattle.route.specs.declared.walk.Step.{Step}
 use Rattle.route.specs.walk.Walking.{stageOf, stageTold, verdictOf, stepped, StepCall}
 use Rattle.route.proofs.walk.Stages.{stage-late, told-none, told-some}
-use Rattle.bridge.proofs.Records.{walk-skip, walk-unknown, walk-cut, walk-misplaced, walk-good}
+use Rattle.bridge.proofs.Files.Records.{walk-skip, walk-unknown, walk-cut, walk-misplaced, walk-good}
 
 -- a step from a place inside the file, where n is the length of the body there
 module _ (file : List ℕ) (at stage : ℕ) (inside : at < length file) (n : ℕ)
@@ -31,7 +31,7 @@ module _ (file : List ℕ) (at stage : ℕ) (inside : at < length file) (n : ℕ
   unfolding stepped numberOf
   step-unknown e =
       record {
-        rest = rw (opened file at inside) (walk-unknown _ _ _ (length-unknown _ (sym len ∙ e)));
+        rest = rw (drop-opened file at inside) (walk-unknown _ _ _ (length-unknown _ (sym len ∙ e)));
         onwards = tt;
       }
 
@@ -43,7 +43,7 @@ module _ (file : List ℕ) (at stage : ℕ) (inside : at < length file) (n : ℕ
     unfolding stepped numberOf
     step-cut h =
         record {
-          rest = rw (opened file at inside) (walk-cut _ _ _ found (rw length-drop (lt-ltb _ _ h)));
+          rest = rw (drop-opened file at inside) (walk-cut _ _ _ found (rw length-drop (lt-ltb _ _ h)));
           onwards = tt;
         }
 
@@ -57,7 +57,7 @@ module _ (file : List ℕ) (at stage : ℕ) (inside : at < length file) (n : ℕ
       step-misplaced e =
           record {
             rest =
-                rw (opened file at inside)
+                rw (drop-opened file at inside)
                 (walk-misplaced _ _ _ found whole (sym told ∙ ap stageTold e ∙ told-none));
             onwards = tt;
           }
@@ -67,7 +67,7 @@ module _ (file : List ℕ) (at stage : ℕ) (inside : at < length file) (n : ℕ
       step-good e =
           record {
             rest =
-                rw (opened file at inside, ← len)
+                rw (drop-opened file at inside, ← len)
                 (walk-good _ _ _ found whole (sym told ∙ told-some after e)
                 ∙ ap (before _) (walk-skip _ _ _ ∙ rw drop-drop));
             onwards = (omega arith, omega arith);

@@ -15,7 +15,7 @@ use lib.Seq.{take-at, drop-at}
 use Rattle.meaning.specs.Result.{Result, refused, answered, clears}
 use Rattle.meaning.specs.Route.{RouteRecord, lookUp, bodyLengths}
 use Rattle.meaning.proofs.Tables.{keeps-low}
-use Rattle.bridge.proofs.Records.{flat, Whole, Walked}
+use Rattle.bridge.proofs.Files.Records.{flat, Whole, Walked}
 use Rattle.route.specs.framing.Framing.{orElse, bodyLength, framed}
 use Rattle.route.proofs.framing.Frames.{framed-cons}
 

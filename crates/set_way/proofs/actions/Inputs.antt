@@ -1,43 +1,27 @@
--- Accepted factors with their upper powers: what holds of each of them, and the total degree along the list.
+-- Accepted factors with their upper powers: what holds of each of them.
 --
---   total-without     == without one factor it is not larger
 --   input-…           == what accepted input says of factor i: it has an upper power other than 0, both are
 --                        small, and the powers times the degrees are within the total degree
 --
 -- Assumes nothing.
 use Prim.Native.Nat.{ℕ, _*_, _≤_, _<_}
-use mathlib.Core.Path.{_≡_, sym, ap, subst, _∙_}
+use mathlib.Core.Path.{sym, ap, subst, _∙_}
 use mathlib.Core.Logic.{_≢_}
 use mathlib.Core.List.{List, []}
 use native.Mathlib.Nat as ℕ
-use native.Mathlib.Decide.{decLt}
 use native.Mathlib.Omega.{arith}
 use lib.ListN.{length, getD, List·getD-eq-default}
-use lib.Seq.{set-out}
 use lib.Dec.{T, eqb, ltb, nltb→le, not-T}
 use borrow.Author.Tests.{eq-eqb}
 use Rattle.meaning.specs.Search.{holdsForSome}
 use Rattle.meaning.specs.Field.{Field}
 use Rattle.meaning.specs.Polynomial.{Polynomial, degree, isMonicOver}
 use Rattle.meaning.specs.Conditions.{named, totalDegree, upperPowersOutOfRange}
-use Rattle.meaning.specs.Portion.{withPower}
-use Rattle.bridge.proofs.Searches.{or-false, true-T, false-T, none-member, getD-member}
-use Rattle.bridge.proofs.Products.{factorAt, powerAt, MonicFactors, length-named, factorAt-named}
-use Rattle.bridge.proofs.Products.{powerAt-named}
-use Rattle.bridge.proofs.Portions.{degree-others}
+use Rattle.bridge.proofs.Basics.Searches.{or-false, true-T, false-T, none-member, getD-member}
+use Rattle.bridge.proofs.Lists.Products.{factorAt, powerAt, MonicFactors, length-named, factorAt-named}
+use Rattle.bridge.proofs.Lists.Products.{powerAt-named}
 use Rattle.powers.proofs.product.Totals.{total-part}
 use Rattle.set_way.specs.actions.SetActions.{SetInput}
-
--- Total degrees
-pub without-none : (i r : ℕ) (l : List (Polynomial × ℕ)) → length l ≤ i → withPower i r l ≡ l
-unfolding withPower
-without-none i r l h = set-out l i (factorAt l i, r) h
-
-pub total-without : (i : ℕ) (l : List (Polynomial × ℕ)) → totalDegree (withPower i 0 l) ≤ totalDegree l
-total-without i l = elim (decLt i (length l)) [
-  | yes h ↦ omega (arith, degree-others l i h)
-  | no h ↦ ℕ.le-of-eq (ap totalDegree (without-none i 0 l (omega arith)))
-]
 
 -- Accepted input
 module _ {F : Field} {fs : List Polynomial} {us ts : List ℕ} (x : SetInput F fs us ts) where
@@ -85,15 +69,4 @@ module _ {F : Field} {fs : List Polynomial} {us ts : List ℕ} (x : SetInput F f
           input-part,
           input-total,
           ℕ.le-mul-of-pos-right (getD us i 0) (x .factors .positive i k),
-        )
-
-    pub input-short : length (getD fs i []) ≤ 4097
-    unfolding degree
-    input-short =
-        omega (
-          arith,
-          input-part,
-          input-total,
-          ℕ.le-mul-of-pos-right (degree (getD fs i [])) (ℕ.pos-of-ne-zero input-nonzero),
-          ℕ.mul-comm (getD us i 0) (degree (getD fs i [])),
         )

@@ -1,12 +1,12 @@
--- Terms that were loaded into the first half of the work bytes, and the product of a set on them.
+-- Terms that are loaded into the first half of the work bytes, and the product of a set on them.
 --
---   loaded-set        == accepted terms that were loaded are accepted where they stand
+--   set-halves        == accepted terms can be loaded
 --   decided-none      == where there are no more terms than its degree, the product annihilates
 --   decided-set       == the action of all upper powers says whether the product annihilates
 --
 -- Assumes nothing.
 use Prim.Native.Nat.{ℕ, _+_, _*_, _-_, _≤_, min}
-use mathlib.Core.Path.{_≡_, refl, sym, ap, subst, _∙_}
+use mathlib.Core.Path.{_≡_, refl, sym, ap, _∙_}
 use mathlib.Core.Bool.{Bool, true}
 use mathlib.Core.List.{List, [], _∷_}
 use native.Mathlib.Omega.{arith}
@@ -15,15 +15,16 @@ use Rattle.meaning.specs.Field.{Field}
 use Rattle.meaning.specs.Polynomial.{Polynomial, product}
 use Rattle.meaning.specs.Sequence.{actOnKnown}
 use Rattle.meaning.specs.Conditions.{named, totalDegree}
-use Rattle.bridge.proofs.Interpretation.{IsField}
-use Rattle.bridge.proofs.Searches.{T-true}
-use Rattle.bridge.proofs.KnownActions.{allZero, allZero-nil, length-actOnKnown, annihilatesKnown-all}
-use Rattle.bridge.proofs.Products.{length-named, degree-product, monics-nonempty}
-use Rattle.lent.specs.halves.Halves.{half, Halves, Placed}
+use Rattle.bridge.proofs.Basics.Interpretation.{IsField}
+use Rattle.bridge.proofs.Basics.Searches.{T-true}
+use Rattle.bridge.proofs.Sequences.KnownActions.{allZero, allZero-nil, length-actOnKnown}
+use Rattle.bridge.proofs.Sequences.KnownActions.{annihilatesKnown-all}
+use Rattle.bridge.proofs.Lists.Products.{degree-product, monics-nonempty}
+use Rattle.lent.specs.halves.Halves.{Halves}
 use Rattle.action.specs.declared.power_action.Place.{Place}
-use Rattle.lent.proofs.halves.Bytes.{placed-kept, kept-trans, lent-half}
-use Rattle.set_way.specs.actions.SetActions.{SetInput, OthersActed, SetDecided}
-use Rattle.set_way.proofs.actions.Inputs.{without-none, input-monics}
+use Rattle.lent.proofs.halves.Bytes.{lent-half}
+use Rattle.set_way.specs.actions.SetActions.{SetInput, AllActed, SetDecided}
+use Rattle.set_way.proofs.actions.Inputs.{input-monics}
 
 -- No place is left
 module _ {F : Field} (I : IsField F) {fs : List Polynomial} {us ts w : List ℕ} (x : SetInput F fs us ts) where
@@ -43,43 +44,30 @@ module _ {F : Field} (I : IsField F) {fs : List Polynomial} {us ts w : List ℕ}
       empty [] e = refl
       empty (a ∷ l) e = absurd (omega arith)
 
--- Terms that were loaded
+-- Terms that are loaded
 module _ {F : Field} {fs : List Polynomial} {us ts w : List ℕ} (x : SetInput F fs us ts)
     (enough : 8192 ≤ length w) where
   pub set-halves : Halves w 0 (length ts)
   set-halves = record { enough = enough; which = omega arith; few = x .notMany }
 
-  module _ {w₁ : List ℕ} (loaded : Placed w 0 1 ts w₁) where
-    pub loaded-halves : Halves w₁ 0 (length ts)
-    loaded-halves =
-        record { enough = omega (arith, loaded .size); which = omega arith; few = x .notMany }
+  module _ {w′ : List ℕ} {r : Place} (acted : AllActed F fs us ts w w′ r) where
+    pub left-halves : Halves w′ (r .half) (r .count)
+    left-halves =
+        record {
+          enough = omega (arith, acted .kept .size);
+          which = acted .which;
+          few = omega (arith, acted .size, x .notMany);
+        }
 
-    pub loaded-set : SetInput F fs us (half w₁ 0 (length ts))
-    loaded-set = subst (SetInput F fs us) (sym (loaded .made)) x
-
-    module _ {i : ℕ} {w₂ : List ℕ} {r : Place} (acted : OthersActed F fs us i (length ts) w₁ w₂ r) where
-      pub left-halves : Halves w₂ (r .half) (r .count)
-      left-halves =
-          record {
-            enough = omega (arith, loaded .size, acted .kept .size);
-            which = acted .which;
-            few = omega (arith, acted .size, x .notMany);
-          }
-
-      -- all factors have acted
-      pub decided-set :
-          {b : Bool}
-          → length fs ≤ i
-          → b ≡ allZero (take (4096 * r .half + r .count - 4096 * r .half) (drop (4096 * r .half) w₂))
-          → SetDecided F fs us ts w w₂ b
-      decided-set h e =
-          record {
-            annihilated =
-                e
-                ∙ ap allZero
-                (lent-half w₂ (r .half) (r .count) ∙ acted .values ∙ ap (actOnKnown F _) (loaded .made))
-                ∙ ap (λ l. allZero (actOnKnown F (product F l) ts))
-                (without-none i 0 (named fs us) (omega (arith, length-named fs us)))
-                ∙ sym (annihilatesKnown-all F (product F (named fs us)) ts);
-            kept = kept-trans (placed-kept loaded) (acted .kept);
-          }
+    pub decided-set :
+        {b : Bool}
+        → b ≡ allZero (take (4096 * r .half + r .count - 4096 * r .half) (drop (4096 * r .half) w′))
+        → SetDecided F fs us ts w w′ b
+    decided-set e =
+        record {
+          annihilated =
+              e
+              ∙ ap allZero (lent-half w′ (r .half) (r .count) ∙ acted .values)
+              ∙ sym (annihilatesKnown-all F (product F (named fs us)) ts);
+          kept = acted .kept;
+        }

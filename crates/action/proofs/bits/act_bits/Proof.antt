@@ -13,6 +13,13 @@ use borrow.Author.Needs.{needs}
 use Rattle.action.proofs.bits.act_bits.Statement.{statement}
 use Rattle.action.proofs.bits.act_bits.Tie as tie
 
+-- the places on the way
+abbrev entry : tie.After-sum-up → tie.Start
+entry c = c .before .before .before .before .before .before
+
+abbrev after-sum-up : tie.After-w2 → tie.After-sum-up
+after-sum-up c = c .before .before .before .before .before .before
+
 sub-sum-up : tie.Need-sub-sum-up
 sub-sum-up c = search needs
 
@@ -56,7 +63,7 @@ part-store-start c = search needs
 
 part-store-end : tie.Need-part-store-end
 part-store-end c =
-    let b = c .before .before .before .before .before .before .before .before in
+    let b = entry (c .before .before) in
     let u = c .before .before .sum-up in
     zeros-enough (b .args .m) 256 (b .pre .small) (u .last .0) (u .kept .0)
 
@@ -75,7 +82,7 @@ part-store-end-2 c = search needs
 store-requires : tie.Need-store-requires
 store-requires c κs =
     let u = c .before .before .before .before .sum-up in
-    let b = c .before .before .before .before .before .before .before .before .before .before in
+    let b = entry (c .before .before .before .before) in
     let a = b .args in
     let p = b .pre in
     let l = lent-length (now (a .w)) (a .to) (a .m) (p .room) in
@@ -89,9 +96,9 @@ same-length c = search needs
 
 returns : tie.Need-returns
 returns c =
-    let s = c .before .before .before .before .before .before .before in
+    let s = after-sum-up (c .before) in
     let u = s .sum-up in
-    let b = s .before .before .before .before .before .before in
+    let b = entry s in
     let a = b .args in
     let p = b .pre in
     let e = c .before .before .store .ensures in

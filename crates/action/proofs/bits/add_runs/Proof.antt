@@ -10,6 +10,13 @@ use borrow.Author.Needs.{needs}
 use Rattle.action.proofs.bits.add_runs.Statement.{statement}
 use Rattle.action.proofs.bits.add_runs.Tie as tie
 
+-- the places on the way
+abbrev entry : tie.After-add-run → tie.Start
+entry c = c .before .before .before .before .before
+
+abbrev after-add-run : tie.After-sums2 → tie.After-add-run
+after-add-run c = c .before .before .before .before .before
+
 sub-add-run : tie.Need-sub-add-run
 sub-add-run c = search needs
 
@@ -36,7 +43,7 @@ part-add-run-end-2 c = search needs
 
 add-run-requires-2 : tie.Need-add-run-requires-2
 add-run-requires-2 c κs =
-    let b = c .before .before .before .before .before .before .before .before in
+    let b = entry (c .before .before .before) in
     let a = b .args in
     let e = c .before .before .before .add-run .ensures in
     let m = second-length bytes (now (a .sums)) 1 (now (a .first)) (now (a .second)) (b .pre) e in
@@ -47,10 +54,10 @@ same-length c = search needs
 
 returns : tie.Need-returns
 returns c =
-    let b = c .before .before .before .before .before .before .before .before .before .before .before in
+    let b = entry (after-add-run (c .before)) in
     let a = b .args in
     runs-added bytes (now (a .sums)) 1 (now (a .first)) (now (a .second)) (b .pre)
-    (c .before .before .before .before .before .before .add-run .ensures)
+    (after-add-run (c .before) .add-run .ensures)
     (c .before .before .add-run2 .ensures)
 
 pub add-runs-spec : {M : Type 1} → statement M

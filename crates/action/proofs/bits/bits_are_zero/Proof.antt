@@ -13,6 +13,10 @@ use borrow.Author.Needs.{needs}
 use Rattle.action.proofs.bits.bits_are_zero.Statement.{statement}
 use Rattle.action.proofs.bits.bits_are_zero.Tie as tie
 
+-- the places on the way
+abbrev entry : tie.After-sum-up → tie.Start
+entry c = c .before .before .before .before
+
 sub-sum-up : tie.Need-sub-sum-up
 sub-sum-up c = search needs
 
@@ -47,7 +51,7 @@ part-are-zero-start c = search needs
 
 part-are-zero-end : tie.Need-part-are-zero-end
 part-are-zero-end c =
-    let b = c .before .before .before .before .before .before in
+    let b = entry (c .before .before) in
     let u = c .before .before .sum-up in
     zeros-enough (b .args .m) 256 (b .pre .small) (u .last .0) (u .kept .0)
 
@@ -57,7 +61,7 @@ are-zero-requires c κs = search needs
 returns : tie.Need-returns
 returns c =
     let u = c .before .before .before .before .sum-up in
-    let b = c .before .before .before .before .before .before .before .before in
+    let b = entry (c .before .before .before .before) in
     let a = b .args in
     let l = b .pre .small in
     block-zero (prime 2) (now (a .f)) (a .q) (now (a .ts)) (a .i) (a .m)

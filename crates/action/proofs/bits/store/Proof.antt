@@ -7,7 +7,7 @@ use lib.ListN.{length}
 use denote.Ref.{now}
 use native.Mathlib.Omega.{arith}
 use Rattle.arith.proofs.Writing.{Writing, writing-none, front-more}
-use Rattle.bridge.proofs.KnownActions.{allZero}
+use Rattle.bridge.proofs.Sequences.KnownActions.{allZero}
 use Rattle.arith.proofs.sums.Elements.{written-whole}
 use Rattle.lent.proofs.Zeros.{Anything, anything-none, anything-more, anything-end}
 use Rattle.action.specs.bits.Bits.{bitsOf}

@@ -8,7 +8,7 @@ use lib.ListN.{length}
 use denote.Ref.{now}
 use borrow.Author.Needs.{needs}
 use Rattle.meaning.specs.Field.{prime}
-use Rattle.bridge.proofs.Bits.{two}
+use Rattle.bridge.proofs.Binary.Bits.{binary-isField}
 use Rattle.lent.proofs.blocks.Summing.{Summing, summing-none, summing-more, summing-end}
 use Rattle.action.specs.bits.Bits.{bitsOf}
 use Rattle.action.proofs.bits.Summed.{bits-zeros, bits-below}
@@ -27,6 +27,13 @@ Inv-loop sums₀ ts i f step at₀ j₀ j-end sums at j =
 abbrev μ-loop : tie.MeasureT-loop
 μ-loop sums₀ ts i f step at₀ j₀ j-end sums at j = j-end - j
 
+-- the places on the way
+abbrev entry : tie.At-loop Inv-loop μ-loop → tie.Start Inv-loop μ-loop
+entry c = c .before .before .before .before
+
+abbrev turn : tie.After-sums Inv-loop μ-loop → tie.At-loop Inv-loop μ-loop
+turn c = c .before .before .before .before .before
+
 loop-holds : tie.Need-loop-holds Inv-loop μ-loop
 loop-holds c =
     let b = c .before .before .before in
@@ -39,7 +46,7 @@ loop-holds c =
       refl,
       subst (λ l. Summing (prime 2) (now (a .f)) (a .step) (now (a .ts)) (a .i) m l (a .i) 0)
           (sym (ap bitsOf z ∙ bits-zeros m))
-          (summing-none two),
+          (summing-none binary-isField),
     )
 
 shared-slice-read-add-cyclic : tie.Need-shared-slice-read-add-cyclic Inv-loop μ-loop
@@ -60,14 +67,14 @@ loop-less c = search needs
 loop-again : tie.Need-loop-again Inv-loop μ-loop
 loop-again c =
     let k = c .before .before .before .add-cyclic in
-    let l = c .before .before .before .before .before .before .before .loop in
-    let b = c .before .before .before .before .before .before .before .before .before .before .before in
+    let l = turn (c .before .before) .loop in
+    let b = entry (turn (c .before .before)) in
     let t = now (b .args .ts) in (
       omega arith,
       refl,
       subst (λ n. n < length t) (sym (c .advance .ensures)) (mod-lt _ (omega arith)),
       k .kept .0 ∙ l .inv .3,
-      summing-more two (l .inv .4) (omega arith) (c .advance .ensures) (l .inv .3) (k .ensures),
+      summing-more binary-isField (l .inv .4) (omega arith) (c .advance .ensures) (l .inv .3) (k .ensures),
     )
 
 same-length : tie.Need-same-length Inv-loop μ-loop
@@ -76,7 +83,7 @@ same-length c = search needs
 returns : tie.Need-returns Inv-loop μ-loop
 returns c =
     let l = c .before .loop in
-    summing-end two (l .inv .4) (omega arith) (bits-below (l .sums))
+    summing-end binary-isField (l .inv .4) (omega arith) (bits-below (l .sums))
 
 pub sum-up-spec : {M : Type 1} → statement M
 sum-up-spec =

@@ -51,9 +51,10 @@ loop-less c = search needs
 loop-again : tie.Need-loop-again Inv-loop μ-loop
 loop-again c =
     let e = c .before .before in
-    let l = e .before .before .before .before .before .before .loop in
-    let s = e .before .before .before .before .before .before .before .smaller in
-    let b = e .before .before .before .before .before .before .before .before .before .before in (
+    let t = e .before .before .before .before .before .before in
+    let l = t .loop in
+    let s = t .before .smaller in
+    let b = t .before .before .before .before in (
       omega arith,
       entered-more (now (b .args .terms)) (l .inv .1) (omega (arith, s .ensures))
           (omega (arith, s .ensures, l .inv .1 .size))

@@ -11,15 +11,19 @@ use borrow.Author.Needs.{needs}
 use native.Mathlib.Omega.{arith}
 use Rattle.irreducible.proofs.frobenius.add_rows.Statement.{statement}
 use Rattle.irreducible.proofs.frobenius.add_rows.Tie as tie
-use Rattle.irreducible.proofs.frobenius.add_rows.Reads as reads
-use Rattle.irreducible.proofs.frobenius.add_rows.Lts as lts
-use Rattle.arith.proofs.field.GaloisField.add_multiple.Reads as add-multiple-reads
 
 abbrev Inv-loop : tie.InvT-loop
 Inv-loop field table h sum₀ d j₀ sum j = (d ≡ length h) × Summing field table h sum j
 
 abbrev μ-loop : tie.MeasureT-loop
 μ-loop field table h sum₀ d j₀ sum j = d - j
+
+-- the places on the way
+abbrev entry : tie.At-loop Inv-loop μ-loop → tie.Start Inv-loop μ-loop
+entry c = c .before .before .before .before
+
+abbrev turn : tie.After-sum Inv-loop μ-loop → tie.At-loop Inv-loop μ-loop
+turn c = c .before .before .before .before .before .before
 
 loop-holds : tie.Need-loop-holds Inv-loop μ-loop
 loop-holds c =
@@ -35,21 +39,21 @@ shared-slice-read-add-multiple c = search needs
 mul-add-multiple : tie.Need-mul-add-multiple Inv-loop μ-loop
 mul-add-multiple c = omega (
   arith,
-  c .before .before .before .before .before .before .before .pre .1 .0 .1,
+  entry (c .before .before .before) .pre .1 .0 .1,
   c .before .before .before .loop .inv .0,
 )
 
 mul-add-multiple-2 : tie.Need-mul-add-multiple-2 Inv-loop μ-loop
 mul-add-multiple-2 c = omega (
   arith,
-  c .before .before .before .before .before .before .before .pre .1 .0 .1,
+  entry (c .before .before .before) .pre .1 .0 .1,
   c .before .before .before .loop .inv .0,
 )
 
 add-add-multiple : tie.Need-add-add-multiple Inv-loop μ-loop
 add-add-multiple c = omega (
   arith,
-  c .before .before .before .before .before .before .before .pre .1 .0 .1,
+  entry (c .before .before .before) .pre .1 .0 .1,
   c .before .before .before .loop .inv .0,
 )
 
@@ -62,14 +66,14 @@ part-add-multiple-start c = search needs
 part-add-multiple-end : tie.Need-part-add-multiple-end Inv-loop μ-loop
 part-add-multiple-end c = omega (
   arith,
-  c .before .before .before .before .before .before .before .pre .1 .0 .0,
-  c .before .before .before .before .before .before .before .pre .1 .0 .1,
+  entry (c .before .before .before) .pre .1 .0 .0,
+  entry (c .before .before .before) .pre .1 .0 .1,
   c .before .before .before .loop .inv .0,
 )
 
 add-multiple-requires : tie.Need-add-multiple-requires Inv-loop μ-loop
 add-multiple-requires c κs =
-    let s = c .before .before .before .before .before .before .before .before in (
+    let s = entry (c .before .before .before .before) in (
       s .pre .0,
       row-lent (s .pre .0) (now (s .args .table)) (now (s .args .h)) (s .pre .1 .0 .0)
           (s .pre .1 .0 .1) (c .before .before .before .before .loop .inv .1) (omega arith),
@@ -83,19 +87,19 @@ loop-less c = search needs
 
 loop-again : tie.Need-loop-again Inv-loop μ-loop
 loop-again c =
-    let s = c .before .before .before .before .before .before .before .before .before .before .before in (
+    let s = entry (turn (c .before)) in (
       refl,
       summing-next (s .pre .0) (now (s .args .table)) (now (s .args .h)) (s .pre .1 .0 .0) (s .pre .1 .0 .1)
-          (c .before .before .before .before .before .before .before .loop .inv .1) (omega arith)
+          (turn (c .before) .loop .inv .1) (omega arith)
           (c .before .before .add-multiple .ensures),
     )
 
 same-length : tie.Need-same-length Inv-loop μ-loop
-same-length c = c .before .loop .inv .1 .size ∙ sym (c .before .before .before .before .before .pre .1 .0 .2)
+same-length c = c .before .loop .inv .1 .size ∙ sym (entry (c .before) .pre .1 .0 .2)
 
 returns : tie.Need-returns Inv-loop μ-loop
 returns c =
-    let s = c .before .before .before .before .before in
+    let s = entry (c .before) in
     summing-end (s .pre .0) (now (s .args .table)) (now (s .args .h)) (s .pre .1 .0 .0) (s .pre .1 .0 .1)
     (c .before .loop .inv .1) (omega arith)
 

@@ -7,7 +7,7 @@ use Rattle.lent.proofs.Parts.{front-room}
 use Rattle.lent.proofs.Parts.{zeros-length}
 use Rattle.arith.proofs.Represented.{field-size}
 use Rattle.arith.specs.Represented.{fieldOf}
-use Rattle.bridge.proofs.Polynomials.{monic-length}
+use Rattle.bridge.proofs.Lists.Polynomials.{monic-length}
 use Rattle.meaning.specs.Polynomial.{degree}
 use denote.Ref.{now}
 use mathlib.Core.Path.{_≡_, sym, _∙_}
@@ -16,11 +16,16 @@ use native.Mathlib.Omega.{arith}
 use borrow.Author.Needs.{needs}
 use Rattle.irreducible.proofs.frobenius.fill.Statement.{statement}
 use Rattle.irreducible.proofs.frobenius.fill.Tie as tie
-use Rattle.irreducible.proofs.frobenius.fill.Reads as reads
-use Rattle.irreducible.proofs.frobenius.fill.Lts as lts
-use Rattle.irreducible.proofs.frobenius.fill_rows.Reads as fill-rows-reads
-use Rattle.poly.proofs.residues.power_of_x.Reads as power-of-x-reads
-use Rattle.poly.proofs.common_divisor.trimmed_length.Reads as trimmed-length-reads
+
+-- the places on the way
+abbrev entry : tie.After-power-of-x → tie.Start
+entry c = c .before .before .before .before .before
+
+abbrev after-power-of-x : tie.After-trimmed-length → tie.After-power-of-x
+after-power-of-x c = c .before .before .before .before
+
+abbrev after-trimmed-length : tie.After-table → tie.After-trimmed-length
+after-trimmed-length c = c .before .before .before .before .before
 
 sub-d : tie.Need-sub-d
 sub-d c =
@@ -66,7 +71,7 @@ part-trimmed-length-start c = search needs
 
 part-trimmed-length-end : tie.Need-part-trimmed-length-end
 part-trimmed-length-end c =
-    let s = c .before .before .before .before .before .before .before in
+    let s = entry (c .before .before) in
     let d : length (now (s .args .f)) - 1 ≡ degree (now (s .args .f)) =
     omega (arith, monic-length (fieldOf (s .args .field)) (now (s .args .f)) (s .pre .1 .0 .monic)) in
     front-room (c .before .before .power-of-x .last .1 .1 .1 .0)
@@ -84,18 +89,17 @@ part-fill-rows-start c = search needs
 
 part-fill-rows-end : tie.Need-part-fill-rows-end
 part-fill-rows-end c =
-    let s = c .before .before .before .before .before .before .before .before .before .before in
+    let s = entry (after-power-of-x (c .before)) in
     let d : length (now (s .args .f)) - 1 ≡ degree (now (s .args .f)) =
     omega (arith, monic-length (fieldOf (s .args .field)) (now (s .args .f)) (s .pre .1 .0 .monic)) in
-    trimmed-room (c .before .before .before .before .before .power-of-x .last .1 .1 .1 .0)
+    trimmed-room (after-power-of-x (c .before) .power-of-x .last .1 .1 .1 .0)
     (drop (length (now (s .args .f)) - 1 - 0) (replicate 32 0))
-    (c .before .before .before .before .before .power-of-x .ensures .size ∙ sym d)
+    (after-power-of-x (c .before) .power-of-x .ensures .size ∙ sym d)
     (c .before .trimmed-length .ensures)
 
 fill-rows-requires : tie.Need-fill-rows-requires
 fill-rows-requires c κs =
-    let s =
-    c .before .before .before .before .before .before .before .before .before .before .before .before in
+    let s = entry (after-power-of-x (c .before .before .before)) in
     let d : length (now (s .args .f)) - 1 ≡ degree (now (s .args .f)) =
     omega (arith, monic-length (fieldOf (s .args .field)) (now (s .args .f)) (s .pre .1 .0 .monic)) in (
       s .pre .0,
@@ -104,11 +108,11 @@ fill-rows-requires c κs =
         (
           (
             short-elements (s .pre .1 .0) (drop (length (now (s .args .f)) - 1 - 0) (replicate 32 0)) d
-                (c .before .before .before .before .before .before .before .power-of-x .ensures)
+                (after-power-of-x (c .before .before .before) .power-of-x .ensures)
                 (sym (field-size (s .args .field)))
                 (c .before .before .before .trimmed-length .ensures),
             short-length (s .pre .1 .0) (drop (length (now (s .args .f)) - 1 - 0) (replicate 32 0)) d
-                (c .before .before .before .before .before .before .before .power-of-x .ensures)
+                (after-power-of-x (c .before .before .before) .power-of-x .ensures)
                 (sym (field-size (s .args .field)))
                 (c .before .before .before .trimmed-length .ensures),
           ),
@@ -122,16 +126,14 @@ same-length c = search needs
 
 returns : tie.Need-returns
 returns c =
-    let s =
-    c .before .before .before .before .before .before .before .before .before .before .before .before .before
-    .before .before in
+    let s = entry (after-power-of-x (after-trimmed-length (c .before))) in
     let d : length (now (s .args .f)) - 1 ≡ degree (now (s .args .f)) =
     omega (arith, monic-length (fieldOf (s .args .field)) (now (s .args .f)) (s .pre .1 .0 .monic)) in
     c .before .before .fill-rows .ensures .rows
     (power-trimmed (s .pre .1 .0) (drop (length (now (s .args .f)) - 1 - 0) (replicate 32 0)) d
-    (c .before .before .before .before .before .before .before .before .before .before .power-of-x .ensures)
+    (after-power-of-x (after-trimmed-length (c .before)) .power-of-x .ensures)
     (sym (field-size (s .args .field)))
-    (c .before .before .before .before .before .before .trimmed-length .ensures))
+    (after-trimmed-length (c .before) .trimmed-length .ensures))
 
 pub fill-spec : {M : Type 1} → statement M
 fill-spec =

@@ -2,7 +2,7 @@
 -- Assumes nothing.
 use Rattle.irreducible.proofs.frobenius.Filling.{src-fits, src-elements, src-degree}
 use Rattle.arith.specs.Represented.{fieldOf}
-use Rattle.bridge.proofs.Polynomials.{monic-length}
+use Rattle.bridge.proofs.Lists.Polynomials.{monic-length}
 use denote.Ref.{now}
 use mathlib.Core.Path.{sym, _∙_}
 use Prim.Native.Nat.{_-_}
@@ -13,16 +13,19 @@ use borrow.Author.Needs.{needs}
 use native.Mathlib.Omega.{arith}
 use Rattle.irreducible.proofs.frobenius.fill_rows.Statement.{statement}
 use Rattle.irreducible.proofs.frobenius.fill_rows.Tie as tie
-use Rattle.irreducible.proofs.frobenius.fill_rows.Reads as reads
-use Rattle.irreducible.proofs.frobenius.fill_rows.Lts as lts
-use Rattle.bytes.proofs.copy.Reads as copy-reads
-use Rattle.irreducible.proofs.frobenius.next_row.Reads as next-row-reads
 
 abbrev Inv-loop : tie.InvT-loop
 Inv-loop field f y table₀ d row₀ j₀ table row j = (d ≡ degree f) × Filling field f y table row j
 
 abbrev μ-loop : tie.MeasureT-loop
 μ-loop field f y table₀ d row₀ j₀ table row j = d - j
+
+-- the places on the way
+abbrev entry : tie.At-loop Inv-loop μ-loop → tie.Start Inv-loop μ-loop
+entry c = c .before .before .before .before
+
+abbrev turn : tie.After-copy Inv-loop μ-loop → tie.At-loop Inv-loop μ-loop
+turn c = c .before .before .before .before .before
 
 sub-d : tie.Need-sub-d Inv-loop μ-loop
 sub-d c =
@@ -47,25 +50,25 @@ part-copy-start c = search needs
 
 part-copy-end : tie.Need-part-copy-end Inv-loop μ-loop
 part-copy-end c =
-    let s = c .before .before .before .before .before .before in
+    let s = entry (c .before .before) in
     let i = c .before .before .loop .inv in
     omega (arith, i .0, i .1 .rowSize, i .1 .tableSize, s .pre .1 .0 .small)
 
 mul-copy : tie.Need-mul-copy Inv-loop μ-loop
 mul-copy c =
-    let s = c .before .before .before .before .before .before .before in
+    let s = entry (c .before .before .before) in
     let i = c .before .before .before .loop .inv in
     omega (arith, i .0, i .1 .rowSize, i .1 .tableSize, s .pre .1 .0 .small)
 
 mul-copy-2 : tie.Need-mul-copy-2 Inv-loop μ-loop
 mul-copy-2 c =
-    let s = c .before .before .before .before .before .before .before in
+    let s = entry (c .before .before .before) in
     let i = c .before .before .before .loop .inv in
     omega (arith, i .0, i .1 .rowSize, i .1 .tableSize, s .pre .1 .0 .small)
 
 add-copy : tie.Need-add-copy Inv-loop μ-loop
 add-copy c =
-    let s = c .before .before .before .before .before .before .before in
+    let s = entry (c .before .before .before) in
     let i = c .before .before .before .loop .inv in
     omega (arith, i .0, i .1 .rowSize, i .1 .tableSize, s .pre .1 .0 .small)
 
@@ -77,13 +80,13 @@ part-copy-start-2 c = search needs
 
 part-copy-end-2 : tie.Need-part-copy-end-2 Inv-loop μ-loop
 part-copy-end-2 c =
-    let s = c .before .before .before .before .before .before .before in
+    let s = entry (c .before .before .before) in
     let i = c .before .before .before .loop .inv in
     omega (arith, i .0, i .1 .rowSize, i .1 .tableSize, s .pre .1 .0 .small)
 
 copy-requires : tie.Need-copy-requires Inv-loop μ-loop
 copy-requires c κs =
-    let s = c .before .before .before .before .before .before .before .before in
+    let s = entry (c .before .before .before .before) in
     let i = c .before .before .before .before .loop .inv in
     src-fits (s .pre .0) (now (s .args .y)) (s .pre .1 .0) (i .0) (i .1) (omega arith)
 
@@ -95,15 +98,14 @@ part-row-start c = search needs
 
 part-row-end : tie.Need-part-row-end Inv-loop μ-loop
 part-row-end c =
-    let s = c .before .before .before .before .before .before .before .before .before .before .before in
-    let i = c .before .before .before .before .before .before .before .loop .inv in
+    let s = entry (turn (c .before .before)) in
+    let i = turn (c .before .before) .loop .inv in
     omega (arith, i .0, i .1 .rowSize, i .1 .tableSize, s .pre .1 .0 .small)
 
 next-row-requires : tie.Need-next-row-requires Inv-loop μ-loop
 next-row-requires c κs =
-    let s =
-    c .before .before .before .before .before .before .before .before .before .before .before .before in
-    let i = c .before .before .before .before .before .before .before .before .loop .inv in (
+    let s = entry (turn (c .before .before .before)) in
+    let i = turn (c .before .before .before) .loop .inv in (
       s .pre .0,
       (
         s .pre .1 .0,
@@ -130,10 +132,8 @@ loop-less c = search needs
 
 loop-again : tie.Need-loop-again Inv-loop μ-loop
 loop-again c =
-    let s =
-    c .before .before .before .before .before .before .before .before .before .before .before .before .before
-    .before in
-    let i = c .before .before .before .before .before .before .before .before .before .before .loop .inv in (
+    let s = entry (turn (c .before .before .before .before .before)) in
+    let i = turn (c .before .before .before .before .before) .loop .inv in (
       i .0,
       filling-next (s .pre .0) (now (s .args .y)) (s .pre .1 .0) (i .0) (i .1) (omega arith)
           (c .before .before .before .before .before .copy .ensures .1) (c .before .next-row .ensures),
@@ -141,11 +141,11 @@ loop-again c =
 
 same-length : tie.Need-same-length Inv-loop μ-loop
 same-length c = c .before .loop .inv .1 .tableSize
-    ∙ sym (c .before .before .before .before .before .pre .1 .1 .1)
+    ∙ sym (entry (c .before) .pre .1 .1 .1)
 
 returns : tie.Need-returns Inv-loop μ-loop
 returns c =
-    let s = c .before .before .before .before .before in
+    let s = entry (c .before) in
     let i = c .before .loop .inv in
     filling-end (s .pre .0) (now (s .args .y)) (s .pre .1 .0) (i .1) (omega (arith, i .0))
 

@@ -12,10 +12,13 @@ use native.Mathlib.Omega.{arith}
 use borrow.Author.Needs.{needs}
 use Rattle.irreducible.proofs.frobenius.next_row.Statement.{statement}
 use Rattle.irreducible.proofs.frobenius.next_row.Tie as tie
-use Rattle.irreducible.proofs.frobenius.next_row.Reads as reads
-use Rattle.irreducible.proofs.frobenius.next_row.Lts as lts
-use Rattle.bytes.proofs.copy.Reads as copy-reads
-use Rattle.poly.proofs.residues.multiply_modulo.Reads as multiply-modulo-reads
+
+-- the places on the way
+abbrev entry : tie.After-copy → tie.Start
+entry c = c .before .before .before .before .before .before
+
+abbrev after-copy : tie.After-row → tie.After-copy
+after-copy c = c .before .before .before .before .before .before
 
 slice-aggregate-copy : tie.Need-slice-aggregate-copy
 slice-aggregate-copy c = search needs
@@ -38,7 +41,7 @@ part-multiply-modulo-end c = search needs
 
 multiply-modulo-requires : tie.Need-multiply-modulo-requires
 multiply-modulo-requires c κs =
-    let s = c .before .before .before .before .before .before .before .before .before .before in
+    let s = entry (c .before .before .before .before) in
     let F = fieldOf (s .args .field) in
     let r = now (s .args .row) in
     let e = sym (c .before .before .before .before .copy .ensures .1) in (
@@ -65,15 +68,13 @@ same-length c = search needs
 
 returns : tie.Need-returns
 returns c =
-    let s =
-    c .before .before .before .before .before .before .before .before .before .before .before .before
-    .before in
+    let s = entry (after-copy (c .before)) in
     let F = fieldOf (s .args .field) in
     let r = now (s .args .row) in
     subst
     (λ u. Residue (s .args .field) (now (s .args .f)) (times F (now (s .args .y)) u)
     (c .before .before .multiply-modulo .last .1 .1 .1 .1 .0))
-    (ap (take (length r - 0)) (c .before .before .before .before .before .before .before .copy .ensures .1)
+    (ap (take (length r - 0)) (after-copy (c .before) .copy .ensures .1)
     ∙ old-back (s .args .field) (now (s .args .y)) r (s .pre .1 .0) (s .pre .1 .1 .1 .1) (s .pre .1 .1 .0 .1)
     (s .pre .1 .1 .0 .0))
     (c .before .before .multiply-modulo .ensures)

@@ -10,10 +10,13 @@ use denote.Ref.{now}
 use borrow.Author.Needs.{needs}
 use Rattle.irreducible.proofs.frobenius.raise.Statement.{statement}
 use Rattle.irreducible.proofs.frobenius.raise.Tie as tie
-use Rattle.irreducible.proofs.frobenius.raise.Reads as reads
-use Rattle.irreducible.proofs.frobenius.raise.Lts as lts
-use Rattle.bytes.proofs.copy.Reads as copy-reads
-use Rattle.irreducible.proofs.frobenius.add_rows.Reads as add-rows-reads
+
+-- the places on the way
+abbrev entry : tie.After-add-rows → tie.Start
+entry c = c .before .before .before .before .before
+
+abbrev after-add-rows : tie.After-h → tie.After-add-rows
+after-add-rows c = c .before .before .before .before .before .before
 
 sub-add-rows : tie.Need-sub-add-rows
 sub-add-rows c = search needs
@@ -44,26 +47,25 @@ part-copy-start c = search needs
 
 part-copy-end : tie.Need-part-copy-end
 part-copy-end c =
-    let s = c .before .before .before .before .before .before .before in
+    let s = entry (c .before .before) in
     front-room (c .before .before .add-rows .last .1 .1 .1 .0)
     (drop (length (now (s .args .h)) - 0) (replicate 32 0))
     (c .before .before .add-rows .ensures .size)
 
 copy-requires : tie.Need-copy-requires
 copy-requires c κs = front-fits _
-    (length (now (c .before .before .before .before .before .before .before .before .before .args .h)))
+    (length (now (entry (c .before .before .before .before) .args .h)))
 
 same-length : tie.Need-same-length
 same-length c = search needs
 
 returns : tie.Need-returns
 returns c =
-    let s =
-    c .before .before .before .before .before .before .before .before .before .before .before .before in
-    let r = c .before .before .before .before .before .before .before .add-rows .ensures in
+    let s = entry (after-add-rows (c .before)) in
+    let r = after-add-rows (c .before) .add-rows .ensures in
     subst (Summed (s .args .field) (now (s .args .table)) (now (s .args .h)))
     (sym (c .before .before .copy .ensures .1
-    ∙ front-copied (c .before .before .before .before .before .before .before .add-rows .last .1 .1 .1 .0)
+    ∙ front-copied (after-add-rows (c .before) .add-rows .last .1 .1 .1 .0)
     (drop (length (now (s .args .h)) - 0) (replicate 32 0)) (now (s .args .h)) (r .size))) r
 
 pub raise-spec : {M : Type 1} → statement M

@@ -13,6 +13,13 @@ use borrow.Author.Needs.{needs}
 use Rattle.lent.proofs.blocks.block_is_zero.Statement.{statement}
 use Rattle.lent.proofs.blocks.block_is_zero.Tie as tie
 
+-- the places on the way: the entry, and the sums
+abbrev entry : tie.After-sum-up → tie.Start
+entry u = u .before .before .before .before
+
+abbrev summed : tie.After-sums3 → tie.After-sum-up
+summed c = c .before .before
+
 sub-sum-up : tie.Need-sub-sum-up
 sub-sum-up c = search needs
 
@@ -50,8 +57,8 @@ part-are-zero-start c = search needs
 
 part-are-zero-end : tie.Need-part-are-zero-end
 part-are-zero-end c =
-    let b = c .before .before .before .before .before .before in
-    let u = c .before .before .sum-up in
+    let b = entry (summed c) in
+    let u = summed c .sum-up in
     zeros-enough (b .args .m) 256 (b .pre .1 .small) (u .last .1 .0) (u .kept .1 .0)
 
 are-zero-requires : tie.Need-are-zero-requires
@@ -59,8 +66,9 @@ are-zero-requires c κs = search needs
 
 returns : tie.Need-returns
 returns c =
-    let u = c .before .before .before .before .sum-up in
-    let b = c .before .before .before .before .before .before .before .before in
+    let k = summed (c .before .before) in
+    let u = k .sum-up in
+    let b = entry k in
     let a = b .args in
     let l = b .pre .1 .small in
     block-zero (fieldOf (a .field)) (now (a .f)) (a .q) (now (a .ts)) (a .i) (a .m)

@@ -9,7 +9,7 @@ use lib.Dec.{T}
 use denote.Ref.{now}
 use borrow.Author.Tests.{not-true, not-false}
 use borrow.Author.Needs.{needs}
-use Rattle.bridge.proofs.KnownActions.{allZero}
+use Rattle.bridge.proofs.Sequences.KnownActions.{allZero}
 use Rattle.arith.specs.Slices.{part}
 use Rattle.lent.proofs.Zeros.{zeros-none, zeros-more, zeros-end, nonzero-part}
 use Rattle.lent.proofs.halves.all_zero.Statement.{statement}

@@ -13,6 +13,10 @@ use borrow.Author.Needs.{needs}
 use Rattle.lent.proofs.halves.load.Statement.{statement}
 use Rattle.lent.proofs.halves.load.Tie as tie
 
+-- the places on the way
+abbrev entry : tie.After-work → tie.Start
+entry c = c .before .before .before .before .before
+
 mul-at : tie.Need-mul-at
 mul-at c = search needs
 
@@ -36,13 +40,12 @@ same-length c = search needs
 
 returns : tie.Need-returns
 returns c =
-    let b = c .before .before .before .before .before .before in
+    let b = entry (c .before) in
     let w = now (b .args .work) in
     let t = now (b .args .terms) in
     let x = 4096 * b .args .h in
     let n = length t in
-    let e =
-    c .before .before .copy .ensures .1
+    let e = c .before .before .copy .ensures .1
     ∙ copied (part w x (x + n - x)) t (omega (arith, length-take (x + n - x) (drop x w))) in
     placed w (b .args .h) (1 - b .args .h) (omega arith) (omega arith) refl t (omega arith)
     (put-paste w x n _ (ap length e) ∙ ap (λ y. paste w x y n) e)

@@ -16,6 +16,13 @@ Inv-loop terms f₀ g₀ a known₀ f g known = (known .seen ≤ length terms) �
 abbrev μ-loop : tie.MeasureT-loop
 μ-loop terms f₀ g₀ a known₀ f g known = length terms - known .seen
 
+-- the function's entry, from the loop, and the loop from the place after a step
+abbrev entry : tie.At-loop Inv-loop μ-loop → tie.Start Inv-loop μ-loop
+entry l = l .before .before .before .before
+
+abbrev loop : tie.After-step Inv-loop μ-loop → tie.At-loop Inv-loop μ-loop
+loop k = k .before .before .before .before .before
+
 slice-write-f : tie.Need-slice-write-f Inv-loop μ-loop
 slice-write-f c = omega (arith, c .before .before .before .pre .0 .1 .size)
 
@@ -41,21 +48,21 @@ step-requires c κs =
 loop-less : tie.Need-loop-less Inv-loop μ-loop
 loop-less c =
     let k = c .before .before .before .before in
-    let l = k .before .before .before .before .before in
-    let s = k .step .ensures (now (l .before .before .before .before .args .terms)) (l .loop .inv .1) in
+    let l = loop k in
+    let s = k .step .ensures (now (entry l .args .terms)) (l .loop .inv .1) in
     omega (arith, s .more, s .most)
 
 loop-again : tie.Need-loop-again Inv-loop μ-loop
 loop-again c =
     let k = c .before .before .before .before in
-    let l = k .before .before .before .before .before in
-    let s = k .step .ensures (now (l .before .before .before .before .args .terms)) (l .loop .inv .1) in
+    let l = loop k in
+    let s = k .step .ensures (now (entry l .args .terms)) (l .loop .inv .1) in
     (s .most, s .holds)
 
 same-length : tie.Need-same-length Inv-loop μ-loop
 same-length c =
     let l = c .before .before in
-    omega (arith, l .loop .inv .1 .first .size, l .before .before .before .before .pre .0 .1 .size)
+    omega (arith, l .loop .inv .1 .first .size, entry l .pre .0 .1 .size)
 
 same-length-2 : tie.Need-same-length-2 Inv-loop μ-loop
 same-length-2 c = omega (arith, c .before .before .loop .inv .1 .second .size)

@@ -3,12 +3,16 @@ use Prim.Native.Nat.{_+_, _-_, _/_, _%_}
 use mathlib.Core.Path.{refl, sym, ap, _∙_}
 use lib.ListN.{getD}
 use denote.Ref.{now}
-use Rattle.bridge.proofs.WordLists.{digit-below, one-bit}
+use Rattle.bridge.proofs.Binary.WordLists.{digit-below, one-bit}
 use Rattle.massey.specs.binary.Binary.{none, taken}
 use native.Mathlib.Omega.{arith}
 use borrow.Author.Needs.{needs}
 use Rattle.massey.proofs.binary.cancel.Statement.{statement}
 use Rattle.massey.proofs.binary.cancel.Tie as tie
+
+-- the function's entry, from the place after the alignment
+abbrev entry : tie.After-align → tie.Start
+entry a = a .before .before .before .before .before .before .before .before .before .before
 
 add-bit-at : tie.Need-add-bit-at
 add-bit-at c = search needs
@@ -45,7 +49,7 @@ add-moved-requires : tie.Need-add-moved-requires
 add-moved-requires c κs =
     let a = c .before .before .before .before .before .before in
     let k = a .align .ensures in
-    let p = a .before .before .before .before .before .before .before .before .before .before .pre in
+    let p = entry a .pre in
     (p .words .0, k .words, p .from, omega (arith, ap (λ r. r .seen) (k .numbers), k .most, k .near))
 
 same-length-2 : tie.Need-same-length-2
@@ -59,10 +63,9 @@ returns-2 c =
     let m = c .before .before in
     let a = m .before .before .before .before .before .before .before in
     let i = a .before .before in
-    let s = i .before .before .before .before .before .before .before .before in
-    let r = s .args .known in
+    let r = entry a .args .known in
     let j = 4157 + r .degree + r .earlier - r .seen in
-    let l = digit-below (getD (now (s .args .f)) (j / 64) 0) (j % 64) in
+    let l = digit-below (getD (now (entry a .args .f)) (j / 64) 0) (j % 64) in
     let e = i .before .bit-at .ensures in
     taken (sym e ∙ one-bit _ (omega arith) (i .if1 .left)) (a .align .ensures) (m .add-moved .ensures)
 

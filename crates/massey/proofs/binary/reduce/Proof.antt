@@ -16,6 +16,13 @@ Inv-loop terms known₀ f₀ g₀ a l known f g = (known .degree ≡ l) × Words
 abbrev μ-loop : tie.MeasureT-loop
 μ-loop terms known₀ f₀ g₀ a l known f g = 2 * l - known .seen
 
+-- the function's entry, from the loop, and the loop from the place after a reduction step
+abbrev entry : tie.At-loop Inv-loop μ-loop → tie.Start Inv-loop μ-loop
+entry l = l .before .before .before .before
+
+abbrev loop : tie.After-cancel Inv-loop μ-loop → tie.At-loop Inv-loop μ-loop
+loop k = k .before .before .before .before .before
+
 loop-holds : tie.Need-loop-holds Inv-loop μ-loop
 loop-holds c =
     let s = c .before .before .before in
@@ -31,31 +38,31 @@ cancel-requires c κs =
 add-known : tie.Need-add-known Inv-loop μ-loop
 add-known c =
     let k = c .before .before .before .before .before in
-    let l = k .before .before .before .before .before .loop in
+    let l = loop k .loop in
     omega (arith, cancelled-numbers (k .cancel .ensures), l .inv .0, words-turning-degree _ (l .inv .1))
 
 loop-less : tie.Need-loop-less Inv-loop μ-loop
 loop-less c =
     let k = c .before .before .before .before .before in
-    let l = k .before .before .before .before .before .loop in
+    let l = loop k .loop in
     omega (arith, cancelled-numbers (k .cancel .ensures), l .inv .0)
 
 loop-again : tie.Need-loop-again Inv-loop μ-loop
 loop-again c =
     let k = c .before .before .before .before .before in
-    let l = k .before .before .before .before .before .loop in
+    let l = loop k .loop in
     let e = k .cancel .ensures in
     (cancelled-numbers e .1 ∙ l .inv .0, words-turning-cancelled _ (l .inv .1) (omega (arith, l .inv .0)) e)
 
 same-length : tie.Need-same-length Inv-loop μ-loop
 same-length c =
     let l = c .before .before in
-    omega (arith, l .loop .inv .1 .first .size, l .before .before .before .before .pre .1 .first .size)
+    omega (arith, l .loop .inv .1 .first .size, entry l .pre .1 .first .size)
 
 same-length-2 : tie.Need-same-length-2 Inv-loop μ-loop
 same-length-2 c =
     let l = c .before .before in
-    omega (arith, l .loop .inv .1 .second .size, l .before .before .before .before .pre .1 .second .size)
+    omega (arith, l .loop .inv .1 .second .size, entry l .pre .1 .second .size)
 
 returns : tie.Need-returns Inv-loop μ-loop
 returns c =

@@ -1,20 +1,34 @@
 -- `binary::shortest` meets its contract: the first polynomial that fits is written. Assumes nothing.
-use Prim.Native.Nat.{_+_, _≤_}
+use Prim.Native.Nat.{ℕ, _+_, _*_, _-_, _/_, _≤_}
 use mathlib.Core.Path.{refl}
 use lib.ListN.{length}
 use native.Mathlib.Nat.{div-add-mod', mod-lt}
 use denote.Ref.{now}
-use Rattle.bridge.proofs.Coefficients.{getD-zeros}
+use Rattle.bridge.proofs.Lists.Coefficients.{getD-zeros}
 use Rattle.massey.proofs.binary.Turning.{hold-degree, reduced-shortest}
 use native.Mathlib.Omega.{arith}
 use borrow.Author.Needs.{needs}
 use Rattle.massey.proofs.binary.shortest.Statement.{statement}
 use Rattle.massey.proofs.binary.shortest.Tie as tie
 
+-- the function's entry, from the place after all terms
+abbrev entry : tie.After-after-all → tie.Start
+entry a = a .before .before .before .before .before .before .before .before .before
+
+-- the place after all terms, from that after the reduction
+abbrev all : tie.After-reduce → tie.After-after-all
+all r = r .before .before .before .before .before
+
 degree-bound : (a : tie.After-after-all) → a .after-all .result .degree ≤ 4096
 degree-bound a =
-    let s = a .before .before .before .before .before .before .before .before .before in
-    hold-degree (s .pre .0 .terms) (a .after-all .ensures .0) (a .after-all .ensures .1)
+    hold-degree (entry a .pre .0 .terms) (a .after-all .ensures .0) (a .after-all .ensures .1)
+
+-- the words below the first word of the terms have no bit of theirs
+lowest-word : (m : ℕ) → m ≤ 4096 → 64 * (64 - (m + 63) / 64) + m ≤ 4096
+lowest-word m b =
+    let e = div-add-mod' (m + 63) 64 in
+    let k = mod-lt (m + 63) {m = 64} (omega arith) in
+    omega arith
 
 add-a : tie.Need-add-a
 add-a c = search needs
@@ -37,10 +51,8 @@ slice-aggregate-after-all-2 c = search needs
 after-all-requires : tie.Need-after-all-requires
 after-all-requires c κs =
     let s = c .before .before .before .before .before .before .before .before in
-    let m = length (now (s .args .terms)) + 63 in
-    let e = div-add-mod' m 64 in
-    let k = mod-lt m {m = 64} (omega arith) in
-    ((omega arith, c .before .before .before .pack .ensures), (refl, getD-zeros 66))
+    let b = lowest-word (length (now (s .args .terms))) (s .pre .0 .terms) in
+    ((b, c .before .before .before .pack .ensures), (refl, getD-zeros 66))
 
 slice-aggregate-reduce : tie.Need-slice-aggregate-reduce
 slice-aggregate-reduce c = search needs
@@ -51,27 +63,23 @@ slice-aggregate-reduce-2 c = search needs
 reduce-requires : tie.Need-reduce-requires
 reduce-requires c κs =
     let a = c .before .before .before .before in
-    let s = a .before .before .before .before .before .before .before .before .before in
-    let m = length (now (s .args .terms)) + 63 in
-    let e = div-add-mod' m 64 in
-    let k = mod-lt m {m = 64} (omega arith) in
-    ((omega arith, a .after-all .ensures .0), a .after-all .ensures .1)
+    let b = lowest-word (length (now (entry a .args .terms))) (entry a .pre .0 .terms) in
+    ((b, a .after-all .ensures .0), a .after-all .ensures .1)
 
 slice-aggregate-unpack : tie.Need-slice-aggregate-unpack
 slice-aggregate-unpack c = search needs
 
 sub-unpack : tie.Need-sub-unpack
-sub-unpack c = omega (arith, degree-bound (c .before .before .before .before .before .before .before .before))
+sub-unpack c = omega (arith, degree-bound (all (c .before .before .before)))
 
 add-unpack : tie.Need-add-unpack
-add-unpack c = omega (arith, degree-bound (c .before .before .before .before .before .before .before .before))
+add-unpack c = omega (arith, degree-bound (all (c .before .before .before)))
 
 unpack-requires : tie.Need-unpack-requires
 unpack-requires c κs =
-    let a = c .before .before .before .before .before .before .before .before .before in
-    let s = a .before .before .before .before .before .before .before .before .before in
+    let a = all (c .before .before .before .before) in
     let l = degree-bound a in
-    (omega arith, omega arith, omega (arith, s .pre .1))
+    (omega arith, omega arith, omega (arith, entry a .pre .1))
 
 clear-requires : tie.Need-clear-requires
 clear-requires c κs = search needs
@@ -86,9 +94,8 @@ returns : tie.Need-returns
 returns c =
     let u = c .before .before .before .before .before .before in
     let r = u .before .before .before .before .before in
-    let a = r .before .before .before .before .before in
-    let s = a .before .before .before .before .before .before .before .before .before in
-    let e = a .after-all .ensures in
+    let s = entry (all r) in
+    let e = all r .after-all .ensures in
     reduced-shortest (now (s .args .terms)) (s .pre .0 .terms) (e .0) (e .1) (r .reduce .ensures)
     (u .unpack .ensures) (c .before .before .clear .ensures)
 

@@ -7,6 +7,10 @@ use borrow.Author.Needs.{needs}
 use Rattle.massey.proofs.binary.step.Statement.{statement}
 use Rattle.massey.proofs.binary.step.Tie as tie
 
+-- the function's entry, from the place after the numbers of the terms that f fits
+abbrev entry : tie.After-reached → tie.Start
+entry k = k .before .before .before .before .before
+
 next-one-requires : tie.Need-next-one-requires
 next-one-requires c κs = search needs
 
@@ -24,7 +28,7 @@ returns c ts h =
     record {
       more = omega (arith, n .low, n .high);
       most = omega (arith, n .high);
-      holds = hold-reached h (c .before .before .before .before .before .before .pre .0 .1) n u;
+      holds = hold-reached h (entry (c .before) .pre .0 .1) n u;
     }
 
 align-requires : tie.Need-align-requires
@@ -34,7 +38,7 @@ align-requires c κs =
     let u = k .reached .ensures in
     let e = ap (λ r. r .seen) u in
     let d = ap (λ r. r .aligned) u in
-    let p = k .before .before .before .before .before .pre in
+    let p = entry k .pre in
     (p .1 .0 .1, omega arith, omega (arith, n .low), omega (arith, n .high))
 
 correct-requires : tie.Need-correct-requires
@@ -48,7 +52,7 @@ correct-requires c κs =
     let d = ap (λ r. r .degree) (k .numbers) ∙ ap (λ r. r .degree) u in
     let v = ap (λ r. r .seen) u in
     let l = lt-of-le-ne (n .high) (i .if1 .left) in
-    let p = i .before .before .before .before .before .before .pre in
+    let p = entry (i .before) .pre in
     record {
       words = (p .1 .0 .0, k .words);
       left = omega (arith, p .0 .1, l);
@@ -72,7 +76,7 @@ returns-2 c ts h =
     let n = i .before .before .next-one .ensures in
     let u = i .before .reached .ensures in
     let l = lt-of-le-ne (n .high) (i .if1 .left) in
-    let p = i .before .before .before .before .before .before .pre .0 .1 in
+    let p = entry (i .before) .pre .0 .1 in
     let e = ap (λ r. r .seen) (k .numbers) ∙ ap (λ r. r .seen) u in
     let s =
     o .correct .ensures ts (hold-aligned ts k (hold-reached h p n u))

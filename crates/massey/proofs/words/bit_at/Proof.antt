@@ -1,6 +1,6 @@
 -- `words::bit_at` meets its contract. Assumes nothing.
 use mathlib.Core.Path.{refl}
-use Rattle.bridge.proofs.Monics.{digit}
+use Rattle.bridge.proofs.Lists.Monics.{digit}
 use borrow.Author.Needs.{needs}
 use Rattle.massey.proofs.words.bit_at.Statement.{statement}
 use Rattle.massey.proofs.words.bit_at.Tie as tie

@@ -6,8 +6,6 @@ use Rattle.poly.proofs.common_divisor.Trimming.{trimming-found, trimmin
 use native.Mathlib.Omega.{arith}
 use Rattle.poly.proofs.common_divisor.trimmed_length.Statement.{statement}
 use Rattle.poly.proofs.common_divisor.trimmed_length.Tie as tie
-use Rattle.poly.proofs.common_divisor.trimmed_length.Reads as reads
-use Rattle.poly.proofs.common_divisor.trimmed_length.Lts as lts
 
 abbrev Inv-loop : tie.InvT-loop
 Inv-loop f n₀ n = Trimming f n

@@ -3,14 +3,14 @@
 use native.Mathlib.Omega.{arith}
 use borrow.Author.Needs.{needs}
 use Rattle.arith.proofs.Represented.{field-isField}
-use Rattle.poly.proofs.common_divisor.Euclid.{some, euclid-divisible, turned}
+use Rattle.poly.proofs.common_divisor.Euclid.{divisor-nonempty, euclid-divisible, euclid-turned}
 use Rattle.poly.proofs.common_divisor.turn.Statement.{statement}
 use Rattle.poly.proofs.common_divisor.turn.Tie as tie
 
 sub-e : tie.Need-sub-e
 sub-e c =
     let s = c .before .before in
-    omega (arith, some (field-isField (s .pre .0)) (s .pre .1))
+    omega (arith, divisor-nonempty (field-isField (s .pre .0)) (s .pre .1))
 
 divide-requires : tie.Need-divide-requires
 divide-requires c κs =
@@ -36,7 +36,7 @@ returns : tie.Need-returns
 returns c =
     let r = c .before .before .before .before .before in
     let s = r .before .before .before .before in
-    turned (s .pre .0) (s .pre .1) (r .divide .ensures) (c .trimmed-length .ensures)
+    euclid-turned (s .pre .0) (s .pre .1) (r .divide .ensures) (c .trimmed-length .ensures)
 
 pub turn-spec : {M : Type 1} → statement M
 turn-spec =

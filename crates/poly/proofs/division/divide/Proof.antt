@@ -5,10 +5,14 @@ use mathlib.Core.Path.{ap, _∙_}
 use denote.Ref.{now}
 use Rattle.meaning.specs.Field.{negative}
 use Rattle.meaning.specs.Polynomial.{degree}
-use Rattle.bridge.proofs.Polynomials.{leading-nonempty}
+use Rattle.bridge.proofs.Lists.Polynomials.{leading-nonempty}
 use Rattle.arith.specs.Represented.{fieldOf}
 use Rattle.poly.proofs.division.divide.Statement.{statement}
 use Rattle.poly.proofs.division.divide.Tie as tie
+
+-- the places on the way
+abbrev entry : tie.After-inverse → tie.Start
+entry c = c .before .before .before .before .before
 
 sub-e : tie.Need-sub-e
 sub-e c =
@@ -29,7 +33,7 @@ negative-requires c κs = search needs
 divide-by-requires : tie.Need-divide-by-requires
 unfolding degree
 divide-by-requires c κs =
-    let s = c .before .before .before .before .before .before in
+    let s = entry (c .before) in
     let F = fieldOf (s .args .field) in
     (s .pre .0, (s .pre .1, c .negative .ensures ∙ ap (negative F) (c .before .inverse .ensures)))
 

@@ -8,13 +8,13 @@ use lib.ListN.{length, getD}
 use denote.Ref.{now}
 use Rattle.meaning.specs.Field.{negative}
 use Rattle.meaning.specs.Polynomial.{degree}
-use Rattle.bridge.proofs.Interpretation.{number-mul-comm, number-mul-negative}
-use Rattle.bridge.proofs.Polynomials.{leading-nonempty, getD-below}
+use Rattle.bridge.proofs.Basics.Interpretation.{number-mul-comm, number-mul-negative}
+use Rattle.bridge.proofs.Lists.Polynomials.{leading-nonempty, getD-below}
 use Rattle.arith.specs.Represented.{fieldOf}
 use Rattle.arith.specs.Inverse.{inverse}
 use Rattle.arith.proofs.Represented.{field-isField}
 use Rattle.poly.proofs.division.Dividing.{Dividing, dividing-start, dividing-next, dividing-end}
-use Rattle.poly.proofs.division.Dividing.{lent-length, reduced-put, inverse-digit}
+use Rattle.poly.proofs.division.Dividing.{lent-length-at, reduced-put-at, inverse-digit}
 use Rattle.poly.proofs.division.divide_by.Statement.{statement}
 use Rattle.poly.proofs.division.divide_by.Tie as tie
 
@@ -44,6 +44,9 @@ slice-read-product c = search needs
 product-requires : tie.Need-product-requires Inv-loop μ-loop
 product-requires c κs = search needs
 
+smaller-requires : tie.Need-smaller-requires Inv-loop μ-loop
+smaller-requires c κs = search needs
+
 sub-add-multiple : tie.Need-sub-add-multiple Inv-loop μ-loop
 sub-add-multiple c = search needs
 
@@ -67,13 +70,15 @@ part-add-multiple-end-2 c = search needs
 
 add-multiple-requires : tie.Need-add-multiple-requires Inv-loop μ-loop
 add-multiple-requires c κs =
-    let l = c .before .before .before .before .before in
+    let k = c .before .before in
+    let l = k .before .before .before .before in
     let s = l .before .before .before in
     let a = s .args in
-    let k =
-    lent-length (fieldOf (a .field)) (now (a .g)) (leading-nonempty (now (a .g)) (s .pre .1 .0 .nonzero))
-    (l .loop .f) (l .loop .i - 1) (omega arith) (omega (arith, l .loop .inv .within, l .loop .inv .size)) in
-    (s .pre .0, omega (arith, k))
+    let m = lent-length-at (fieldOf (a .field)) (now (a .g))
+    (leading-nonempty (now (a .g)) (s .pre .1 .0 .nonzero)) (l .loop .f) (l .loop .i - 1) (omega arith)
+    (omega (arith, l .loop .inv .within, l .loop .inv .size)) (k .smaller .result)
+    (k .smaller .ensures ∙ omega arith) in
+    (s .pre .0, m)
 
 loop-less : tie.Need-loop-less Inv-loop μ-loop
 loop-less c = search needs
@@ -81,7 +86,8 @@ loop-less c = search needs
 loop-again : tie.Need-loop-again Inv-loop μ-loop
 unfolding degree
 loop-again c =
-    let q = c .before .before .before .before .before in
+    let k = c .before .before .before .before .before in
+    let q = k .before in
     let l = q .before .before .before in
     let s = l .before .before .before in
     let a = s .args in
@@ -92,9 +98,11 @@ loop-again c =
     let d = inverse F (getD (now (a .g)) (length (now (a .g)) - 1) 0) in
     dividing-next I (s .pre .1 .0) (l .loop .inv) (omega arith)
     (inverse-digit I (s .pre .1 .0) b (getD-below I (l .loop .f) (l .loop .inv .elements) i))
-    (reduced-put F (now (a .g)) (leading-nonempty (now (a .g)) (s .pre .1 .0 .nonzero)) (l .loop .f) i
+    (reduced-put-at F (now (a .g)) (leading-nonempty (now (a .g)) (s .pre .1 .0 .nonzero)) (l .loop .f) i
     (omega arith)
     (omega (arith, l .loop .inv .within, l .loop .inv .size))
+    (k .smaller .result)
+    (k .smaller .ensures ∙ omega arith)
     ((F .mul) d b)
     (q .product .ensures
     ∙ ap (λ u. (F .mul) u b) (s .pre .1 .1)
@@ -123,6 +131,7 @@ divide-by-spec =
     sub-i
     slice-read-product
     product-requires
+    smaller-requires
     sub-add-multiple
     sub-add-multiple-2
     part-add-multiple-start

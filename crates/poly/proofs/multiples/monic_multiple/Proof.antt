@@ -4,22 +4,29 @@ use borrow.Author.Needs.{needs}
 use native.Mathlib.Omega.{arith}
 use denote.Ref.{now}
 use Rattle.arith.proofs.Represented.{field-isField}
-use Rattle.poly.proofs.multiples.Laying.{some, left-as-copied, left-multiplied}
+use Rattle.poly.proofs.multiples.MonicMultiples.{factor-nonempty, left-as-copied, left-multiplied}
 use Rattle.poly.proofs.multiples.monic_multiple.Statement.{statement}
 use Rattle.poly.proofs.multiples.monic_multiple.Tie as tie
+
+-- the places on the way
+abbrev entry : tie.After-copy → tie.Start
+entry c = c .before .before .before .before
+
+abbrev after-copy : tie.Then1 → tie.After-copy
+after-copy c = c .before .before .before .before
 
 copy-requires : tie.Need-copy-requires
 copy-requires c κs = search needs
 
 sub-c : tie.Need-sub-c
 sub-c c =
-    let s = c .before .before .before .before .before .before in
-    omega (arith, some (field-isField (s .pre .0)) (s .pre .1 .0))
+    let s = entry (c .before .before) in
+    omega (arith, factor-nonempty (field-isField (s .pre .0)) (s .pre .1 .0))
 
 shared-slice-read-c : tie.Need-shared-slice-read-c
 shared-slice-read-c c =
-    let s = c .before .before .before .before .before .before .before in
-    omega (arith, some (field-isField (s .pre .0)) (s .pre .1 .0))
+    let s = entry (c .before .before .before) in
+    omega (arith, factor-nonempty (field-isField (s .pre .0)) (s .pre .1 .0))
 
 inverse-requires : tie.Need-inverse-requires
 inverse-requires c κs = search needs
@@ -43,8 +50,8 @@ returns : tie.Need-returns
 returns c =
     let m = c .before .before in
     let i = m .before .before in
-    let y = i .before .before .before .before .before in
-    let s = y .before .before .before .before in
+    let y = after-copy (i .before) in
+    let s = entry y in
     left-multiplied (field-isField (s .pre .0)) (s .pre .1 .0) (now (s .args .to)) (y .copy .ensures .1)
     (i .inverse .ensures) (m .multiply .ensures)
 
@@ -54,7 +61,7 @@ same-length-2 c = search needs
 returns-2 : tie.Need-returns-2
 returns-2 c =
     let y = c .before .before .before .before in
-    let s = y .before .before .before .before in
+    let s = entry y in
     left-as-copied (field-isField (s .pre .0)) (s .pre .1 .0) (now (s .args .to)) (y .copy .ensures .1)
     (omega (arith, c .if1 .left))
 

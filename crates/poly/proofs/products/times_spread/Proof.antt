@@ -2,7 +2,7 @@
 -- multiplied. Assumes nothing.
 use borrow.Author.Needs.{needs}
 use Rattle.arith.proofs.Represented.{field-isField}
-use Rattle.poly.proofs.products.Zeros.{growing-padded, grown}
+use Rattle.poly.proofs.products.Zeros.{growing-padded, padded-grown}
 use Rattle.poly.proofs.products.times_spread.Statement.{statement}
 use Rattle.poly.proofs.products.times_spread.Tie as tie
 
@@ -50,7 +50,7 @@ returns c =
     let v = c .before .before in
     let z = v .before .before .before .before in
     let s = z .before .before .before .before in
-    grown (s .pre .1) (z .zero .ensures) (field-isField (s .pre .0)) (v .multiply .ensures)
+    padded-grown (s .pre .1) (z .zero .ensures) (field-isField (s .pre .0)) (v .multiply .ensures)
 
 pub times-spread-spec : {M : Type 1} → statement M
 times-spread-spec =

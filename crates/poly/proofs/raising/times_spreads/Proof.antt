@@ -2,7 +2,7 @@
 -- Assumes nothing.
 use Prim.Native.Nat.{_-_, _≤_}
 use Rattle.meaning.specs.Polynomial.{power}
-use Rattle.bridge.proofs.Spread.{spread}
+use Rattle.bridge.proofs.Lists.Spread.{spread}
 use Rattle.arith.specs.Represented.{fieldOf}
 use Rattle.arith.proofs.Represented.{field-isField}
 use Rattle.poly.specs.products.Product.{Multiplied}

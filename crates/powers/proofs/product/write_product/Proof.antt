@@ -26,14 +26,18 @@ Inv-loop field answer₀ factors powers n₀ i₀ answer n i =
 abbrev μ-loop : tie.MeasureT-loop
 μ-loop field answer₀ factors powers n₀ i₀ answer n i = length factors - i
 
--- there is a factor at i, and a power
-at-factor : (c : tie.In-loop Inv-loop μ-loop)
-    → c .before .loop .i < length (listsOf (c .before .before .before .before .args .factors .now))
-at-factor c = rw lists-length (c .loop-test .taken)
+abbrev start : tie.At-loop Inv-loop μ-loop → tie.Start Inv-loop μ-loop
+start c = c .before .before .before
 
-at-power : (c : tie.In-loop Inv-loop μ-loop)
-    → c .before .loop .i < length (c .before .before .before .before .args .powers .now)
-at-power c = omega (arith, at-factor c, c .before .before .before .before .pre .1 .1 .enough)
+-- there is a factor at i, and a power
+factor-index :
+    (c : tie.In-loop Inv-loop μ-loop)
+    → c .before .loop .i < length (listsOf (start (c .before) .args .factors .now))
+factor-index c = rw lists-length (c .loop-test .taken)
+
+power-index :
+    (c : tie.In-loop Inv-loop μ-loop) → c .before .loop .i < length (start (c .before) .args .powers .now)
+power-index c = omega (arith, factor-index c, start (c .before) .pre .1 .1 .enough)
 
 slice-write-answer : tie.Need-slice-write-answer Inv-loop μ-loop
 slice-write-answer c = omega arith
@@ -54,23 +58,22 @@ shared-slice-copy-out-times-power c = search needs
 
 mul-times-power-2 : tie.Need-mul-times-power-2 Inv-loop μ-loop
 mul-times-power-2 c =
-    let i = c .before in
-    omega (arith, at-power i, i .before .before .before .before .good)
+    let i = c .before in omega (arith, power-index i, start (i .before) .good)
 
 shared-slice-read-times-power : tie.Need-shared-slice-read-times-power Inv-loop μ-loop
-shared-slice-read-times-power c = at-power (c .before .before)
+shared-slice-read-times-power c = power-index (c .before .before)
 
 times-power-requires : tie.Need-times-power-requires Inv-loop μ-loop
 times-power-requires c κs =
     let i = c .before .before .before in
-    let s = i .before .before .before .before in
+    let s = start (i .before) in
     let l = i .before .loop in (
       s .pre .0,
       subst
           (λ f.
           Raising (fieldOf (s .args .field)) f (getD (s .args .powers .now) (l .i) 0) (l .answer) (l .n))
           (lists-at (s .args .factors .now) (l .i))
-          (multiplying-raising (field-isField (s .pre .0)) (s .pre .1 .1) (l .inv .0) (at-factor i)
+          (multiplying-raising (field-isField (s .pre .0)) (s .pre .1 .1) (l .inv .0) (factor-index i)
           (omega (arith, s .pre .1 .0, length-set (s .args .answer .now) 0 1))),
     )
 
@@ -83,10 +86,10 @@ loop-less c = omega arith
 loop-again : tie.Need-loop-again Inv-loop μ-loop
 loop-again c =
     let i = c .before .before .before .before .before .before in
-    let s = i .before .before .before .before in
+    let s = start (i .before) in
     let l = i .before .loop in
     let t = c .before .before .times-power in (
-      multiplying-more (field-isField (s .pre .0)) (s .pre .1 .1) (l .inv .0) (at-factor i)
+      multiplying-more (field-isField (s .pre .0)) (s .pre .1 .1) (l .inv .0) (factor-index i)
           (subst
           (λ f.
           Multiplied (fieldOf (s .args .field))
@@ -98,11 +101,11 @@ loop-again c =
 
 same-length : tie.Need-same-length Inv-loop μ-loop
 same-length c =
-    c .before .loop .inv .1 ∙ length-set (c .before .before .before .before .args .answer .now) 0 1
+    c .before .loop .inv .1 ∙ length-set (start (c .before) .args .answer .now) 0 1
 
 returns : tie.Need-returns Inv-loop μ-loop
 returns c =
-    let s = c .before .before .before .before in
+    let s = start (c .before) in
     multiplying-end (field-isField (s .pre .0)) (s .pre .1 .1) (c .before .loop .inv .0)
     (s .args .answer .now) (s .pre .1 .0) refl (rw lists-length (c .loop-test .left))
 

@@ -7,8 +7,8 @@ use mathlib.Core.List.{[]}
 use lib.ListN.{drop}
 use borrow.Author.Needs.{needs}
 use Rattle.meaning.specs.Search.{holdsForSome}
-use Rattle.conditions.specs.factors.Factors.{holdsOf}
-use Rattle.conditions.proofs.factors.Scan.{some-scan, scan-found, scan-next, scan-over}
+use Rattle.refusals.specs.conditions.factors.Factors.{holdsOf}
+use Rattle.refusals.proofs.conditions.factors.Scan.{some-scan, scan-found, scan-next, scan-over}
 use Rattle.rate_file.specs.factors.Written.{bodiesIn}
 use Rattle.rate_file.proofs.factors.holds_for_some_record.Statement.{statement}
 use Rattle.rate_file.proofs.factors.holds_for_some_record.Tie as tie

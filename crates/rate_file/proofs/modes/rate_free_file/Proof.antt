@@ -5,8 +5,8 @@ use Rattle.rate_file.proofs.modes.Calls.{free-rated}
 use Rattle.rate_file.proofs.modes.rate_free_file.Statement.{statement}
 use Rattle.rate_file.proofs.modes.rate_free_file.Tie as tie
 
-rate-free-requires : tie.Need-rate-free-requires
-rate-free-requires c κs = search needs
+rate-checked-requires : tie.Need-rate-checked-requires
+rate-checked-requires c κs = c .before .before .before .before .before .pre
 
 of-free-requires : tie.Need-of-free-requires
 of-free-requires c κs = search needs
@@ -18,8 +18,9 @@ same-length-2 : tie.Need-same-length-2
 same-length-2 c = search needs
 
 returns : tie.Need-returns
-returns c = free-rated _ (c .before .before .before .before .before .rate-free .ensures) (c .of-free .ensures)
+returns c =
+    free-rated _ (c .before .before .before .before .before .rate-checked .ensures) (c .of-free .ensures)
 
 pub rate-free-file-spec : {M : Type 1} → statement M
 rate-free-file-spec =
-    tie.close (tie.spec rate-free-requires of-free-requires same-length same-length-2 returns)
+    tie.close (tie.spec rate-checked-requires of-free-requires same-length same-length-2 returns)

@@ -1,13 +1,36 @@
 -- `modes::rate_period_file` meets its contract.
 -- Assumes nothing.
-use mathlib.Core.Path.{sym, _∙_}
+use mathlib.Core.Path.{_≡_, sym, ap, _∙_}
 use mathlib.Core.List.{[]}
+use native.Mathlib.Omega.{arith}
+use lib.ListN.{length, getD}
 use borrow.Author.Needs.{needs}
-use Rattle.rate_file.proofs.factors.Places.{polynomial-at}
-use Rattle.rate_file.proofs.modes.Packed.{front-factor}
+use Rattle.irreducible.proofs.Accepted.{accepted-short}
+use Rattle.rate_file.specs.factors.Written.{polynomialsIn}
+use Rattle.rate_file.proofs.factors.Places.{polynomial-at, front-factor}
 use Rattle.rate_file.proofs.modes.Calls.{period-rated}
 use Rattle.rate_file.proofs.modes.rate_period_file.Statement.{statement}
 use Rattle.rate_file.proofs.modes.rate_period_file.Tie as tie
+
+abbrev laid : tie.After-part → tie.After-lay-factor
+laid q = q .before .before .before
+
+abbrev body : tie.After-part → tie.After-body-of
+body q = laid q .before .before
+
+abbrev start : tie.After-part → tie.Start
+start q = body q .before .before .before .before .before
+
+-- the part that is rated is the polynomial of the first factor
+first-factor : (q : tie.After-part)
+    → q .part .result .now ≡ getD (polynomialsIn (start q .args .file .now)) 0 []
+first-factor q =
+    let s = start q in
+    let g = polynomial-at (s .args .file .now) 0 _ (body q .body-of .ensures) (s .pre .1 .some) [] in
+    front-factor (laid q .lay-factor .ensures)
+    (omega (arith, ap length g, accepted-short (s .pre .1 .checked .accepted)))
+    (q .part .ensures)
+    ∙ sym g
 
 body-of-requires : tie.Need-body-of-requires
 body-of-requires c κs = search needs
@@ -24,8 +47,11 @@ slice-aggregate-part c = search needs
 part-requires : tie.Need-part-requires
 part-requires c κs = search needs
 
-rate-period-requires : tie.Need-rate-period-requires
-rate-period-requires c κs = search needs
+rate-checked-requires : tie.Need-rate-checked-requires
+rate-checked-requires c κs =
+    let q = c .before .before in
+    let s = start q in
+    (s .pre .0, rw (first-factor q) (s .pre .1 .checked))
 
 of-power-requires : tie.Need-of-power-requires
 of-power-requires c κs = search needs
@@ -39,13 +65,8 @@ same-length-2 c = search needs
 returns : tie.Need-returns
 returns c =
     let r = c .before .before .before .before .before in
-    let q = r .before .before .before in
-    let f = q .before .before .before in
-    let b = f .before .before in
-    let s = b .before .before .before .before .before in
-    let g = polynomial-at (s .args .file .now) 0 _ (b .body-of .ensures) (s .pre .0) [] in
-    let e = front-factor (f .lay-factor .ensures) (rw g at (s .pre .1)) (q .part .ensures) in
-    period-rated (rw (e ∙ sym g) at (r .rate-period .ensures)) (c .of-power .ensures)
+    period-rated (rw (first-factor (r .before .before .before)) at (r .rate-checked .ensures))
+    (c .of-power .ensures)
 
 pub rate-period-file-spec : {M : Type 1} → statement M
 rate-period-file-spec =
@@ -56,7 +77,7 @@ rate-period-file-spec =
     lay-factor-requires
     slice-aggregate-part
     part-requires
-    rate-period-requires
+    rate-checked-requires
     of-power-requires
     same-length
     same-length-2

@@ -3,8 +3,8 @@
 use mathlib.Core.Path.{_≡_}
 use borrow.Author.Needs.{needs}
 use Rattle.rate_file.proofs.records.Rates.{count-factors, not-others, records-free, records-refused}
-use Rattle.rate_file.proofs.records.Rates.{factors-number, records-period, records-set, one-fits}
-use Rattle.rate_file.proofs.records.Rates.{all-fit}
+use Rattle.rate_file.proofs.records.Rates.{factors-number, records-period, records-set, one-checked}
+use Rattle.rate_file.proofs.records.Rates.{all-checked, rateable-prime}
 use Rattle.rate_file.proofs.modes.Calls.{rated-as, refused-rated}
 use Rattle.rate_file.proofs.records.rate_accepted.Statement.{statement}
 use Rattle.rate_file.proofs.records.rate_accepted.Tie as tie
@@ -12,11 +12,19 @@ use Rattle.rate_file.proofs.records.rate_accepted.Tie as tie
 abbrev start : tie.After-count-of → tie.Start
 start c = c .before .before .before .before .before .before
 
+-- the numbers of the file that were read before its factors were looked at
+abbrev counted : tie.After-written-factors-verdict → tie.After-count-of
+counted v = v .before .before
+
+-- the verdict on the factors, from where the field is made
+abbrev verdict : tie.After-of-prime → tie.After-written-factors-verdict
+verdict o = o .before .before .before
+
 -- what is neither 3 nor 1
-two : (c : tie.Else2) → c .before .before .before .before .before .before .byte-of .result ≡ 2
-two c =
-    let v = c .before .before .before in
-    let n = v .before .before in
+mode-two : (c : tie.Else2) → counted (verdict (c .before)) .before .byte-of .result ≡ 2
+mode-two c =
+    let v = verdict (c .before) in
+    let n = counted v in
     not-others _ _ 0 0 (start n .pre) _ _ (n .before .byte-of .ensures) (n .count-of .ensures)
     (v .before .if1 .left)
     (c .if2 .left)
@@ -28,7 +36,7 @@ count-of-requires : tie.Need-count-of-requires
 count-of-requires c κs = search needs
 
 rate-free-file-requires : tie.Need-rate-free-file-requires
-rate-free-file-requires c κs = search needs
+rate-free-file-requires c κs = start (c .before .before .before) .pre .passed
 
 same-length : tie.Need-same-length
 same-length c = search needs
@@ -60,30 +68,39 @@ of-refusal-requires c κs = search needs
 enum-told : tie.Need-enum-told
 enum-told c = search needs
 
+of-prime-requires : tie.Need-of-prime-requires
+of-prime-requires c κs = rateable-prime (start (counted (c .before .before)) .pre)
+
 rate-period-file-requires : tie.Need-rate-period-file-requires
 rate-period-file-requires c κs =
     let t = c .before .before in
-    let v = t .before .before .before in
-    let n = v .before .before in
-    one-fits _ _ 0 0 (start n .pre) _ _ (n .before .byte-of .ensures) (n .count-of .ensures)
-    (v .written-factors-verdict .ensures)
-    (t .before .enum-told .given .1)
-    (t .if2 .taken)
+    let o = t .before in
+    let v = verdict o in
+    let n = counted v in (
+      o .of-prime .ensures,
+      one-checked _ _ 0 0 (start n .pre) _ _ (n .before .byte-of .ensures) (n .count-of .ensures)
+          (v .written-factors-verdict .ensures)
+          (o .before .enum-told .given .1)
+          (t .if2 .taken),
+    )
 
 rate-set-file-requires : tie.Need-rate-set-file-requires
 rate-set-file-requires c κs =
     let t = c .before .before in
-    let v = t .before .before .before in
-    let n = v .before .before in
-    all-fit _ _ 0 0 (start n .pre) _ _ (n .before .byte-of .ensures) (n .count-of .ensures)
-    (v .written-factors-verdict .ensures)
-    (t .before .enum-told .given .1)
-    (two t)
+    let o = t .before in
+    let v = verdict o in
+    let n = counted v in (
+      o .of-prime .ensures,
+      all-checked _ _ 0 0 (start n .pre) _ _ (n .before .byte-of .ensures) (n .count-of .ensures)
+          (v .written-factors-verdict .ensures)
+          (o .before .enum-told .given .1)
+          (mode-two t),
+    )
 
 returns-2 : tie.Need-returns-2
 returns-2 c =
     let v = c .before .before .before .before in
-    let n = v .before .before in
+    let n = counted v in
     let q = c .before .before .r .given .1 in
     refused-rated
     (records-refused _ _ _ _ (start n .pre) _ _ (n .before .byte-of .ensures) (n .count-of .ensures)
@@ -105,12 +122,13 @@ returns-3 : tie.Need-returns-3
 returns-3 c =
     let f = c .before .before .before .before in
     let t = f .before .before .before in
-    let v = t .before .before .before in
-    let n = v .before .before in
+    let o = t .before in
+    let v = verdict o in
+    let n = counted v in
     rated-as
     (records-period _ _ _ _ (start n .pre) _ _ (n .before .byte-of .ensures) (n .count-of .ensures)
     (v .written-factors-verdict .ensures)
-    (t .before .enum-told .given .1)
+    (o .before .enum-told .given .1)
     (t .if2 .taken))
     (f .rate-period-file .ensures)
 
@@ -124,13 +142,14 @@ returns-4 : tie.Need-returns-4
 returns-4 c =
     let f = c .before .before .before .before in
     let t = f .before .before .before in
-    let v = t .before .before .before in
-    let n = v .before .before in
+    let o = t .before in
+    let v = verdict o in
+    let n = counted v in
     rated-as
     (records-set _ _ _ _ (start n .pre) _ _ (n .before .byte-of .ensures) (n .count-of .ensures)
     (v .written-factors-verdict .ensures)
-    (t .before .enum-told .given .1)
-    (two t))
+    (o .before .enum-told .given .1)
+    (mode-two t))
     (f .rate-set-file .ensures)
 
 pub rate-accepted-spec : {M : Type 1} → statement M
@@ -147,6 +166,7 @@ rate-accepted-spec =
     enum-known-r
     of-refusal-requires
     enum-told
+    of-prime-requires
     rate-period-file-requires
     rate-set-file-requires
     returns-2

@@ -20,7 +20,7 @@ at-1 c = c .before .before
 
 passed-1 : (c : tie.Else1) → Passed 1 (table (at-1 c))
 unfolding multiplesTable
-passed-1 c = first-skip _ _ (c .before .holds-for-some .ensures) (c .if1 .left)
+passed-1 c = first-skip _ _ (c .before .some-reducible .ensures) (c .if1 .left)
 
 abbrev at-2 : tie.Else2 → tie.Start
 at-2 c = at-1 (c .before .before)
@@ -31,12 +31,12 @@ passed-2 c =
     passed-1 (c .before .before)
     ∙ first-skip _ _ (c .before .two-equal .ensures) (c .if2 .left)
 
-holds-for-some-requires : tie.Need-holds-for-some-requires
-holds-for-some-requires c κs = search needs
+some-reducible-requires : tie.Need-some-reducible-requires
+some-reducible-requires c κs = search needs
 
 returns : tie.Need-returns
 unfolding numberIn numberOf multiplesTable
-returns c = first-here _ _ (c .before .holds-for-some .ensures) (c .if1 .taken)
+returns c = first-here _ _ (c .before .some-reducible .ensures) (c .if1 .taken)
 
 two-equal-requires : tie.Need-two-equal-requires
 two-equal-requires c κs = search needs
@@ -55,7 +55,7 @@ pub multiples-verdict-spec : {M : Type 1} → statement M
 multiples-verdict-spec =
     tie.close
     (tie.spec
-    holds-for-some-requires
+    some-reducible-requires
     returns
     two-equal-requires
     returns-2

@@ -32,23 +32,21 @@ passed-1 c = first-skip _ _ (c .before .upper-powers-out-of-range .ensures) (c .
 -- the code compares with the total degree as far as its limit, which 14 has just seen to be itself
 counted : (c : tie.After-fewer-terms-than)
     → c .fewer-terms-than .result
-    ≡ fewerTermsThan
-    (totalDegree (pairs (at-1 (c .before .before))))
-    (now (at-1 (c .before .before) .args .terms))
+    ≡ fewerTermsThan (totalDegree (pairs (at-1 (c .before)))) (now (at-1 (c .before) .args .terms))
 counted c =
-    let e = c .before .before in
+    let e = c .before in
     let passed = sym (e .before .upper-powers-out-of-range .ensures) ∙ e .if1 .left in
     c .fewer-terms-than .ensures
     ∙ ap (λ (d : ℕ). fewerTermsThan d (now (at-1 e .args .terms)))
-    (c .before .total-degree .ensures ∙ total-known _ passed .1)
+    (at-1 e .pre ∙ total-known _ passed .1)
 
 abbrev at-2 : tie.Else2 → tie.Start
-at-2 c = at-1 (c .before .before .before)
+at-2 c = at-1 (c .before .before)
 
 passed-2 : (c : tie.Else2) → Passed 2 (table (at-2 c))
 unfolding powersTable
 passed-2 c =
-    passed-1 (c .before .before .before)
+    passed-1 (c .before .before)
     ∙ first-skip _ _ (counted (c .before)) (c .if2 .left)
 
 upper-powers-out-of-range-requires : tie.Need-upper-powers-out-of-range-requires
@@ -58,9 +56,6 @@ returns : tie.Need-returns
 unfolding numberIn numberOf powersTable
 returns c = first-here _ _ (c .before .upper-powers-out-of-range .ensures) (c .if1 .taken)
 
-total-degree-requires : tie.Need-total-degree-requires
-total-degree-requires c κs = search needs
-
 fewer-terms-than-requires : tie.Need-fewer-terms-than-requires
 fewer-terms-than-requires c κs = search needs
 
@@ -68,7 +63,7 @@ returns-2 : tie.Need-returns-2
 unfolding numberIn numberOf powersTable
 returns-2 c =
     first-here _ _ (counted (c .before)) (c .if2 .taken)
-    ∙ sym (passed-1 (c .before .before .before))
+    ∙ sym (passed-1 (c .before .before))
 
 lent-verdict-requires : tie.Need-lent-verdict-requires
 lent-verdict-requires c κs = search needs
@@ -83,7 +78,6 @@ powers-verdict-spec =
     (tie.spec
     upper-powers-out-of-range-requires
     returns
-    total-degree-requires
     fewer-terms-than-requires
     returns-2
     lent-verdict-requires

@@ -9,7 +9,7 @@ use lib.Dec.{eqb, eqb→eq}
 use lib.ListN.{getD}
 use Rattle.meaning.specs.Route.{lookUp, bodyLengths}
 use Rattle.route.specs.framing.Framing.{orElse, bodyLength}
-use Rattle.route.proofs.framing.Tables.{at}
+use Rattle.route.proofs.framing.Tables.{every-at}
 use Rattle.route.proofs.framing.Lookup.{lookUp-beyond}
 use Rattle.route.proofs.framing.body_length.Statement.{statement}
 use Rattle.route.proofs.framing.body_length.Tie as tie
@@ -17,8 +17,8 @@ use Rattle.route.proofs.framing.body_length.Tie as tie
 lengths : List ℕ
 lengths = 255 ∷ 4 ∷ 1 ∷ 1 ∷ 35 ∷ 64 ∷ 1 ∷ 8 ∷ 0 ∷ []
 
-right : ℕ → ℕ → Bool
-right k n = eqb n (bodyLength k)
+length-right : ℕ → ℕ → Bool
+length-right k n = eqb n (bodyLength k)
 
 mul-result : tie.Need-mul-result
 mul-result c = search needs
@@ -27,10 +27,10 @@ array-read-result : tie.Need-array-read-result
 array-read-result c = search needs
 
 returns : tie.Need-returns
-unfolding lengths right bodyLength orElse lookUp bodyLengths
+unfolding lengths length-right bodyLength orElse lookUp bodyLengths
 returns c =
     let k = c .before .args .kind in
-    eqb→eq (getD lengths k 0) (bodyLength k) (at 0 right lengths tt k (search needs))
+    eqb→eq (getD lengths k 0) (bodyLength k) (every-at 0 length-right lengths tt k (search needs))
 
 returns-2 : tie.Need-returns-2
 unfolding bodyLength orElse bodyLengths

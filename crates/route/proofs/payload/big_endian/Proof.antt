@@ -6,7 +6,7 @@ use native.Mathlib.Omega.{arith}
 use borrow.Author.Needs.{needs}
 use lib.ListN.{length, getD, drop}
 use Rattle.meaning.specs.Route.{appended, number}
-use Rattle.bridge.proofs.Bytes.{number-below, number-fits}
+use Rattle.bridge.proofs.Basics.Bytes.{number-below, number-fits}
 use Rattle.route.proofs.payload.Numbers.{number-start, number-more, number-end}
 use Rattle.route.proofs.payload.big_endian.Statement.{statement}
 use Rattle.route.proofs.payload.big_endian.Tie as tie

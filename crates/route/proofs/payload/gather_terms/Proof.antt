@@ -26,6 +26,13 @@ Inv-loop file terms₀ at₀ count₀ terms at count =
 abbrev μ-loop : tie.MeasureT-loop
 μ-loop file terms₀ at₀ count₀ terms at count = length file - at
 
+-- the places on the way back: the terms of the record at `at` are found, and laid
+abbrev found : tie.After-slice-known2 Inv-loop μ-loop → tie.After-terms-at Inv-loop μ-loop
+found c = c .before .before .before .before
+
+abbrev turn : tie.After-terms-at Inv-loop μ-loop → tie.At-loop Inv-loop μ-loop
+turn c = c .before .before
+
 loop-holds : tie.Need-loop-holds Inv-loop μ-loop
 loop-holds c = (zero-add _, refl, search needs, refl)
 
@@ -37,10 +44,10 @@ lay-requires c κs = search needs
 
 add-count : tie.Need-add-count Inv-loop μ-loop
 add-count c =
-    let l = c .before .before .before .before .before .before in
+    let t = found c in
+    let l = turn t in
     let a = l .before .before .before .args in
-    let t = c .before .before .before .before .terms-at .ensures in
-    omega (arith, t .short, length-small (getD (a .file .now) (l .loop .at) 0))
+    omega (arith, t .terms-at .ensures .short, length-small (getD (a .file .now) (l .loop .at) 0))
 
 next-place-requires : tie.Need-next-place-requires Inv-loop μ-loop
 next-place-requires c κs = search needs
@@ -50,14 +57,14 @@ loop-less c = omega (arith, c .next-place .ensures .place)
 
 loop-again : tie.Need-loop-again Inv-loop μ-loop
 loop-again c =
-    let l = c .before .before .before .before .before .before .before .loop in
-    let t = c .before .before .before .before .before .terms-at .ensures in
+    let l = turn (found (c .before)) .loop in
+    let t = found (c .before) .terms-at .ensures in
     let n = c .next-place .ensures in
-    let e = c .before .before .before .lay .ensures in (
+    let o = c .before .before .before .lay in (
       omega (arith, count-split t n),
-      (rw e (sym (stores-split t n (l .terms) (l .count)) ∙ l .inv .1)),
+      (rw (o .ensures) (sym (stores-split t n (l .terms) (l .count)) ∙ l .inv .1)),
       terms-short t n (l .count) (l .inv .2),
-      c .before .before .before .lay .kept .1 .0 ∙ l .inv .3,
+      o .kept .1 .0 ∙ l .inv .3,
     )
 
 same-length : tie.Need-same-length Inv-loop μ-loop

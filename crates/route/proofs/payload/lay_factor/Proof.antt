@@ -7,6 +7,16 @@ use Rattle.route.proofs.payload.Factors.{factor-laid}
 use Rattle.route.proofs.payload.lay_factor.Statement.{statement}
 use Rattle.route.proofs.payload.lay_factor.Tie as tie
 
+-- The places on the way back: the coefficients are cut out, and laid; then their number is laid
+abbrev at-part : tie.After-part → tie.Start
+at-part c = c .before .before .before .before
+
+abbrev laid : tie.After-lay-arg2 → tie.After-lay
+laid c = c .before .before .before .before
+
+abbrev part : tie.After-lay → tie.After-part
+part c = c .before .before
+
 first-byte-requires : tie.Need-first-byte-requires
 first-byte-requires c κs = search needs
 
@@ -24,30 +34,28 @@ slice-aggregate-lay c = refl
 
 add-lay : tie.Need-add-lay
 add-lay c =
-    let p = c .before .before .before .before .before .before in
-    omega (arith, p .part .ok, p .before .before .before .before .good)
+    let p = part (laid c) in omega (arith, p .part .ok, at-part p .good)
 
 lay-requires-2 : tie.Need-lay-requires-2
 lay-requires-2 c κs = search needs
 
 add-result : tie.Need-add-result
 add-result c =
-    let l = c .before .before .before .before .before .before .before in
-    omega (arith, l .before .before .part .ok)
+    let p = part (laid (c .before .before .before)) in omega (arith, p .part .ok)
 
 same-length : tie.Need-same-length
 same-length c =
-    let l = c .before .before .before .before .before .before .before in
-    c .before .before .lay2 .kept .1 .0 ∙ l .lay .kept .1 .0
+    let o = c .before .before in o .lay2 .kept .1 .0 ∙ laid (o .before) .lay .kept .1 .0
 
 returns : tie.Need-returns
 returns c =
-    let l = c .before .before .before .before .before .before .before in
-    let p = l .before .before in
-    let a = p .before .before .before .before .args in
+    let o = c .before .before in
+    let l = laid (o .before) in
+    let p = part l in
+    let a = at-part p .args in
     factor-laid (a .body .now) (p .before .first-byte .result) (p .before .first-byte .ensures)
     (p .part .result .now) (p .part .ensures) (a .to .now) _ _ (a .at) (l .lay .ensures)
-    (c .before .before .lay2 .ensures)
+    (o .lay2 .ensures)
 
 pub lay-factor-spec : {M : Type 1} → statement M
 lay-factor-spec =

@@ -1,42 +1,28 @@
 -- `actions::annihilates` meets its contract. Assumes nothing.
-use mathlib.Core.Path.{_∙_}
-use native.Mathlib.Nat as ℕ
 use native.Mathlib.Omega.{arith}
 use borrow.Author.Needs.{needs}
 use Rattle.lent.specs.halves.Halves.{Halves}
-use Rattle.meaning.proofs.Slices.{lists-length}
 use Rattle.arith.proofs.Represented.{field-isField}
-use Rattle.set_way.proofs.actions.Loaded.{set-halves, loaded-halves, loaded-set, left-halves}
-use Rattle.set_way.proofs.actions.Loaded.{decided-none, decided-set}
+use Rattle.set_way.proofs.actions.Loaded.{left-halves, decided-none, decided-set}
 use Rattle.set_way.proofs.actions.annihilates.Statement.{statement}
 use Rattle.set_way.proofs.actions.annihilates.Tie as tie
 
--- where the values are
-left : (c : tie.After-act-others)
-    → Halves (c .act-others .last .1 .0) (c .act-others .result .half) (c .act-others .result .count)
-left c =
-    let s = c .before .before .before .before .before .before .before .before .before .before .before in
-    left-halves (s .pre .1 .1) (s .pre .1 .0) (c .before .before .before .before .load .ensures)
-    (c .act-others .ensures)
+abbrev start : tie.After-act-all → tie.Start
+start c = c .before .before .before .before .before .before
 
-total-degree-requires : tie.Need-total-degree-requires
-total-degree-requires c κs = search needs
+-- where the values are
+left : (c : tie.After-act-all)
+    → Halves (c .act-all .last .1 .0) (c .act-all .result .half) (c .act-all .result .count)
+left c = let s = start c in left-halves (s .pre .1 .1 .0) (s .pre .1 .0) (c .act-all .ensures)
 
 returns : tie.Need-returns
 returns c =
-    let s = c .before .before .before .before .before in
-    decided-none (field-isField (s .pre .0)) (s .pre .1 .1) (c .before .total-degree .ensures) (c .if1 .taken)
+    let s = c .before .before .before .before in
+    decided-none (field-isField (s .pre .0)) (s .pre .1 .1 .0) (s .pre .1 .1 .1) (c .if1 .taken)
 
-load-requires : tie.Need-load-requires
-load-requires c κs =
-    let s = c .before .before .before .before .before .before in
-    set-halves (s .pre .1 .1) (s .pre .1 .0)
-
-act-others-requires : tie.Need-act-others-requires
-act-others-requires c κs =
-    let s = c .before .before .before .before .before .before .before .before .before .before in
-    let x = c .before .before .before .load .ensures in
-    (s .pre .0, (loaded-halves (s .pre .1 .1) (s .pre .1 .0) x, loaded-set (s .pre .1 .1) (s .pre .1 .0) x))
+act-all-requires : tie.Need-act-all-requires
+act-all-requires c κs =
+    let s = c .before .before .before .before .before in (s .pre .0, (s .pre .1 .0, s .pre .1 .1 .0))
 
 mul-from : tie.Need-mul-from
 mul-from c = omega (arith, left (c .before .before .before))
@@ -57,25 +43,20 @@ all-zero-requires : tie.Need-all-zero-requires
 all-zero-requires c κs = search needs
 
 same-length : tie.Need-same-length
-same-length c =
-    let o = c .before .before .before .before .before .before in
-    o .act-others .ensures .kept .size ∙ o .before .before .before .before .load .ensures .size
+same-length c = c .before .before .before .before .before .before .act-all .ensures .kept .size
 
 returns-2 : tie.Need-returns-2
 returns-2 c =
     let o = c .before .before .before .before .before .before in
-    let s = o .before .before .before .before .before .before .before .before .before .before .before in
-    decided-set (s .pre .1 .1) (s .pre .1 .0) (o .before .before .before .before .load .ensures)
-    (o .act-others .ensures) (ℕ.le-of-eq (lists-length (s .args .factors .now))) (c .all-zero .ensures)
+    let s = start o in
+    decided-set (s .pre .1 .1 .0) (s .pre .1 .0) (o .act-all .ensures) (c .all-zero .ensures)
 
 pub annihilates-spec : {M : Type 1} → statement M
 annihilates-spec =
     tie.close
     (tie.spec
-    total-degree-requires
     returns
-    load-requires
-    act-others-requires
+    act-all-requires
     mul-from
     add-all-zero
     sub-all-zero

@@ -19,6 +19,10 @@ Inv-loop self a₀ c b i₀ i-end a i =
 abbrev μ-loop : tie.MeasureT-loop
 μ-loop self a₀ c b i₀ i-end a i = i-end - i
 
+-- the places on the way
+abbrev entry : tie.At-loop Inv-loop μ-loop → tie.Start Inv-loop μ-loop
+entry c = c .before .before .before
+
 loop-holds : tie.Need-loop-holds Inv-loop μ-loop
 loop-holds c = (omega arith, refl, writing-none _ 0 _ (omega arith))
 
@@ -42,7 +46,7 @@ loop-less c = search needs
 
 loop-again : tie.Need-loop-again Inv-loop μ-loop
 loop-again c =
-    let a = c .before .before .before .before .before .before .before .args in
+    let a = entry (c .before .before .before .before) .args in
     let l = c .before .before .before .before .loop in (
       omega arith,
       refl,
@@ -56,7 +60,7 @@ same-length c = search needs
 
 returns : tie.Need-returns Inv-loop μ-loop
 returns c =
-    let a = c .before .before .before .before .args in
+    let a = entry (c .before) .args in
     combined-end (fieldOf (a .self)) (now (a .a)) (a .c) (now (a .b)) (omega arith) (omega arith)
     (c .before .loop .inv .2)
 

@@ -3,7 +3,7 @@ use Prim.Native.Nat.{_-_, _%_}
 use mathlib.Core.Path.{sym, ap, _∙_}
 use native.Mathlib.Nat.{mul-one, mod-eq-of-lt}
 use native.Mathlib.Omega.{arith}
-use Rattle.bridge.proofs.Interpretation.{prime-negative, prime-mul}
+use Rattle.bridge.proofs.Basics.Interpretation.{prime-negative, prime-mul}
 use Rattle.arith.specs.Represented.{fieldOf}
 use Rattle.arith.proofs.Represented.{size-least, size-most}
 use Rattle.arith.proofs.field.GaloisField.minus_one.Statement.{statement}

@@ -14,6 +14,10 @@ Inv-loop self w₀ x c y n i₀ w i = Combining (fieldOf self) w₀ x y c x n w 
 abbrev μ-loop : tie.MeasureT-loop
 μ-loop self w₀ x c y n i₀ w i = n - i
 
+-- the places on the way
+abbrev entry : tie.At-loop Inv-loop μ-loop → tie.Start Inv-loop μ-loop
+entry c = c .before .before
+
 loop-holds : tie.Need-loop-holds Inv-loop μ-loop
 loop-holds c = combining-none _ (omega arith)
 
@@ -46,7 +50,7 @@ loop-less c = search needs
 
 loop-again : tie.Need-loop-again Inv-loop μ-loop
 loop-again c =
-    let p = c .before .before .before .before .before .before .pre .1 in
+    let p = entry (c .before .before .before .before) .pre .1 in
     combining-more (c .before .before .before .before .loop .inv) p (same-places p) (omega arith)
     (c .add-product .ensures)
 

@@ -1,0 +1,5 @@
+pub mod PrimeField
+pub mod FiniteField
+pub mod Order
+pub mod BenOr
+pub mod Raised

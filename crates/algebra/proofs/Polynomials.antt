@@ -1,0 +1,9 @@
+pub mod Series
+pub mod Polynomial
+pub mod Monic
+pub mod Division
+pub mod Divisor
+pub mod Irreducible
+pub mod Spread
+pub mod Frobenius
+pub mod Derivative

@@ -1,0 +1,11 @@
+pub mod Binomial
+pub mod Ring
+pub mod Multiple
+pub mod Solver
+pub mod Sum
+pub mod Power
+pub mod Characteristic
+pub mod Ideal
+pub mod PowerProduct
+pub mod Residues
+pub mod Roots

@@ -1,0 +1,10 @@
+pub mod Action
+pub mod Continuation
+pub mod Annihilator
+pub mod Cut
+pub mod Massey
+pub mod MasseyStep
+pub mod FirstFit
+pub mod Period
+pub mod LeastPower
+pub mod Orders

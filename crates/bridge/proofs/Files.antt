@@ -1,0 +1,3 @@
+pub mod Records
+pub mod WrittenFactors
+pub mod FileRatings

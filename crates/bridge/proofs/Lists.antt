@@ -1,0 +1,11 @@
+pub mod Polynomials
+pub mod Products
+pub mod Spread
+pub mod Multiples
+pub mod Monics
+pub mod Irreducibles
+pub mod Remainders
+pub mod IrreducibleTests
+pub mod Residues
+pub mod TrialDivision
+pub mod Coefficients

@@ -1,0 +1,9 @@
+pub mod Actions
+pub mod Orders
+pub mod Continuations
+pub mod Minimal
+pub mod KnownActions
+pub mod Repeats
+pub mod CommonOrders
+pub mod RepeatLengths
+pub mod Cutting

@@ -1,3 +1,0 @@
-pub mod Maximum
-pub mod Coefficients
-pub mod Linear

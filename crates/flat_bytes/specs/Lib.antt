@@ -1,2 +1,0 @@
-pub mod factors
-pub mod numbers

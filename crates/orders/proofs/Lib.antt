@@ -1,4 +1,0 @@
-pub mod Copies
-pub mod Modulus
-pub mod Factors
-pub mod Returning

@@ -1,4 +1,0 @@
-pub mod Factors
-pub mod binary
-pub mod cycle
-pub mod notes

@@ -1,0 +1,2 @@
+pub mod Maximum
+pub mod Coefficients

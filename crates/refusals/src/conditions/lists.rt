@@ -1,0 +1,104 @@
+// The conditions of the numbered list on one list of numbers: terms or coefficients.
+use crate::conditions::numbers::degree_out_of_range;
+use irreducible::is_irreducible;
+ghost use mathlib.Core.Path.{_≡_};
+ghost use Rattle.meaning.specs.Field.{prime};
+ghost use Rattle.meaning.specs.Conditions.{termOutOfField, factorDegreeOutOfRange};
+ghost use Rattle.meaning.specs.Conditions.{continuationDegreeOutOfRange, coefficientOutOfRange, notMonic};
+ghost use Rattle.meaning.specs.Conditions.{isReducible, fewerTermsThan, startUnlikeDegree};
+ghost use Rattle.irreducible.specs.Accepted.{Accepted};
+ghost use Rattle.refusals.specs.conditions.lists.Lists.{largest};
+
+// The largest of the numbers, or 0 where there are none.
+pub fn largest(l: &[u8]) -> u8
+    ensures { λ r. ⌜ r ≡ largest (now (l .entry)) ⌝ }
+{
+    let mut m = 0u8;
+    let mut i = 0;
+    // the larger of m and the largest from i on is the largest of all
+    while i < l.len() {
+        if m < l[i] {
+            m = l[i];
+        }
+        i += 1;
+    }
+    m
+}
+
+// 8: a term is p or more.
+pub fn term_out_of_field(p: u64, terms: &[u8]) -> bool
+    ensures { λ r. ⌜ r ≡ termOutOfField (prime p) (now (terms .entry)) ⌝ }
+{
+    if terms.len() == 0 {
+        return false;
+    }
+    p <= largest(terms) as u64
+}
+
+// 10, of a list, whose degree is one less than its length; an empty list passes.
+pub fn factor_degree_out_of_range(p: u64, factor: &[u8]) -> bool
+    ensures { λ r. ⌜ r ≡ factorDegreeOutOfRange (prime p) (now (factor .entry)) ⌝ }
+{
+    if factor.len() == 0 {
+        return false;
+    }
+    degree_out_of_range(p, factor.len() - 1)
+}
+
+// 10, for a continuation: a degree above 4,096.
+pub fn continuation_degree_out_of_range(polynomial: &[u8]) -> bool
+    ensures { λ r. ⌜ r ≡ continuationDegreeOutOfRange (now (polynomial .entry)) ⌝ }
+{
+    4097 < polynomial.len()
+}
+
+// 11, of a list: a coefficient is p or more, the leading one is 0, or the list is empty.
+pub fn coefficient_out_of_range(p: u64, factor: &[u8]) -> bool
+    ensures { λ r. ⌜ r ≡ coefficientOutOfRange (prime p) (now (factor .entry)) ⌝ }
+{
+    if term_out_of_field(p, factor) {
+        return true;
+    }
+    if factor.len() == 0 {
+        return true;
+    }
+    factor[factor.len() - 1] == 0
+}
+
+// A coefficient is p or more, the leading one is not 1, or the list is empty: 12 is not asked.
+pub fn not_monic(p: u64, factor: &[u8]) -> bool
+    ensures { λ r. ⌜ r ≡ notMonic (prime p) (now (factor .entry)) ⌝ }
+{
+    if term_out_of_field(p, factor) {
+        return true;
+    }
+    if factor.len() == 0 {
+        return true;
+    }
+    factor[factor.len() - 1] != 1
+}
+
+// 12, of a monic list that 6, 10 and 11 let pass: reducible.
+pub fn reducible(p: u64, factor: &[u8]) -> bool
+    requires { ⌜ Accepted p (now factor) ⌝ }
+    ensures { λ r. ⌜ r ≡ isReducible p (now (factor .entry)) ⌝ }
+{
+    !is_irreducible(p, factor)
+}
+
+// 15: fewer terms than the total degree d.
+pub fn fewer_terms_than(d: usize, terms: &[u8]) -> bool
+    ensures { λ r. ⌜ r ≡ fewerTermsThan d (now (terms .entry)) ⌝ }
+{
+    terms.len() < d
+}
+
+// 15, for a continuation: not as many starting terms as the degree, which is 0 for the empty list too.
+pub fn start_unlike_degree(polynomial: &[u8], start: &[u8]) -> bool
+    ensures { λ r. ⌜ r ≡ startUnlikeDegree (now (polynomial .entry)) (now (start .entry)) ⌝ }
+{
+    if polynomial.len() == 0 {
+        return start.len() != 0;
+    }
+    start.len() != polynomial.len() - 1
+}

@@ -1,0 +1,4 @@
+pub mod Factors
+pub mod orders
+pub mod primes
+pub mod shortest
