@@ -206,7 +206,7 @@ def limits(jobs, agreed):
                 over(j, 'best', None)
                 for who in ['plain'] if j.p == 2 else ['FLINT', 'NTL']:
                     over(j, who, 1)
-    for text, limit in [('set of one factor, 4,095 terms, (x^3+x+1)^1,365', 0.5),
+    for text, limit in [('set of one factor, 4,095 terms, (x^3+x+1)^1,365', 1.15),
                         ('set of one factor, 4,064 terms, (f of degree 32)^127', None)]:
         j = by_name(jobs, text)
         row(j.name + ', exactly D, over the time before', j.ratio('before'), limit)
