@@ -1,4 +1,5 @@
 pub mod Words
+pub mod Conditions
 pub mod Ways
 pub mod CutAnywhere
 pub mod Telling

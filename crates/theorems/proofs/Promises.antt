@@ -16,6 +16,7 @@ use Rattle.theorems.proofs.Answering.{irreducible-tells}
 use Rattle.theorems.proofs.FileAnswers.{file-answers, record-answers, program-answers, file-tells}
 use Rattle.theorems.proofs.FileAnswers.{read-tells, file-within}
 use Rattle.theorems.proofs.Words.{prime-words, irreducible-words, prime-promise}
+use Rattle.theorems.proofs.Conditions.{condition-words}
 use Rattle.theorems.proofs.Words.{irreducible-promise, continue-promise, multiple-promise}
 use Rattle.theorems.proofs.Words.{multiples-promise}
 use Rattle.theorems.proofs.Ways.{period-promise, set-promise, free-promise}
@@ -81,6 +82,7 @@ promises =
       multiples = multiples-promise;
       prime-words = prime-words;
       irreducible-words = irreducible-words;
+      condition-words = condition-words;
       meter = meter-promise;
       catalogue = catalogue-promise;
       entry = entry-promise;

@@ -32,6 +32,7 @@ use Rattle.theorems.specs.Answering.{RecordAnswers, ProgramAnswers, Neve
 use Rattle.theorems.specs.Ratings.{PeriodPromise, SetPromise, FreePromise}
 use Rattle.theorems.specs.Ratings.{ContinuePromise, IrreduciblePromise, PrimePromise}
 use Rattle.theorems.specs.Ratings.{MultiplePromise, MultiplesPromise, PrimeWords, IrreducibleWords}
+use Rattle.theorems.specs.Ratings.{ConditionWords}
 use Rattle.theorems.specs.CutAnywhere.{CutAnywherePromise}
 use Rattle.theorems.specs.Files.{FilePromise, RecordPromise, ProgramAsCall, ProgramPromise}
 use Rattle.theorems.specs.Density.{DensityPromise}
@@ -67,6 +68,7 @@ pub record Promises : Type 0 where
   pub multiples : MultiplesPromise
   pub prime-words : PrimeWords
   pub irreducible-words : IrreducibleWords
+  pub condition-words : ConditionWords
   -- the meter, with demand 1 of a term
   pub meter : MeterPromise
   -- the catalogue and its search

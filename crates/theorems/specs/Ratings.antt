@@ -14,9 +14,10 @@
 --                       their powers (MultiplesPromise)
 --   PrimeWords, IrreducibleWords == the tests for primes and irreducible polynomials are the words of the
 --                                   request
-use Prim.Native.Nat.{ℕ, suc, _*_, _-_, _≤_, _<_}
+--   ConditionWords   == the tests of the conditions are the words of the numbered list
+use Prim.Native.Nat.{ℕ, suc, _*_, _-_, _/_, _^_, _≤_, _<_}
 use mathlib.Core.Path.{_≡_}
-use mathlib.Core.Logic.{_↔_, _≢_}
+use mathlib.Core.Logic.{_↔_, _⊎_, _≢_}
 use mathlib.Core.Bool.{Bool, true, false}
 use mathlib.Core.List.{List, [], _∷_, _++_, map}
 use lib.ListN.{length, getD, take}
@@ -33,7 +34,10 @@ use Rattle.meaning.specs.Sequence.{Sequence, periodic, cut, LeastPeriod, Contin
 use Rattle.meaning.specs.Sequence.{AnnihilatesEndless, MinimalPolynomial, LeastPower}
 use Rattle.meaning.specs.Result.{Result, refused, answered}
 use Rattle.meaning.specs.Search.{holdsForSome}
-use Rattle.meaning.specs.Conditions.{named, totalDegree, coefficientOutOfRange}
+use Rattle.meaning.specs.Conditions.{named, totalDegree, notPrime, countOutOfRange, placeOutOfRange}
+use Rattle.meaning.specs.Conditions.{termOutOfField, factorCountOutOfRange, degreeOutOfRange}
+use Rattle.meaning.specs.Conditions.{continuationDegreeOutOfRange}
+use Rattle.meaning.specs.Conditions.{coefficientOutOfRange, fewerTermsThan, startUnlikeDegree, lentTooShort}
 use Rattle.meaning.specs.RepeatLength.{RepeatMeaning}
 use Rattle.meaning.specs.Power.{PowerFigures}
 use Rattle.meaning.specs.Period.{NoPower}
@@ -246,6 +250,27 @@ MultiplesPromise =
 
 abbrev pub PrimeWords : Type 0
 PrimeWords = (n : ℕ) → T (isPrime n) ↔ PrimeNumber n
+
+-- The conditions of the numbered list, in words: 6; 7, of a count and of a place; 8; 9; 10, of a degree and
+-- for a continuation; 11; 15, of terms and for a continuation; 16. (12 is `IrreducibleWords`, of monic lists.)
+pub record ConditionWords : Type 0 where
+  pub six : (p : ℕ) → T (notPrime p) ↔ ((PrimeNumber p × (p ≤ 251)) → ⊥)
+  pub seven : (n : ℕ) → T (countOutOfRange n) ↔ ((n ≡ 0) ⊎ (4096 < n))
+  pub seven-place : (size place : ℕ)
+      → T (placeOutOfRange size place) ↔ ((size < place) ⊎ (size - place ≡ 0) ⊎ (4096 < size - place))
+  pub eight : (F : Field) (ts : List ℕ)
+      → T (termOutOfField F ts) ↔ (((i : ℕ) → i < length ts → getD ts i 0 < F .size) → ⊥)
+  pub nine : (n : ℕ) → T (factorCountOutOfRange n) ↔ ((n ≡ 0) ⊎ (8 < n))
+  pub ten : (F : Field) (d : ℕ)
+      → T (degreeOutOfRange F d) ↔ (((d ≡ 0) ⊎ (32 < d)) ⊎ (65536 < F .size ^ (d / 2)))
+  pub ten-continuation : (g : Polynomial) → T (continuationDegreeOutOfRange g) ↔ (4096 < degree g)
+  pub eleven : (F : Field) (f : Polynomial)
+      → T (coefficientOutOfRange F f)
+      ↔ ((((i : ℕ) → i < length f → getD f i 0 < F .size) → ⊥) ⊎ (leading f ≡ 0))
+  pub fifteen : (d : ℕ) (ts : List ℕ) → T (fewerTermsThan d ts) ↔ (length ts < d)
+  pub fifteen-start : (g : Polynomial) (start : List ℕ)
+      → T (startUnlikeDegree g start) ↔ (length start ≢ degree g)
+  pub sixteen : (answer work : ℕ) → T (lentTooShort answer work) ↔ ((answer < 4097) ⊎ (work < 8192))
 
 abbrev pub IrreducibleWords : Type 0
 IrreducibleWords =
