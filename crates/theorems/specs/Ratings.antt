@@ -252,7 +252,8 @@ abbrev pub PrimeWords : Type 0
 PrimeWords = (n : ℕ) → T (isPrime n) ↔ PrimeNumber n
 
 -- The conditions of the numbered list, in words: 6; 7, of a count and of a place; 8; 9; 10, of a degree and
--- for a continuation; 11; 15, of terms and for a continuation; 16. (12 is `IrreducibleWords`, of monic lists.)
+-- for a continuation; 11; 15, of terms and for a continuation; 16. (12 is `IrreducibleWords`, of monic
+-- lists.)
 pub record ConditionWords : Type 0 where
   pub six : (p : ℕ) → T (notPrime p) ↔ ((PrimeNumber p × (p ≤ 251)) → ⊥)
   pub seven : (n : ℕ) → T (countOutOfRange n) ↔ ((n ≡ 0) ⊎ (4096 < n))
