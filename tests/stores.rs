@@ -4,7 +4,7 @@
 // which docs/READING.md shows. Four wrong copies, with right answers, are caught.
 mod common;
 
-use arith::GaloisField;
+use arith::{FieldAnswer, GaloisField};
 use common::calls::Told;
 use common::inputs::{self, dividing, divisor, power, register};
 use common::lent::{answers, answers_by};
@@ -15,7 +15,7 @@ use common::route::{file_of, Factor, Record};
 use common::sequence::Terms;
 use common::{expect, primes, run, Outcome};
 use counting::Counts;
-use meaning::{FileOutcome, PowerRating};
+use meaning::{FieldName, FileOutcome, PowerRating};
 use refusals::numbering::refusal_number;
 
 const ANSWER: usize = 4097 + 13;
@@ -92,7 +92,7 @@ impl Period {
 }
 
 // A copy's call, as `rate_period`.
-type Call = fn(u64, &[u8], &[u8], &mut [u8], &mut [u8]) -> PowerRating;
+type Call = fn(FieldName, &[u8], &[u8], &mut [u8], &mut [u8]) -> PowerRating;
 
 // What a copy's call tells, in the form in which the exported one does.
 fn told(rating: PowerRating) -> Told {
@@ -113,7 +113,7 @@ fn same_answers(call: Call, period: &Period) -> Result<(), String> {
     let (input, f) = (period.input(), poly::to_bytes(&period.f));
     answers(&input, &period.rating)?;
     let copy = |input: &Input, answer: &mut [u8], work: &mut [u8]| {
-        told(call(input.p, &f, &input.terms, answer, work))
+        told(call(FieldName::Prime(input.p), &f, &input.terms, answer, work))
     };
     answers_by(copy, &input, &period.rating)
 }
@@ -122,7 +122,7 @@ fn same_answers(call: Call, period: &Period) -> Result<(), String> {
 fn counts(call: Call, period: &Period) -> Counts {
     let (f, terms) = (poly::to_bytes(&period.f), poly::to_bytes(&period.terms));
     let (mut answer, mut work) = ([0xa5; ANSWER], [0xa5; WORK]);
-    let rate = |answer: &mut [u8], work: &mut [u8]| call(period.p, &f, &terms, answer, work);
+    let rate = |answer: &mut [u8], work: &mut [u8]| call(FieldName::Prime(period.p), &f, &terms, answer, work);
     counting::count(&mut answer, &mut work, rate).1
 }
 
@@ -174,7 +174,10 @@ fn search_and_keep_wider(field: GaloisField, work: &mut [u8], f: &[u8], terms: &
 // What is stored while a copy searches, without the checks before and the answer after.
 fn searched(search: Search, period: &Period) -> Counts {
     let (f, terms) = (poly::to_bytes(&period.f), poly::to_bytes(&period.terms));
-    let (field, mut work) = (GaloisField::of_prime(period.p), [0xa5; WORK]);
+    let FieldAnswer::Made(field) = GaloisField::of(FieldName::Prime(period.p)) else {
+        panic!("{}: no field", period.name());
+    };
+    let mut work = [0xa5; WORK];
     let power = |_: &mut [u8], work: &mut [u8]| search(field, work, &f, &terms);
     counting::count(&mut [], &mut work, power).1
 }

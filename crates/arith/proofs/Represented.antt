@@ -1,6 +1,7 @@
 -- The field that a well-formed struct stands for.
 --
 --   field-isField     == it is a field
+--   not-prime-declined, binary-declined == what the constructor answers a name that it refuses
 --   field-size        == its size
 --   binary-field      == it is GF(2) where its size is 2
 --   size-power        == it is a power of the characteristic
@@ -17,21 +18,35 @@
 --
 -- Assumes nothing.
 use Prim.Native.Nat.{ℕ, _+_, _*_, _^_, _%_, _≤_, _<_}
-use mathlib.Core.Path.{_≡_, sym, ap, _∙_}
-use mathlib.Core.Bool.{Bool, true}
+use mathlib.Core.Path.{_≡_, refl, sym, ap, _∙_}
+use mathlib.Core.Bool.{Bool, true, false, not}
 use mathlib.Core.List.{List, map}
 use native.Mathlib.Nat.{mod-lt, mod-mod, zero-mod, pow-zero, pow-suc, one-mul}
 use native.Mathlib.Omega.{arith}
 use lib.Dec.{T, eqb}
 use borrow.Author.Tests.{eqb-true}
-use Rattle.meaning.specs.Field.{prime, areElements}
+use Rattle.meaning.specs.declared.FieldName.{FieldName}
+use Rattle.meaning.specs.declared.Refusal.the-variants.{NotPrime}
+use Rattle.meaning.specs.Field.{prime, primeInRange, areElements}
+use Rattle.meaning.specs.Conditions.{notPrime}
+use Rattle.meaning.specs.FieldNames.{notField, fieldNumber}
+use Rattle.meaning.specs.Answers.{numberOf}
 use Rattle.bridge.proofs.Basics.Interpretation.{IsField, Prime, prime-size, inRange-isField, inRange-prime}
 use Rattle.bridge.proofs.Basics.Interpretation.{prime-characteristic-number}
 use Rattle.bridge.proofs.Lists.Spread.{raise, raises-same}
 use Rattle.bridge.proofs.Basics.Interpretation.{prime-size-power, prime-add}
 use Rattle.bridge.proofs.Basics.Interpretation.{prime-add-product, prime-add-remainder}
-use Rattle.arith.specs.Represented.{fieldOf, elementOf, WellFormed}
+use Rattle.arith.specs.Represented.{fieldOf, elementOf, WellFormed, Declined}
 use Rattle.arith.specs.declared.field.GaloisField.{GaloisField}
+
+-- What the constructor answers a name that it refuses
+pub not-prime-declined : (p : ℕ) → primeInRange p ≡ false → Declined (FieldName.Prime p) NotPrime
+unfolding notField notPrime fieldNumber numberOf
+not-prime-declined p e = record { holds = ap not e; number = refl }
+
+pub binary-declined : (n low : ℕ) → Declined (FieldName.Binary n low) NotPrime
+unfolding notField fieldNumber numberOf
+binary-declined n low = record { holds = refl; number = refl }
 
 power-one : (m : ℕ) → m ^ 1 ≡ m
 power-one m = pow-suc m 0 ∙ ap (λ (k : ℕ). k * m) (pow-zero m) ∙ one-mul m

@@ -8,4 +8,5 @@ mod products;
 pub mod sums;
 mod vectors;
 
+pub use field::FieldAnswer;
 pub use field::GaloisField;

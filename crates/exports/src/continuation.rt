@@ -1,6 +1,8 @@
 // The continuation for programs in other languages.
+use meaning::FieldName;
 use meaning::Filling;
 use refusals::numbering::refusal_number;
+ghost use Rattle.meaning.specs.declared.FieldName.{FieldName};
 ghost use Rattle.meaning.specs.Continuation.{continueSequence};
 ghost use Rattle.meaning.specs.Exports.{Filled};
 
@@ -14,10 +16,11 @@ pub extern "C" fn rater_continue_sequence(
     place: usize,
 ) -> u64
     ensures { λ r. ⌜ Filled
-        (continueSequence p (now (polynomial .entry)) (now (start .entry)) place (now (buffer .entry)))
+        (continueSequence (FieldName.Prime p) (now (polynomial .entry)) (now (start .entry)) place
+        (now (buffer .entry)))
         (now (buffer .entry)) r (now (buffer .exit)) ⌝ }
 {
-    match rater::continue_sequence(p, polynomial, start, buffer, place) {
+    match rater::continue_sequence(FieldName::Prime(p), polynomial, start, buffer, place) {
         Filling::Filled => 0,
         Filling::Refused(r) => refusal_number(r),
     }

@@ -1,7 +1,9 @@
 // The period way for programs in other languages.
+use meaning::FieldName;
 use meaning::PowerRating;
 use refusals::numbering::refusal_number;
 ghost use lib.ListN.{length};
+ghost use Rattle.meaning.specs.declared.FieldName.{FieldName};
 ghost use Rattle.meaning.specs.Period.{ratePeriod};
 ghost use Rattle.meaning.specs.Exports.{PowerExported};
 
@@ -18,14 +20,14 @@ pub extern "C" fn rater_rate_period(
     repeat: &mut u64,
 ) -> u64
     ensures { λ r. ⌜ PowerExported
-        (ratePeriod p (now (factor .entry)) (now (terms .entry)) (length (now (answer .entry)))
-        (length (now (work .entry))))
+        (ratePeriod (FieldName.Prime p) (now (factor .entry)) (now (terms .entry))
+        (length (now (answer .entry))) (length (now (work .entry))))
         (now (answer .entry)) (now (work .entry))
         (now (power .entry)) (now (degree .entry)) (now (repeat .entry)) r
         (now (answer .exit)) (now (work .exit))
         (now (power .exit)) (now (degree .exit)) (now (repeat .exit)) ⌝ }
 {
-    match rater::rate_period(p, factor, terms, answer, work) {
+    match rater::rate_period(FieldName::Prime(p), factor, terms, answer, work) {
         PowerRating::Rated {
             power: r,
             degree: d,

@@ -1,7 +1,9 @@
 // The questions for programs in other languages: whether a number is a prime in range, and whether a
 // polynomial is irreducible.
+use meaning::FieldName;
 use meaning::Irreducibility;
 use refusals::numbering::refusal_number;
+ghost use Rattle.meaning.specs.declared.FieldName.{FieldName};
 ghost use Rattle.meaning.specs.Calls.{PrimeCall};
 ghost use Rattle.meaning.specs.Irreducibility.{askIrreducible};
 ghost use Rattle.meaning.specs.Exports.{Question};
@@ -17,10 +19,10 @@ pub extern "C" fn rater_prime_in_range(n: u64) -> bool
 // Whether a polynomial is irreducible: leaves 1 for yes and 0 for no.
 #[no_mangle]
 pub extern "C" fn rater_is_irreducible(p: u64, coefficients: &[u8], yes: &mut u8) -> u64
-    ensures { λ r. ⌜ Question (askIrreducible p (now (coefficients .entry))) (now (yes .entry)) r
-        (now (yes .exit)) ⌝ }
+    ensures { λ r. ⌜ Question (askIrreducible (FieldName.Prime p) (now (coefficients .entry)))
+        (now (yes .entry)) r (now (yes .exit)) ⌝ }
 {
-    match rater::is_irreducible(p, coefficients) {
+    match rater::is_irreducible(FieldName::Prime(p), coefficients) {
         Irreducibility::Irreducible => {
             *yes = 1;
             0

@@ -3,11 +3,13 @@ use crate::numbers::first_nine;
 use crate::numbers::number_count;
 use crate::numbers::write_eight;
 use lent::smaller;
+use meaning::FieldName;
 use meaning::SetOutcome;
 use meaning::SetRating;
 use poly::parts::nine_parts;
 use refusals::numbering::refusal_number;
 ghost use lib.ListN.{length};
+ghost use Rattle.meaning.specs.declared.FieldName.{FieldName};
 ghost use Rattle.meaning.specs.Portion.{rateSet};
 ghost use Rattle.meaning.specs.Calls.{SetCall};
 ghost use Rattle.meaning.specs.FlatBytes.{split, numbersOf};
@@ -16,7 +18,7 @@ ghost use Rattle.meaning.specs.Exports.{SetExported};
 // The set way with the lengths of the flat factors and their upper powers as numbers in bytes. Nine factors
 // are refused whatever they are, so nine numbers of each are all that is looked at.
 fn rate_numbered_set(
-    p: u64,
+    name: FieldName,
     factors: &[u8],
     lengths: &[u8],
     uppers: &[u8],
@@ -24,7 +26,7 @@ fn rate_numbered_set(
     answer: &mut [u8],
     work: &mut [u8],
 ) -> SetRating
-    ensures { λ r. ⌜ SetCall p (split (now (factors .entry)) (numbersOf (now (lengths .entry))))
+    ensures { λ r. ⌜ SetCall name (split (now (factors .entry)) (numbersOf (now (lengths .entry))))
         (numbersOf (now (uppers .entry))) (now (terms .entry)) (now (answer .entry)) (now (work .entry)) r
         (now (answer .exit)) (now (work .exit)) ⌝ }
 {
@@ -34,7 +36,7 @@ fn rate_numbered_set(
     first_nine(uppers, &mut powers);
     let parts = nine_parts(factors, &sizes);
     let count = smaller(number_count(lengths), 9);
-    rater::rate_set(p, &parts[0..count], &powers, terms, answer, work)
+    rater::rate_set(name, &parts[0..count], &powers, terms, answer, work)
 }
 
 // Rates a portion with one to eight factors: leaves the powers in the order of the factors, then zeros, the
@@ -57,7 +59,7 @@ pub extern "C" fn rater_rate_with_factors(
     repeat: &mut u64,
 ) -> u64
     ensures { λ r. ⌜ SetExported
-        (rateSet p (split (now (factors .entry)) (numbersOf (now (lengths .entry))))
+        (rateSet (FieldName.Prime p) (split (now (factors .entry)) (numbersOf (now (lengths .entry))))
         (numbersOf (now (uppers .entry))) (now (terms .entry)) (length (now (answer .entry)))
         (length (now (work .entry))))
         (now (answer .entry)) (now (work .entry)) (now (powers .entry))
@@ -65,7 +67,8 @@ pub extern "C" fn rater_rate_with_factors(
         (now (answer .exit)) (now (work .exit)) (now (powers .exit))
         (now (degree .exit)) (now (repeat .exit)) ⌝ }
 {
-    let rating = rate_numbered_set(p, factors, lengths, uppers, terms, answer, work);
+    let name = FieldName::Prime(p);
+    let rating = rate_numbered_set(name, factors, lengths, uppers, terms, answer, work);
     let outcome = rating.outcome;
     let found = rating.powers;
     match outcome {

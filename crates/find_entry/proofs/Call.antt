@@ -1,7 +1,6 @@
 -- The call: what the verdict refuses, and what it answers where the verdict accepts.
 --
---   entryChecks      == the refusals of the search without 19. Those of the free way for p = 2 decide them
---                       (`entry-verdict`), since 2 is a prime
+--   entryChecks      == the refusals of the search without 19, which are those of the free way over GF(2)
 --   entry-refused    == the call that the verdict refuses
 --   work-enough, searched-period == what the search asks
 --   entry-call       == the call with what the search tells
@@ -9,49 +8,43 @@
 use Prim.Native.Nat.{ℕ, _≤_}
 use mathlib.Core.Path.{_≡_, refl, sym, ap, _∙_}
 use mathlib.Core.Bool.{Bool, false}
-use mathlib.Core.List.{List, [], _∷_}
+use mathlib.Core.List.{List}
 use mathlib.Core.Option.{Option, none, some}
 use lib.ListN.{length}
 use lib.Dec.{T}
+use Rattle.meaning.specs.declared.FieldName.{FieldName}
 use Rattle.meaning.specs.declared.EntryRating.{EntryRating}
 use Rattle.meaning.specs.declared.Refusal.{Refusal}
 use Rattle.meaning.specs.Search.{holdsForSome, isNone}
 use Rattle.meaning.specs.Field.{prime, areElements}
 use Rattle.meaning.specs.Result.{refused, Check, firstOf, valueOf, clearing, clears, workAfter}
 use Rattle.meaning.specs.Result.{cleared}
-use Rattle.meaning.specs.Conditions.{notPrime, countOutOfRange, termOutOfField, lentTooShort}
 use Rattle.meaning.specs.Free.{freeTable}
 use Rattle.meaning.specs.Catalogue.{EntryFigures, firstEntry, entryTable, findEntry}
 use Rattle.meaning.specs.Answers.{numberOf, toldEntry}
 use Rattle.meaning.specs.Calls.{EntryCall}
-use Rattle.meaning.proofs.Computed.{computed}
-use Rattle.meaning.proofs.Tables.{firstOf-skip}
 use Rattle.meaning.proofs.Passes.{Passes}
 use Rattle.bridge.proofs.Ways.Accepted.{count-accepted, terms-accepted, lent-enough}
+use Rattle.arith.specs.Represented.{fieldOf, FieldNamed}
+use Rattle.arith.specs.declared.field.GaloisField.{GaloisField}
 use Rattle.lent.proofs.halves.Bytes.{cleared-kept}
 use Rattle.refusals.specs.declared.Verdict.{Verdict}
 use Rattle.refusals.specs.Verdicts.{numberIn}
 use Rattle.refusals.proofs.Settled.{verdict-passes, settle-early, settle-last, settle-over}
 use Rattle.refusals.proofs.Lent.{never-clears}
 use Rattle.find_entry.specs.Search.{BinaryPeriod, foundIn, EntryFound}
+use Rattle.find_entry.proofs.Looking.{field-two}
 
-unfoldable entryChecks : List ℕ → ℕ → List Check
-entryChecks ts work =
-    (7, λ _. countOutOfRange (length ts))
-    ∷ (8, λ _. termOutOfField (prime 2) ts)
-    ∷ (16, λ _. lentTooShort 4097 work)
-    ∷ []
-
-six-passes : notPrime 2 ≡ false
-unfolding computed
-six-passes = refl
+abbrev entryChecks : List ℕ → ℕ → List Check
+entryChecks ts work = freeTable (prime 2) ts 4097 work
 
 entry-verdict :
-    (ts : List ℕ) (work : ℕ) {x : Option ℕ}
-    → x ≡ firstOf (freeTable 2 ts 4097 work)
+    {field : GaloisField}
+    → FieldNamed (FieldName.Prime 2) field
+    → (ts : List ℕ) (work : ℕ) {x : Option ℕ}
+    → x ≡ firstOf (freeTable (fieldOf field) ts 4097 work)
     → x ≡ firstOf (entryChecks ts work)
-unfolding freeTable entryChecks
-entry-verdict ts work k = k ∙ firstOf-skip _ _ six-passes
+entry-verdict f ts work k = k ∙ ap (λ F. firstOf (freeTable F ts 4097 work)) (field-two f)
 
 abbrev no-entry : List ℕ → Unit {0} → Bool
 no-entry ts _ = isNone (firstEntry ts)
@@ -66,15 +59,16 @@ work-kept : (n : ℕ) (work : List ℕ) → clears n ≡ false → workAfter {A 
 unfolding workAfter
 work-kept n work h = rw (h, workAfter)
 
-module _ (ts work : List ℕ) {v : Verdict} (k : numberIn v ≡ firstOf (freeTable 2 ts 4097 (length work))) where
+module _ {field : GaloisField} (f : FieldNamed (FieldName.Prime 2) field) (ts work : List ℕ) {v : Verdict}
+    (k : numberIn v ≡ firstOf (freeTable (fieldOf field) ts 4097 (length work))) where
   pub entry-refused : {x : Refusal} → v ≡ Verdict.Refused x → EntryCall ts work (EntryRating.Refused x) work
-  unfolding findEntry entryTable entryChecks toldEntry clears clearing holdsForSome
+  unfolding findEntry entryTable freeTable toldEntry clears clearing holdsForSome
   entry-refused {x} q =
       let e : findEntry ts (length work) ≡ refused (numberOf x) =
       settle-early (entryChecks ts (length work)) (19, no-entry ts) (λ _. firstEntry ts)
-      (entry-verdict ts (length work) k) q in
+      (entry-verdict f ts (length work) k) q in
       let h : clears (numberOf x) ≡ false =
-      never-clears (entryChecks ts (length work)) refl (entry-verdict ts (length work) k) q in
+      never-clears (entryChecks ts (length work)) refl (entry-verdict f ts (length work) k) q in
       record {
         finding = sym e;
         workBytes = sym (work-kept (numberOf x) work h) ∙ ap (λ r. workAfter r work) (sym e);
@@ -82,33 +76,33 @@ module _ (ts work : List ℕ) {v : Verdict} (k : numberIn v ≡ firstOf (freeTab
 
   module _ (q : v ≡ Verdict.Accepted) where
     passes : Passes (entryChecks ts (length work))
-    passes = verdict-passes (entryChecks ts (length work)) (entry-verdict ts (length work) k) q
+    passes = verdict-passes (entryChecks ts (length work)) (entry-verdict f ts (length work) k) q
 
     count-in-range : (1 ≤ length ts) × (length ts ≤ 4096)
-    unfolding entryChecks
+    unfolding freeTable
     count-in-range = count-accepted (length ts) (passes .countInRange)
 
     pub work-enough : 8192 ≤ length work
-    unfolding entryChecks
+    unfolding freeTable
     work-enough = lent-enough 4097 (length work) (passes .lentEnough) .1
 
     terms-binary : T (areElements (prime 2) ts)
-    unfolding entryChecks
-    terms-binary = terms-accepted 2 ts (passes .termsInField)
+    unfolding freeTable
+    terms-binary = terms-accepted (prime 2) ts (passes .termsInField)
 
     findEntry-first : findEntry ts (length work) ≡ foundIn (firstEntry ts)
-    unfolding findEntry entryTable entryChecks foundIn isNone valueOf
+    unfolding findEntry entryTable freeTable foundIn isNone valueOf
     findEntry-first = go (firstEntry ts) refl
       where
         go : (o : Option EntryFigures) → firstEntry ts ≡ o
             → findEntry ts (length work) ≡ foundIn (firstEntry ts)
         go none e =
             settle-last (entryChecks ts (length work)) (19, no-entry ts) (λ _. firstEntry ts)
-            (entry-verdict ts (length work) k) q (ap isNone e)
+            (entry-verdict f ts (length work) k) q (ap isNone e)
             ∙ ap foundIn (sym e)
         go (some a) e =
             settle-over (entryChecks ts (length work)) (19, no-entry ts) (λ _. firstEntry ts)
-            (entry-verdict ts (length work) k) q (ap isNone e)
+            (entry-verdict f ts (length work) k) q (ap isNone e)
             ∙ ap valueOf e
             ∙ ap foundIn (sym e)
 

@@ -16,6 +16,7 @@ use native.Mathlib.Numerals.{add-one}
 use native.Mathlib.Nat.{sub-zero}
 use native.Mathlib.Omega.{arith}
 use lib.ListN.{length, take, getD}
+use Rattle.meaning.specs.declared.FieldName.{FieldName}
 use Rattle.meaning.specs.declared.EntryRating.{EntryRating}
 use Rattle.meaning.specs.declared.Refusal.{Refusal}
 use Rattle.meaning.specs.Field.{Field}
@@ -28,7 +29,7 @@ use Rattle.bridge.proofs.Binary.Catalogue.{Passed, passed-first, passed-next, p
 use Rattle.bridge.proofs.Binary.CatalogueTable.{catalogue-count}
 use Rattle.arith.specs.declared.field.GaloisField.{GaloisField}
 use Rattle.bridge.proofs.Basics.Interpretation.{prime-characteristic-number}
-use Rattle.arith.specs.Represented.{fieldOf, FieldOfPrime}
+use Rattle.arith.specs.Represented.{fieldOf, FieldNamed}
 use Rattle.arith.proofs.Represented.{field-characteristic}
 use Rattle.lent.specs.blocks.Blocks.{Places}
 use Rattle.lent.specs.halves.Kept.{Kept}
@@ -38,6 +39,7 @@ use Rattle.powers.specs.levels.Levels.{Dividing}
 use Rattle.period_way.specs.declared.Found.{Found}
 use Rattle.period_way.specs.Period.{told, PeriodInput, PeriodSearched}
 use Rattle.find_entry.specs.Search.{Unpacked, BinaryPeriod, EntrySearched, foundIn, EntryFound}
+use Rattle.find_entry.proofs.Looking.{field-two}
 
 -- ONE ENTRY
 pub entry-coefficients :
@@ -48,11 +50,11 @@ pub entry-coefficients :
 entry-coefficients {w = w} {c} x y =
     ap (λ k. take k w) (sub-zero c) ∙ y .front ∙ ap entryPolynomial (x .answer)
 
-module _ {field : GaloisField} (h : FieldOfPrime 2 field) where
+module _ {field : GaloisField} (h : FieldNamed (FieldName.Prime 2) field) where
   characteristic-two : field .characteristic ≡ 2
   characteristic-two =
       sym (field-characteristic (h .wellFormed))
-      ∙ ap (λ (F : Field). F .characteristic) (h .isField)
+      ∙ ap (λ (F : Field). F .characteristic) (field-two h)
       ∙ prime-characteristic-number 2
 
   pub binary-level : {n : ℕ} {level : Level} → Dividing 2 n level → Dividing (field .characteristic) n level
@@ -65,7 +67,7 @@ module _ {field : GaloisField} (h : FieldOfPrime 2 field) where
 
     pub entry-input : PeriodInput (fieldOf field) f ts
     entry-input =
-        rw (h .isField, e)
+        rw (field-two h, e)
         (record {
           monic = entry-monic (getD catalogue i 0) (listed .atLeast) (listed .less);
           positive = entry-positive (getD catalogue i 0) (listed .atLeast) (listed .less);
@@ -80,7 +82,7 @@ module _ {field : GaloisField} (h : FieldOfPrime 2 field) where
         {w w′ : List ℕ} {r : Found}
         → PeriodSearched (fieldOf field) f ts w w′ r
         → EntrySearched i ts w w′ r
-    entry-searched y = rw (h .isField, e) at y
+    entry-searched y = rw (field-two h, e) at y
 
 -- THE PLACES OF THE LOOK
 pub look-places :

@@ -16,8 +16,9 @@ use refusals::free_verdict;
 ghost use mathlib.Core.Path.{_≡_};
 ghost use Prim.Native.Nat.{_+_, _≤_, _<_};
 ghost use lib.ListN.{length};
+ghost use Rattle.meaning.specs.declared.FieldName.{FieldName};
 ghost use Rattle.meaning.specs.Calls.{EntryCall};
-ghost use Rattle.arith.specs.Represented.{FieldOfPrime, fieldOf};
+ghost use Rattle.arith.specs.Represented.{FieldNamed, fieldOf};
 ghost use Rattle.lent.specs.blocks.Blocks.{Places};
 ghost use Rattle.powers.specs.levels.Levels.{Dividing};
 ghost use Rattle.period_way.specs.Period.{PeriodInput, PeriodSearched};
@@ -71,7 +72,7 @@ fn search_after_look(
     at: usize,
     m: usize,
 ) -> Found
-    requires { ⌜ FieldOfPrime 2 field ⌝ }
+    requires { ⌜ FieldNamed (FieldName.Prime 2) field ⌝ }
     requires { ⌜ 8192 ≤ length (now work) ⌝ }
     requires { ⌜ PeriodInput (fieldOf field) (now f) (now terms) ⌝ }
     requires { ⌜ Dividing (field .characteristic) (length (now terms)) level ⌝ }
@@ -96,7 +97,7 @@ fn search_entry(
     at: usize,
     m: usize,
 ) -> Found
-    requires { ⌜ FieldOfPrime 2 field ⌝ }
+    requires { ⌜ FieldNamed (FieldName.Prime 2) field ⌝ }
     requires { ⌜ 8192 ≤ length (now work) ⌝ }
     requires { ⌜ i < 226 ⌝ }
     requires { ⌜ BinaryPeriod (now terms) ⌝ }
@@ -112,7 +113,7 @@ fn search_entry(
 // The first entry with a power that annihilates the endless repetition of the terms, with the least such
 // power, or 19. Uses both halves of the work bytes, and leaves all beyond them as it was.
 fn first_entry(field: GaloisField, work: &mut [u8], terms: &[u8]) -> EntryRating
-    requires { ⌜ FieldOfPrime 2 field ⌝ }
+    requires { ⌜ FieldNamed (FieldName.Prime 2) field ⌝ }
     requires { ⌜ 8192 ≤ length (now work) ⌝ }
     requires { ⌜ BinaryPeriod (now terms) ⌝ }
     ensures { λ r. ⌜ EntryFound (now (terms .entry)) (now (work .entry)) (now (work .exit)) r ⌝ }
@@ -144,11 +145,12 @@ fn first_entry(field: GaloisField, work: &mut [u8], terms: &[u8]) -> EntryRating
 pub fn find_entry(terms: &[u8], work: &mut [u8]) -> EntryRating
     ensures { λ r. ⌜ EntryCall (now (terms .entry)) (now (work .entry)) r (now (work .exit)) ⌝ }
 {
-    // the checks of the free way for p = 2 and answer bytes that are enough
-    match free_verdict(2, terms, 4097, work.len()) {
+    let field = GaloisField::two();
+    // the checks of the free way for answer bytes that are enough
+    match free_verdict(field, terms, 4097, work.len()) {
         Verdict::Refused(r) => EntryRating::Refused(r),
         Verdict::Accepted => {
-            let found = first_entry(GaloisField::of_prime(2), work, terms);
+            let found = first_entry(field, work, terms);
             clear(work);
             found
         }

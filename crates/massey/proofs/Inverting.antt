@@ -1,8 +1,9 @@
--- The inverse of `arith` inverts in GF(p), for every prime in range. Assumes nothing.
-use Rattle.bridge.proofs.Basics.Interpretation.{inRange-isField}
-use Rattle.bridge.proofs.Massey.Answer.{InvertsPrimes}
+-- The inverse of `arith` inverts in every field. Assumes nothing.
+use Rattle.meaning.specs.Field.{Field}
+use Rattle.bridge.proofs.Basics.Interpretation.{IsField}
+use Rattle.bridge.proofs.Massey.Answer.{Inverts}
 use Rattle.arith.specs.Inverse.{inverse}
 use Rattle.arith.proofs.Inverse.{inverse-product}
 
-pub inverts-primes : InvertsPrimes inverse
-inverts-primes p q a l h = inverse-product (inRange-isField p q) l h
+pub inverts : {F : Field} → IsField F → Inverts F (inverse F)
+inverts I a l h = inverse-product I l h

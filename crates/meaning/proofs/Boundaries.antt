@@ -18,7 +18,7 @@ use Rattle.meaning.specs.Continuation.{continueSequence}
 use Rattle.meaning.specs.Irreducibility.{askIrreducible}
 use Rattle.meaning.specs.Route.{boxOf}
 use Rattle.meaning.specs.File.{rateFile}
-use Rattle.meaning.proofs.Computed.{computed}
+use Rattle.meaning.proofs.Computed.{GF, computed}
 use Rattle.meaning.proofs.Rows.{numberIn, setAnswer, box, field, mode, factor, term, end, x+1, x²+x+1}
 
 -- a list of degree d whose leading coefficient is 0: it meets 11 where 10 lets its degree pass
@@ -26,16 +26,16 @@ abbrev ofDegree : ℕ → Polynomial
 ofDegree d = 1 ∷ replicate d 0
 
 abbrev ask : ℕ → Polynomial → Option ℕ
-ask p f = numberIn (askIrreducible p f)
+ask p f = numberIn (askIrreducible (GF p) f)
 
 abbrev period : ℕ → List ℕ → Option ℕ
-period p ts = numberIn (ratePeriod p x+1 ts 4097 8192)
+period p ts = numberIn (ratePeriod (GF p) x+1 ts 4097 8192)
 
 abbrev portion : Polynomial → ℕ → List ℕ → Option ℕ
-portion f v ts = numberIn (rateSet 2 (f ∷ []) (v ∷ []) ts 4097 8192)
+portion f v ts = numberIn (rateSet (GF 2) (f ∷ []) (v ∷ []) ts 4097 8192)
 
 abbrev continued : Polynomial → List ℕ → ℕ → ℕ → Option ℕ
-continued g start place size = numberIn (continueSequence 2 g start place (replicate size 0))
+continued g start place size = numberIn (continueSequence (GF 2) g start place (replicate size 0))
 
 abbrev ofFile : List ℕ → Option ℕ
 ofFile file = numberIn (rateFile file 4097 8192)
@@ -77,12 +77,12 @@ pub record Boundaries : Type 0 where
   pub largestTerm : period 251 (250 ∷ []) ≡ some 17
   pub termEqual : period 251 (251 ∷ []) ≡ some 8
   pub lastTermEqual : period 251 (250 ∷ 251 ∷ []) ≡ some 8
-  pub freeTermBelow : numberIn (rateFree 3 (2 ∷ []) 4097 8192) ≡ none
-  pub freeTermEqual : numberIn (rateFree 3 (3 ∷ []) 4097 8192) ≡ some 8
+  pub freeTermBelow : numberIn (rateFree (GF 3) (2 ∷ []) 4097 8192) ≡ none
+  pub freeTermEqual : numberIn (rateFree (GF 3) (3 ∷ []) 4097 8192) ≡ some 8
   -- 9: one to eight factors; that their number passes shows in reaching 10
-  pub noFactor : numberIn (rateSet 2 [] [] (0 ∷ []) 4097 8192) ≡ some 9
-  pub eightFactors : numberIn (rateSet 2 (replicate 8 (1 ∷ [])) [] (0 ∷ []) 4097 8192) ≡ some 10
-  pub nineFactors : numberIn (rateSet 2 (replicate 9 (1 ∷ [])) [] (0 ∷ []) 4097 8192) ≡ some 9
+  pub noFactor : numberIn (rateSet (GF 2) [] [] (0 ∷ []) 4097 8192) ≡ some 9
+  pub eightFactors : numberIn (rateSet (GF 2) (replicate 8 (1 ∷ [])) [] (0 ∷ []) 4097 8192) ≡ some 10
+  pub nineFactors : numberIn (rateSet (GF 2) (replicate 9 (1 ∷ [])) [] (0 ∷ []) 4097 8192) ≡ some 9
   -- 10: degrees 1 to 32 with p^(d div 2) at most 65,536; that a degree passes shows in reaching 11
   pub p2takes32 : ask 2 (ofDegree 32) ≡ some 11
   pub p2refuses33 : ask 2 (ofDegree 33) ≡ some 10
@@ -117,47 +117,47 @@ pub record Boundaries : Type 0 where
   pub upperHuge : portion x+1 (2 ^ 64 - 1) (0 ∷ []) ≡ some 14
   pub asManyTerms : portion x+1 2 (0 ∷ 1 ∷ []) ≡ none
   pub oneTermFewer : portion x+1 3 (0 ∷ 1 ∷ []) ≡ some 15
-  pub upperMissing : numberIn (rateSet 2 (x+1 ∷ (0 ∷ 1 ∷ []) ∷ []) (1 ∷ []) (0 ∷ 1 ∷ []) 4097 8192)
+  pub upperMissing : numberIn (rateSet (GF 2) (x+1 ∷ (0 ∷ 1 ∷ []) ∷ []) (1 ∷ []) (0 ∷ 1 ∷ []) 4097 8192)
       ≡ some 14
-  pub upperBeyond : numberIn (rateSet 2 (x+1 ∷ []) (1 ∷ 0 ∷ []) (1 ∷ []) 4097 8192) ≡ none
+  pub upperBeyond : numberIn (rateSet (GF 2) (x+1 ∷ []) (1 ∷ 0 ∷ []) (1 ∷ []) 4097 8192) ≡ none
   -- the repeat length: with one factor and with several, whatever the number of upper powers; 1 on zeros,
   -- also with x among the factors; 0 where x has a power
-  pub repeatOfOne : rateSet 2 (x+1 ∷ []) (2 ∷ 0 ∷ 7 ∷ []) (1 ∷ 0 ∷ []) 4097 8192
+  pub repeatOfOne : rateSet (GF 2) (x+1 ∷ []) (2 ∷ 0 ∷ 7 ∷ []) (1 ∷ 0 ∷ []) 4097 8192
       ≡ setAnswer (2 ∷ []) 2 2 (1 ∷ 0 ∷ 1 ∷ [])
-  pub repeatOnZeros : rateSet 2 (x+1 ∷ []) (1 ∷ []) (0 ∷ []) 4097 8192 ≡ setAnswer (0 ∷ []) 0 1 (1 ∷ [])
-  pub repeatOfOnePower : rateSet 2 (x+1 ∷ x²+x+1 ∷ []) (1 ∷ 1 ∷ []) (1 ∷ 1 ∷ 1 ∷ []) 4097 8192
+  pub repeatOnZeros : rateSet (GF 2) (x+1 ∷ []) (1 ∷ []) (0 ∷ []) 4097 8192 ≡ setAnswer (0 ∷ []) 0 1 (1 ∷ [])
+  pub repeatOfOnePower : rateSet (GF 2) (x+1 ∷ x²+x+1 ∷ []) (1 ∷ 1 ∷ []) (1 ∷ 1 ∷ 1 ∷ []) 4097 8192
       ≡ setAnswer (1 ∷ 0 ∷ []) 1 1 x+1
-  pub repeatOfBoth : rateSet 2 (x+1 ∷ x²+x+1 ∷ []) (2 ∷ 1 ∷ []) (0 ∷ 0 ∷ 0 ∷ 1 ∷ []) 4097 8192
+  pub repeatOfBoth : rateSet (GF 2) (x+1 ∷ x²+x+1 ∷ []) (2 ∷ 1 ∷ []) (0 ∷ 0 ∷ 0 ∷ 1 ∷ []) 4097 8192
       ≡ setAnswer (2 ∷ 1 ∷ []) 4 6 (1 ∷ 1 ∷ 0 ∷ 1 ∷ 1 ∷ [])
-  pub repeatOfNoPower : rateSet 2 (x+1 ∷ x²+x+1 ∷ []) (1 ∷ 1 ∷ []) (0 ∷ 0 ∷ 0 ∷ []) 4097 8192
+  pub repeatOfNoPower : rateSet (GF 2) (x+1 ∷ x²+x+1 ∷ []) (1 ∷ 1 ∷ []) (0 ∷ 0 ∷ 0 ∷ []) 4097 8192
       ≡ setAnswer (0 ∷ 0 ∷ []) 0 1 (1 ∷ [])
-  pub repeatOfZerosWithX : rateSet 2 ((0 ∷ 1 ∷ []) ∷ x+1 ∷ []) (1 ∷ 1 ∷ []) (0 ∷ 0 ∷ []) 4097 8192
+  pub repeatOfZerosWithX : rateSet (GF 2) ((0 ∷ 1 ∷ []) ∷ x+1 ∷ []) (1 ∷ 1 ∷ []) (0 ∷ 0 ∷ []) 4097 8192
       ≡ setAnswer (0 ∷ 0 ∷ []) 0 1 (1 ∷ [])
-  pub repeatOfXWithPower : rateSet 2 ((0 ∷ 1 ∷ []) ∷ x+1 ∷ []) (1 ∷ 1 ∷ []) (0 ∷ 1 ∷ []) 4097 8192
+  pub repeatOfXWithPower : rateSet (GF 2) ((0 ∷ 1 ∷ []) ∷ x+1 ∷ []) (1 ∷ 1 ∷ []) (0 ∷ 1 ∷ []) 4097 8192
       ≡ setAnswer (1 ∷ 1 ∷ []) 2 0 (0 ∷ 1 ∷ 1 ∷ [])
-  pub repeatOfXWithoutPower : rateSet 2 ((0 ∷ 1 ∷ []) ∷ x+1 ∷ []) (1 ∷ 1 ∷ []) (1 ∷ 1 ∷ []) 4097 8192
+  pub repeatOfXWithoutPower : rateSet (GF 2) ((0 ∷ 1 ∷ []) ∷ x+1 ∷ []) (1 ∷ 1 ∷ []) (1 ∷ 1 ∷ []) 4097 8192
       ≡ setAnswer (0 ∷ 1 ∷ []) 1 1 x+1
   -- 16: 4,097 answer bytes and 8,192 work bytes
-  pub lentExactly : numberIn (ratePeriod 2 x+1 (1 ∷ []) 4097 8192) ≡ none
-  pub answerShort : numberIn (ratePeriod 2 x+1 (1 ∷ []) 4096 8192) ≡ some 16
-  pub workShort : numberIn (ratePeriod 2 x+1 (1 ∷ []) 4097 8191) ≡ some 16
-  pub lentMore : numberIn (ratePeriod 2 x+1 (1 ∷ []) 5000 9000) ≡ none
-  pub lentNothing : numberIn (ratePeriod 2 x+1 (1 ∷ []) 0 0) ≡ some 16
+  pub lentExactly : numberIn (ratePeriod (GF 2) x+1 (1 ∷ []) 4097 8192) ≡ none
+  pub answerShort : numberIn (ratePeriod (GF 2) x+1 (1 ∷ []) 4096 8192) ≡ some 16
+  pub workShort : numberIn (ratePeriod (GF 2) x+1 (1 ∷ []) 4097 8191) ≡ some 16
+  pub lentMore : numberIn (ratePeriod (GF 2) x+1 (1 ∷ []) 5000 9000) ≡ none
+  pub lentNothing : numberIn (ratePeriod (GF 2) x+1 (1 ∷ []) 0 0) ≡ some 16
   -- 17: with the factor x every nonzero period is refused, and no zero period; with as many terms as the
   -- total degree nothing is; all further terms count
-  pub xOnNonzero : numberIn (ratePeriod 2 (0 ∷ 1 ∷ []) (0 ∷ 1 ∷ []) 4097 8192) ≡ some 17
-  pub xOnZero : numberIn (ratePeriod 2 (0 ∷ 1 ∷ []) (0 ∷ 0 ∷ []) 4097 8192) ≡ none
+  pub xOnNonzero : numberIn (ratePeriod (GF 2) (0 ∷ 1 ∷ []) (0 ∷ 1 ∷ []) 4097 8192) ≡ some 17
+  pub xOnZero : numberIn (ratePeriod (GF 2) (0 ∷ 1 ∷ []) (0 ∷ 0 ∷ []) 4097 8192) ≡ none
   pub xInPortion : portion (0 ∷ 1 ∷ []) 2 (1 ∷ 1 ∷ []) ≡ none
   pub xOneMore : portion (0 ∷ 1 ∷ []) 2 (1 ∷ 1 ∷ 1 ∷ []) ≡ some 17
   pub secondFurtherTerm : portion x+1 1 (1 ∷ 1 ∷ 0 ∷ []) ≡ some 17
   -- free way: `one` where 2L is at most m, `some` beyond; on zeros the degree is 0; the degree may be m
-  pub oneAtTwice : figuresOf (rateFree 2 (1 ∷ 0 ∷ []) 4097 8192)
+  pub oneAtTwice : figuresOf (rateFree (GF 2) (1 ∷ 0 ∷ []) 4097 8192)
       ≡ answered (record { degree = 1; unique = true })
-  pub someAtTwiceLessOne : figuresOf (rateFree 2 (1 ∷ []) 4097 8192)
+  pub someAtTwiceLessOne : figuresOf (rateFree (GF 2) (1 ∷ []) 4097 8192)
       ≡ answered (record { degree = 1; unique = false })
-  pub freeZeros : figuresOf (rateFree 5 (0 ∷ 0 ∷ 0 ∷ []) 4097 8192)
+  pub freeZeros : figuresOf (rateFree (GF 5) (0 ∷ 0 ∷ 0 ∷ []) 4097 8192)
       ≡ answered (record { degree = 0; unique = true })
-  pub degreeAsTerms : figuresOf (rateFree 2 (0 ∷ 0 ∷ 1 ∷ []) 4097 8192)
+  pub degreeAsTerms : figuresOf (rateFree (GF 2) (0 ∷ 0 ∷ 1 ∷ []) 4097 8192)
       ≡ answered (record { degree = 3; unique = false })
   -- continuation: 1 to 4,096 places to fill, a degree up to 4,096, as many starting terms as the degree
   pub placeAtEnd : continued x+1 (1 ∷ []) 3 3 ≡ some 7

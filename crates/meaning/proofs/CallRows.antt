@@ -21,7 +21,7 @@ use Rattle.meaning.specs.declared.RecordOutcome.{RecordOutcome}
 use Rattle.meaning.specs.Calls.{PrimeCall, IrreducibleCall, PeriodCall, SetCall, FreeCall}
 use Rattle.meaning.specs.Calls.{ContinueCall, FileCall, RecordCall, ProgramCall}
 use Rattle.meaning.specs.Print.{text}
-use Rattle.meaning.proofs.Computed.{computed}
+use Rattle.meaning.proofs.Computed.{GF, computed}
 use Rattle.meaning.proofs.Rows.{box, field, mode, factor, terms, end, caseA, x+1, x²+1, x²+x+1}
 
 -- lent bytes, two more than are asked for
@@ -57,53 +57,53 @@ eightZeros = replicate 8 0
 pub record CallRows : Type 0 where
   pub prime251 : PrimeCall 251 true
   pub prime253 : PrimeCall 253 false
-  pub irreducible : IrreducibleCall 2 x²+x+1 Irreducibility.Irreducible
-  pub reducible : IrreducibleCall 2 x²+1 Irreducibility.HasFactors
-  pub irreducibleRefused : IrreducibleCall 4 x²+1 (Irreducibility.Refused Refusal.NotPrime)
-  pub periodB : PeriodCall 2 x+1 (0 ∷ 0 ∷ 0 ∷ 1 ∷ []) answer work
+  pub irreducible : IrreducibleCall (GF 2) x²+x+1 Irreducibility.Irreducible
+  pub reducible : IrreducibleCall (GF 2) x²+1 Irreducibility.HasFactors
+  pub irreducibleRefused : IrreducibleCall (GF 4) x²+1 (Irreducibility.Refused Refusal.NotPrime)
+  pub periodB : PeriodCall (GF 2) x+1 (0 ∷ 0 ∷ 0 ∷ 1 ∷ []) answer work
       (PowerRating.Rated 4 4 4)
       (1 ∷ 0 ∷ 0 ∷ 0 ∷ 1 ∷ replicate 4094 7)
       cleared
-  pub periodF : PeriodCall 2 x²+x+1 (0 ∷ 0 ∷ 0 ∷ 1 ∷ []) answer work
+  pub periodF : PeriodCall (GF 2) x²+x+1 (0 ∷ 0 ∷ 0 ∷ 1 ∷ []) answer work
       (PowerRating.Refused Refusal.NotAnnihilated)
       answer
       cleared
-  pub periodTwelve : PeriodCall 2 x²+1 (0 ∷ []) answer work
+  pub periodTwelve : PeriodCall (GF 2) x²+1 (0 ∷ []) answer work
       (PowerRating.Refused Refusal.Reducible)
       answer
       work
-  pub setG : SetCall 2 (x+1 ∷ []) (2 ∷ []) (1 ∷ 0 ∷ []) answer work
+  pub setG : SetCall (GF 2) (x+1 ∷ []) (2 ∷ []) (1 ∷ 0 ∷ []) answer work
       (record { outcome = SetOutcome.Rated 2 2 1; powers = 2 ∷ replicate 7 0 })
       (1 ∷ 0 ∷ 1 ∷ replicate 4096 7)
       cleared
-  pub setL : SetCall 2 (x+1 ∷ []) (1 ∷ []) (1 ∷ 0 ∷ []) answer work
+  pub setL : SetCall (GF 2) (x+1 ∷ []) (1 ∷ []) (1 ∷ 0 ∷ []) answer work
       (record { outcome = SetOutcome.Refused Refusal.NotAnnihilated; powers = eightZeros })
       answer
       cleared
-  pub setK : SetCall 2 (x+1 ∷ x²+x+1 ∷ []) (1 ∷ 1 ∷ []) (0 ∷ 1 ∷ 1 ∷ []) answer work
+  pub setK : SetCall (GF 2) (x+1 ∷ x²+x+1 ∷ []) (1 ∷ 1 ∷ []) (0 ∷ 1 ∷ 1 ∷ []) answer work
       (record { outcome = SetOutcome.Rated 2 3 2; powers = 0 ∷ 1 ∷ 0 ∷ 0 ∷ 0 ∷ 0 ∷ 0 ∷ 0 ∷ [] })
       (1 ∷ 1 ∷ 1 ∷ replicate 4096 7)
       cleared
-  pub setNine : SetCall 2 [] [] (0 ∷ []) answer work
+  pub setNine : SetCall (GF 2) [] [] (0 ∷ []) answer work
       (record { outcome = SetOutcome.Refused Refusal.FactorCount; powers = eightZeros })
       answer
       work
-  pub freeH : FreeCall 2 (1 ∷ 0 ∷ []) answer work
+  pub freeH : FreeCall (GF 2) (1 ∷ 0 ∷ []) answer work
       (FreeRating.Unique 1)
       (0 ∷ 1 ∷ replicate 4097 7)
       cleared
-  pub freeI : FreeCall 2 (0 ∷ 1 ∷ []) answer work
+  pub freeI : FreeCall (GF 2) (0 ∷ 1 ∷ []) answer work
       (FreeRating.Several 2)
       (0 ∷ 0 ∷ 1 ∷ replicate 4096 7)
       cleared
-  pub freeSixteen : FreeCall 2 (0 ∷ 1 ∷ []) answer []
+  pub freeSixteen : FreeCall (GF 2) (0 ∷ 1 ∷ []) answer []
       (FreeRating.Refused Refusal.LentTooShort)
       answer
       []
-  pub continueN : ContinueCall 2 x²+x+1 (0 ∷ 1 ∷ []) (9 ∷ 9 ∷ 9 ∷ 9 ∷ []) 1
+  pub continueN : ContinueCall (GF 2) x²+x+1 (0 ∷ 1 ∷ []) (9 ∷ 9 ∷ 9 ∷ 9 ∷ []) 1
       Filling.Filled
       (9 ∷ 0 ∷ 1 ∷ 1 ∷ [])
-  pub continueSeven : ContinueCall 2 x²+x+1 (0 ∷ 1 ∷ []) (9 ∷ 9 ∷ []) 2
+  pub continueSeven : ContinueCall (GF 2) x²+x+1 (0 ∷ 1 ∷ []) (9 ∷ 9 ∷ []) 2
       (Filling.Refused Refusal.CountOutOfRange)
       (9 ∷ 9 ∷ [])
   pub ratedB : FileCall fileB answer work

@@ -16,10 +16,11 @@ use Rattle.meaning.specs.Search.{range, firstThat, selected, bind, mapOp
 use Rattle.meaning.specs.Field.{prime}
 use Rattle.meaning.specs.Polynomial.{irreducible}
 use Rattle.meaning.specs.Result.{Result, refused, answered, valueOf, workAfter}
-use Rattle.meaning.specs.Conditions.{notPrime, lentTooShort}
+use Rattle.meaning.specs.Conditions.{lentTooShort}
+use Rattle.meaning.specs.FieldNames.{namedField, notField}
 use Rattle.meaning.specs.Catalogue.{EntryFigures, entryPolynomial, catalogue, entryPower, entryFigures}
 use Rattle.meaning.specs.Catalogue.{firstEntry, entryTable, findEntry}
-use Rattle.meaning.proofs.Computed.{computed}
+use Rattle.meaning.proofs.Computed.{GF, computed}
 use Rattle.meaning.proofs.Tables.{settle-none, firstThat-here, selected-here}
 use Rattle.meaning.proofs.Passes.{_&_, nothing}
 use Rattle.meaning.proofs.ZeroPeriod.{zeros, power-zero, count-passes, terms-pass}
@@ -83,25 +84,25 @@ pub first-is-x : catalogue ≡ 2 ∷ selected listed (range 3 2045)
 unfolding catalogue
 first-is-x = ap (selected listed) range-two ∙ selected-here listed 2 (range 3 2045) x-listed
 
+two-field : notField (GF 2) ≡ false
+unfolding computed
+two-field = refl
+
 zero-first : (n : ℕ) → firstEntry (zeros n) ≡ some (record { entry = 2; power = 0 })
-unfolding firstEntry entryFigures entryPower bind mapOption isNone
+unfolding namedField firstEntry entryFigures entryPower bind mapOption isNone
 zero-first n =
-    let none-zero = power-zero 2 (entryPolynomial 2) n in
+    let none-zero = power-zero (GF 2) (entryPolynomial 2) n two-field in
     ap (λ l. bind (firstThat (λ k. not (isNone (entryPower (zeros n) k))) l) (entryFigures (zeros n)))
     first-is-x
     ∙ ap (λ o. bind o (entryFigures (zeros n))) (firstThat-here _ 2 _ (ap (λ o. not (isNone o)) none-zero))
     ∙ ap (mapOption (λ r. record { entry = 2; power = r })) none-zero
 
-two-prime : notPrime 2 ≡ false
-unfolding computed
-two-prime = refl
-
 pub zero-entry : (n work : ℕ) → 1 ≤ n → n ≤ 4096 → 8192 ≤ work → findEntry (zeros n) work ≡ found 2 0
-unfolding findEntry entryTable isNone valueOf lentTooShort
+unfolding namedField findEntry entryTable isNone valueOf lentTooShort
 zero-entry n work l m h =
     settle-none _ _
     ((count-passes n l m
-    & terms-pass 2 n two-prime
+    & terms-pass (GF 2) n two-field
     & le-ltb work 8192 h
     & ap isNone (zero-first n)
     & nothing) .noneHolds)

@@ -1,6 +1,10 @@
 -- One name that opens every executable definition of specs/, so that a row computes under `unfolding
 -- computed`. Each other name opens one file, or a part of it.
+--
+--   GF p              == the name of GF(p)
 -- Assumes nothing.
+use Prim.Native.Nat.{ℕ}
+use Rattle.meaning.specs.declared.FieldName.{FieldName}
 use Rattle.meaning.specs.Search.{range, holdsForAll, holdsForSome, firstThat, mapOption, bind, isNone}
 use Rattle.meaning.specs.Search.{least, together, selected}
 use Rattle.meaning.specs.Field.{prime, isPrime, largestPrime, primeInRange, isElement, areElements}
@@ -20,32 +24,36 @@ use Rattle.meaning.specs.Conditions.{coefficientOutOfRange, notMonic}
 use Rattle.meaning.specs.Conditions.{isAsked, isReducible, twoEqual, upperPowersOutOfRange}
 use Rattle.meaning.specs.Conditions.{fewerTermsThan}
 use Rattle.meaning.specs.Conditions.{startUnlikeDegree, lentTooShort, acceptedLent}
+use Rattle.meaning.specs.FieldNames.{namedField, notField, fieldNumber, inField}
 use Rattle.meaning.specs.Power.{isX, powerRating}
 use Rattle.meaning.specs.Repeat.{repeatsEvery, shortestPeriod}
-use Rattle.meaning.specs.Period.{periodPower, periodTable, periodAnswer, ratePeriod}
+use Rattle.meaning.specs.Period.{periodPower, periodTable, periodAnswer, periodIn, ratePeriod}
 use Rattle.meaning.specs.Portion.{factorsOf, withPower, leastAt, setPowers, onward, setRating, setTable}
-use Rattle.meaning.specs.Portion.{setAnswer, rateSet, factorTable, acceptedFactors}
+use Rattle.meaning.specs.Portion.{setAnswer, setIn, rateSet, factorTable, acceptedFactors}
 use Rattle.meaning.specs.Free.{fitsDegree, leastDegree, isUnique, freePolynomial, freeRating, freeTable}
-use Rattle.meaning.specs.Free.{rateFree}
+use Rattle.meaning.specs.Free.{freeIn, rateFree}
 use Rattle.meaning.specs.Meter.{freeFigures, startMeter, meterFull, termTable, takeTerm, meterReading}
 use Rattle.meaning.specs.Meter.{unlessRefused, profileEntry, readingEntry, profileOf}
 use Rattle.meaning.specs.Catalogue.{bitsUpTo, entryPolynomial, catalogue, entryPower, entryFigures}
 use Rattle.meaning.specs.Catalogue.{firstEntry, entryTable, findEntry}
-use Rattle.meaning.specs.Continuation.{continueTable, filled, continueSequence}
-use Rattle.meaning.specs.Irreducibility.{irreducibleTable, askIrreducible}
+use Rattle.meaning.specs.Continuation.{continueTable, filled, continueIn, continueSequence}
+use Rattle.meaning.specs.Irreducibility.{irreducibleTable, irreducibleIn, askIrreducible}
 use Rattle.meaning.specs.Route.{lookUp, bodyLengths, admitted, stopped, before, walk, bodies, appended}
 use Rattle.meaning.specs.Route.{number, byteOf, factorUpper, modeOf, suits, modeUnsuited, suited}
 use Rattle.meaning.specs.Route.{records, endRecord, readRecord, boxOf}
 use Rattle.meaning.specs.File.{fileFactor, polynomialOf, fileDegreeOutOfRange}
 use Rattle.meaning.specs.File.{fileCoefficientOutOfRange, termsOf}
 use Rattle.meaning.specs.File.{fileAnswer, ofPeriod, ofSet, freeLabel, ofFree, rateMode, rateRecords}
-use Rattle.meaning.specs.File.{rateFile}
+use Rattle.meaning.specs.File.{fieldIn, rateFile}
 use Rattle.meaning.specs.Print.{text, digits, decimal, joined, line, header, labelWord, density}
 use Rattle.meaning.specs.Print.{resultLine, polyLine, report, printed}
 use Rattle.meaning.specs.Answers.{numberOf, toldIrreducible, toldFilling, toldPower, toldFree, toldSet}
 use Rattle.meaning.specs.Answers.{setFiguresTold, toldFile, labelTold, fileFiguresTold, toldRecord}
 use Rattle.meaning.specs.Answers.{padded, setPadded, labelPowers, filePadded}
 use Rattle.meaning.specs.Calls.{bufferAfter, bodyAfter}
+
+abbrev pub GF : ℕ → FieldName
+GF p = FieldName.Prime p
 
 unfoldable pub openSearch : Unit {0}
 unfolding range holdsForAll holdsForSome firstThat mapOption bind isNone least together selected
@@ -93,6 +101,10 @@ unfoldable pub openConditions-3 : Unit {0}
 unfolding upperPowersOutOfRange fewerTermsThan startUnlikeDegree lentTooShort acceptedLent
 openConditions-3 = tt
 
+unfoldable pub openFieldNames : Unit {0}
+unfolding namedField notField fieldNumber inField
+openFieldNames = tt
+
 unfoldable pub openPower : Unit {0}
 unfolding isX powerRating
 openPower = tt
@@ -102,16 +114,16 @@ unfolding repeatsEvery shortestPeriod
 openRepeat = tt
 
 unfoldable pub openPeriod : Unit {0}
-unfolding periodPower periodTable periodAnswer ratePeriod
+unfolding periodPower periodTable periodAnswer periodIn ratePeriod
 openPeriod = tt
 
 unfoldable pub openPortion : Unit {0}
-unfolding factorsOf withPower leastAt setPowers onward setRating setTable setAnswer rateSet factorTable
+unfolding factorsOf withPower leastAt setPowers onward setRating setTable setAnswer setIn rateSet factorTable
     acceptedFactors
 openPortion = tt
 
 unfoldable pub openFree : Unit {0}
-unfolding fitsDegree leastDegree isUnique freePolynomial freeRating freeTable rateFree
+unfolding fitsDegree leastDegree isUnique freePolynomial freeRating freeTable freeIn rateFree
 openFree = tt
 
 unfoldable pub openMeter : Unit {0}
@@ -127,11 +139,11 @@ unfolding bitsUpTo entryPolynomial catalogue entryPower entryFigures firstEntry 
 openCatalogue = tt
 
 unfoldable pub openContinuation : Unit {0}
-unfolding continueTable filled continueSequence
+unfolding continueTable filled continueIn continueSequence
 openContinuation = tt
 
 unfoldable pub openIrreducibility : Unit {0}
-unfolding irreducibleTable askIrreducible
+unfolding irreducibleTable irreducibleIn askIrreducible
 openIrreducibility = tt
 
 unfoldable pub openRoute-1 : Unit {0}
@@ -148,7 +160,7 @@ unfolding fileFactor polynomialOf fileDegreeOutOfRange fileCoefficientOutOfRange
 openFile-1 = tt
 
 unfoldable pub openFile-2 : Unit {0}
-unfolding freeLabel ofFree rateMode rateRecords rateFile
+unfolding freeLabel ofFree rateMode fieldIn rateRecords rateFile
 openFile-2 = tt
 
 unfoldable pub openPrint : Unit {0}
@@ -176,7 +188,7 @@ unfolding openSequence-2 openRepeatLength openResult openConditions-1 openCondit
 opened-2 = tt
 
 unfoldable pub opened-3 : Unit {0}
-unfolding openPower openRepeat openPeriod openPortion openFree openMeter openProfile
+unfolding openFieldNames openPower openRepeat openPeriod openPortion openFree openMeter openProfile
 opened-3 = tt
 
 unfoldable pub opened-4 : Unit {0}

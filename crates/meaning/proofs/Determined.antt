@@ -14,6 +14,7 @@ use mathlib.Core.List.{List, [], _∷_}
 use mathlib.Core.Option.{Option, some, Option·none-ne-some}
 use lib.Dec.{T, eqb}
 use borrow.Author.Tests.{eqb-true}
+use Rattle.meaning.specs.declared.FieldName.{FieldName}
 use Rattle.meaning.specs.declared.Refusal.{Refusal}
 use Rattle.meaning.specs.declared.Irreducibility.{Irreducibility}
 use Rattle.meaning.specs.declared.PowerRating.{PowerRating}
@@ -240,7 +241,10 @@ record-determined = determined toldRecord found found-told
 
 -- The calls: two runs on the same input agree.
 pub irreducible-call-determined :
-    {p : ℕ} {f : List ℕ} {r s : Irreducibility} → IrreducibleCall p f r → IrreducibleCall p f s → r ≡ s
+    {name : FieldName} {f : List ℕ} {r s : Irreducibility}
+    → IrreducibleCall name f r
+    → IrreducibleCall name f s
+    → r ≡ s
 irreducible-call-determined {r = r} {s = s} c d = irreducible-determined r s (c .answer ∙ sym (d .answer))
 
 -- the lent bytes after one result
@@ -252,17 +256,17 @@ pub lent-determined :
 lent-determined c d = (c .answerBytes ∙ sym (d .answerBytes), c .workBytes ∙ sym (d .workBytes))
 
 pub period-call-determined :
-    {p : ℕ} {f ts answer work a b w x : List ℕ} {r s : PowerRating}
-    → PeriodCall p f ts answer work r a w
-    → PeriodCall p f ts answer work s b x
+    {name : FieldName} {f ts answer work a b w x : List ℕ} {r s : PowerRating}
+    → PeriodCall name f ts answer work r a w
+    → PeriodCall name f ts answer work s b x
     → (r ≡ s) × ((a ≡ b) × (w ≡ x))
 period-call-determined {r = r} {s = s} c d =
     (power-determined r s (c .rating ∙ sym (d .rating)), lent-determined (c .lent) (d .lent))
 
 pub set-call-determined :
-    {p : ℕ} {fs : List (List ℕ)} {vs ts answer work a b w x : List ℕ} {r s : SetRating}
-    → SetCall p fs vs ts answer work r a w
-    → SetCall p fs vs ts answer work s b x
+    {name : FieldName} {fs : List (List ℕ)} {vs ts answer work a b w x : List ℕ} {r s : SetRating}
+    → SetCall name fs vs ts answer work r a w
+    → SetCall name fs vs ts answer work s b x
     → (r ≡ s) × ((a ≡ b) × (w ≡ x))
 set-call-determined {r = r} {s = s} c d =
     let outcomes = set-determined (r .outcome) (s .outcome) (c .rating ∙ sym (d .rating)) in
@@ -270,9 +274,9 @@ set-call-determined {r = r} {s = s} c d =
     (λ i. record { outcome = outcomes i; powers = places i }, lent-determined (c .lent) (d .lent))
 
 pub free-call-determined :
-    {p : ℕ} {ts answer work a b w x : List ℕ} {r s : FreeRating}
-    → FreeCall p ts answer work r a w
-    → FreeCall p ts answer work s b x
+    {name : FieldName} {ts answer work a b w x : List ℕ} {r s : FreeRating}
+    → FreeCall name ts answer work r a w
+    → FreeCall name ts answer work s b x
     → (r ≡ s) × ((a ≡ b) × (w ≡ x))
 free-call-determined {r = r} {s = s} c d =
     (free-determined r s (c .rating ∙ sym (d .rating)), lent-determined (c .lent) (d .lent))
@@ -287,9 +291,9 @@ start-told (MeterStart.Started m) = refl
 start-told (MeterStart.Refused r) = refusing-number MeterStart.Refused r
 
 pub start-call-determined :
-    {model : MeterModel} {p : ℕ} {work w x : List ℕ} {r s : MeterStart}
-    → StartCall model p work r w
-    → StartCall model p work s x
+    {model : MeterModel} {name : FieldName} {work w x : List ℕ} {r s : MeterStart}
+    → StartCall model name work r w
+    → StartCall model name work s x
     → (r ≡ s) × (w ≡ x)
 start-call-determined {r = r} {s = s} c d = (
   determined toldStart start start-told r s (c .starting ∙ sym (d .starting)),
@@ -298,15 +302,15 @@ start-call-determined {r = r} {s = s} c d = (
 
 -- of a meter that holds terms
 pub term-call-determined :
-    {model : MeterModel} {p : ℕ} {ts : List ℕ} {m : Meter} {t : ℕ} {terms work a b w x : List ℕ}
+    {model : MeterModel} {name : FieldName} {ts : List ℕ} {m : Meter} {t : ℕ} {terms work a b w x : List ℕ}
     {r s : MeterStep}
-    → Holding model p ts m terms work
+    → Holding model name ts m terms work
     → TermCall model m t terms work r a w
     → TermCall model m t terms work s b x
     → (r ≡ s) × ((a ≡ b) × (w ≡ x))
-term-call-determined {p = p} {ts = ts} {r = r} {s = s} h c d =
-    let y = c .taken p ts h in
-    let z = d .taken p ts h in
+term-call-determined {name = name} {ts = ts} {r = r} {s = s} h c d =
+    let y = c .taken name ts h in
+    let z = d .taken name ts h in
     let readings = free-determined (r .reading) (s .reading) (y .reading ∙ sym (z .reading)) in
     let meters = y .meter ∙ sym (z .meter) in (
       λ i. record { reading = readings i; meter = meters i },
@@ -314,13 +318,13 @@ term-call-determined {p = p} {ts = ts} {r = r} {s = s} h c d =
     )
 
 pub reading-call-determined :
-    {model : MeterModel} {p : ℕ} {ts terms work : List ℕ} {m : Meter} {r s : FreeRating}
-    → Holding model p ts m terms work
+    {model : MeterModel} {name : FieldName} {ts terms work : List ℕ} {m : Meter} {r s : FreeRating}
+    → Holding model name ts m terms work
     → ReadingCall model m r
     → ReadingCall model m s
     → r ≡ s
-reading-call-determined {p = p} {ts = ts} {terms = terms} {work = work} {r = r} {s = s} h c d =
-    free-determined r s (c .reading p ts terms work h ∙ sym (d .reading p ts terms work h))
+reading-call-determined {name = name} {ts = ts} {terms = terms} {work = work} {r = r} {s = s} h c d =
+    free-determined r s (c .reading name ts terms work h ∙ sym (d .reading name ts terms work h))
 
 entry : Result EntryFigures → Option EntryRating
 entry (refused n) = refusing EntryRating.Refused n
@@ -345,9 +349,9 @@ pub catalogue-call-determined : {i r s : ℕ} → CatalogueCall i r → Catalogu
 catalogue-call-determined c d = c .answer ∙ sym (d .answer)
 
 pub continue-call-determined :
-    {p : ℕ} {g start buffer : List ℕ} {place : ℕ} {b c : List ℕ} {r s : Filling}
-    → ContinueCall p g start buffer place r b
-    → ContinueCall p g start buffer place s c
+    {name : FieldName} {g start buffer : List ℕ} {place : ℕ} {b c : List ℕ} {r s : Filling}
+    → ContinueCall name g start buffer place r b
+    → ContinueCall name g start buffer place s c
     → (r ≡ s) × (b ≡ c)
 continue-call-determined {r = r} {s = s} c d =
     (filling-determined r s (c .filling ∙ sym (d .filling)), c .bufferBytes ∙ sym (d .bufferBytes))

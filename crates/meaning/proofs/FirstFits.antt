@@ -9,10 +9,10 @@ use mathlib.Core.List.{List, [], _∷_}
 use Rattle.meaning.specs.Polynomial.{Polynomial}
 use Rattle.meaning.specs.Result.{Result, answered, Rated}
 use Rattle.meaning.specs.Free.{FreeFigures, rateFree}
-use Rattle.meaning.proofs.Computed.{computed}
+use Rattle.meaning.proofs.Computed.{GF, computed}
 
 abbrev rated : ℕ → List ℕ → Result (Rated FreeFigures)
-rated p ts = rateFree p ts 4097 8192
+rated p ts = rateFree (GF p) ts 4097 8192
 
 abbrev free : ℕ → Bool → Polynomial → Result (Rated FreeFigures)
 free d u g = answered (record { figures = record { degree = d; unique = u }; polynomial = g })

@@ -13,7 +13,7 @@ use Rattle.meaning.specs.Continuation.{continueSequence}
 use Rattle.meaning.specs.Irreducibility.{askIrreducible}
 use Rattle.meaning.specs.Route.{readRecord}
 use Rattle.meaning.specs.Print.{text, printed}
-use Rattle.meaning.proofs.Computed.{computed}
+use Rattle.meaning.proofs.Computed.{GF, computed}
 use Rattle.meaning.proofs.Rows.{box, field, mode, factor, record5, term, terms, stop, end}
 use Rattle.meaning.proofs.Rows.{x²+1, x²+x+1, caseA}
 
@@ -23,15 +23,15 @@ headed m rest = box 7 ++ (field 2 ++ (mode m ++ rest))
 
 pub record Lines : Type 0 where
   -- rows M and N of paper 01
-  pub M : ratePeriod 2 x²+1 (0 ∷ []) 4097 8192 ≡ refused 12
-  pub M-asked : askIrreducible 2 x²+1 ≡ answered false
-  pub M-over-3 : askIrreducible 3 x²+1 ≡ answered true
-  pub N : continueSequence 2 x²+x+1 (0 ∷ 1 ∷ []) 0 (9 ∷ 9 ∷ 9 ∷ 9 ∷ 9 ∷ 9 ∷ [])
+  pub M : ratePeriod (GF 2) x²+1 (0 ∷ []) 4097 8192 ≡ refused 12
+  pub M-asked : askIrreducible (GF 2) x²+1 ≡ answered false
+  pub M-over-3 : askIrreducible (GF 3) x²+1 ≡ answered true
+  pub N : continueSequence (GF 2) x²+x+1 (0 ∷ 1 ∷ []) 0 (9 ∷ 9 ∷ 9 ∷ 9 ∷ 9 ∷ 9 ∷ [])
       ≡ answered (0 ∷ 1 ∷ 1 ∷ 0 ∷ 1 ∷ 1 ∷ [])
-  pub N-over-3 : continueSequence 3 x²+x+1 (0 ∷ 1 ∷ []) 0 (9 ∷ 9 ∷ 9 ∷ 9 ∷ 9 ∷ 9 ∷ [])
+  pub N-over-3 : continueSequence (GF 3) x²+x+1 (0 ∷ 1 ∷ []) 0 (9 ∷ 9 ∷ 9 ∷ 9 ∷ 9 ∷ 9 ∷ [])
       ≡ answered (0 ∷ 1 ∷ 2 ∷ 0 ∷ 1 ∷ 2 ∷ [])
-  pub N-from-two : continueSequence 2 x²+x+1 (0 ∷ 1 ∷ []) 2 (9 ∷ 8 ∷ 7 ∷ []) ≡ answered (9 ∷ 8 ∷ 0 ∷ [])
-  pub degree0fillsZeros : continueSequence 2 (1 ∷ []) [] 1 (9 ∷ 9 ∷ 9 ∷ []) ≡ answered (9 ∷ 0 ∷ 0 ∷ [])
+  pub N-from-two : continueSequence (GF 2) x²+x+1 (0 ∷ 1 ∷ []) 2 (9 ∷ 8 ∷ 7 ∷ []) ≡ answered (9 ∷ 8 ∷ 0 ∷ [])
+  pub degree0fillsZeros : continueSequence (GF 2) (1 ∷ []) [] 1 (9 ∷ 9 ∷ 9 ∷ []) ≡ answered (9 ∷ 0 ∷ 0 ∷ [])
   -- the printed lines: case A as paper 01 shows it, a refusal, each mode, terms of kinds 5 and 6, the
   -- box of a bad file
   pub printedA : printed (caseA 3 (1 ∷ 1 ∷ []))

@@ -13,43 +13,44 @@ use mathlib.Core.Path.{_≡_, refl}
 use mathlib.Core.Bool.{true, false}
 use mathlib.Core.List.{[], _∷_}
 use lib.Dec.{T}
+use Rattle.meaning.specs.declared.FieldName.{FieldName}
 use Rattle.meaning.specs.Polynomial.{Polynomial}
 use Rattle.meaning.specs.Result.{answered, refused}
 use Rattle.meaning.specs.Conditions.{acceptedLent}
 use Rattle.meaning.specs.Period.{ratePeriod}
 use Rattle.meaning.specs.Portion.{rateSet, acceptedFactors}
 use Rattle.meaning.specs.Free.{rateFree}
-use Rattle.meaning.proofs.Computed.{computed}
+use Rattle.meaning.proofs.Computed.{GF, computed}
 use Rattle.meaning.proofs.Rows.{powerAnswer, setAnswer}
 use Rattle.meaning.proofs.ZeroPeriod.{zeros, zero-period}
 
 pub record MarkedRows : Type 0 where
-  pub A : rateSet 2 ((1 ∷ 1 ∷ 0 ∷ 1 ∷ []) ∷ []) (6 ∷ [])
+  pub A : rateSet (GF 2) ((1 ∷ 1 ∷ 0 ∷ 1 ∷ []) ∷ []) (6 ∷ [])
       (0 ∷ 1 ∷ 0 ∷ 1 ∷ 0 ∷ 0 ∷ 0 ∷ 0 ∷ 1 ∷ 0 ∷ 1 ∷ 1 ∷ 0 ∷ 1 ∷ 0 ∷ 1 ∷ 1 ∷ 0 ∷ [])
       4097 8192
       ≡ setAnswer (4 ∷ []) 12 28 (1 ∷ 0 ∷ 0 ∷ 0 ∷ 1 ∷ 0 ∷ 0 ∷ 0 ∷ 0 ∷ 0 ∷ 0 ∷ 0 ∷ 1 ∷ [])
-  pub B : ratePeriod 2 (1 ∷ 1 ∷ []) (0 ∷ 0 ∷ 0 ∷ 1 ∷ []) 4097 8192
+  pub B : ratePeriod (GF 2) (1 ∷ 1 ∷ []) (0 ∷ 0 ∷ 0 ∷ 1 ∷ []) 4097 8192
       ≡ powerAnswer 4 4 4 (1 ∷ 0 ∷ 0 ∷ 0 ∷ 1 ∷ [])
-  pub C : ratePeriod 2 (1 ∷ 1 ∷ []) (1 ∷ 1 ∷ 1 ∷ 1 ∷ []) 4097 8192 ≡ powerAnswer 1 1 1 (1 ∷ 1 ∷ [])
-  pub D : (p n : ℕ) (f : Polynomial) (answer work : ℕ)
-      → T (acceptedFactors p (f ∷ []) (1 ∷ []))
+  pub C : ratePeriod (GF 2) (1 ∷ 1 ∷ []) (1 ∷ 1 ∷ 1 ∷ 1 ∷ []) 4097 8192 ≡ powerAnswer 1 1 1 (1 ∷ 1 ∷ [])
+  pub D : (name : FieldName) (n : ℕ) (f : Polynomial) (answer work : ℕ)
+      → T (acceptedFactors name (f ∷ []) (1 ∷ []))
       → T (acceptedLent answer work)
       → 1 ≤ n
       → n ≤ 4096
-      → ratePeriod p f (zeros n) answer work ≡ powerAnswer 0 0 1 (1 ∷ [])
-  pub E : ratePeriod 3 (2 ∷ 1 ∷ []) (0 ∷ 1 ∷ 2 ∷ []) 4097 8192 ≡ powerAnswer 2 2 3 (1 ∷ 1 ∷ 1 ∷ [])
-  pub F : ratePeriod 2 (1 ∷ 1 ∷ 1 ∷ []) (0 ∷ 0 ∷ 0 ∷ 1 ∷ []) 4097 8192 ≡ refused 17
-  pub G : rateSet 2 ((1 ∷ 1 ∷ []) ∷ []) (2 ∷ []) (1 ∷ 0 ∷ []) 4097 8192
+      → ratePeriod name f (zeros n) answer work ≡ powerAnswer 0 0 1 (1 ∷ [])
+  pub E : ratePeriod (GF 3) (2 ∷ 1 ∷ []) (0 ∷ 1 ∷ 2 ∷ []) 4097 8192 ≡ powerAnswer 2 2 3 (1 ∷ 1 ∷ 1 ∷ [])
+  pub F : ratePeriod (GF 2) (1 ∷ 1 ∷ 1 ∷ []) (0 ∷ 0 ∷ 0 ∷ 1 ∷ []) 4097 8192 ≡ refused 17
+  pub G : rateSet (GF 2) ((1 ∷ 1 ∷ []) ∷ []) (2 ∷ []) (1 ∷ 0 ∷ []) 4097 8192
       ≡ setAnswer (2 ∷ []) 2 2 (1 ∷ 0 ∷ 1 ∷ [])
-  pub H : rateFree 2 (1 ∷ 0 ∷ []) 4097 8192
+  pub H : rateFree (GF 2) (1 ∷ 0 ∷ []) 4097 8192
       ≡ answered (record { figures = record { degree = 1; unique = true }; polynomial = 0 ∷ 1 ∷ [] })
-  pub I : rateFree 2 (0 ∷ 1 ∷ []) 4097 8192
+  pub I : rateFree (GF 2) (0 ∷ 1 ∷ []) 4097 8192
       ≡ answered (record { figures = record { degree = 2; unique = false }; polynomial = 0 ∷ 0 ∷ 1 ∷ [] })
-  pub J : rateSet 2 ((0 ∷ 1 ∷ []) ∷ []) (3 ∷ []) (1 ∷ 1 ∷ 0 ∷ []) 4097 8192
+  pub J : rateSet (GF 2) ((0 ∷ 1 ∷ []) ∷ []) (3 ∷ []) (1 ∷ 1 ∷ 0 ∷ []) 4097 8192
       ≡ setAnswer (2 ∷ []) 2 0 (0 ∷ 0 ∷ 1 ∷ [])
-  pub K : rateSet 2 ((1 ∷ 1 ∷ []) ∷ (1 ∷ 1 ∷ 1 ∷ []) ∷ []) (1 ∷ 1 ∷ []) (0 ∷ 1 ∷ 1 ∷ []) 4097 8192
+  pub K : rateSet (GF 2) ((1 ∷ 1 ∷ []) ∷ (1 ∷ 1 ∷ 1 ∷ []) ∷ []) (1 ∷ 1 ∷ []) (0 ∷ 1 ∷ 1 ∷ []) 4097 8192
       ≡ setAnswer (0 ∷ 1 ∷ []) 2 3 (1 ∷ 1 ∷ 1 ∷ [])
-  pub L : rateSet 2 ((1 ∷ 1 ∷ []) ∷ []) (1 ∷ []) (1 ∷ 0 ∷ []) 4097 8192 ≡ refused 17
+  pub L : rateSet (GF 2) ((1 ∷ 1 ∷ []) ∷ []) (1 ∷ []) (1 ∷ 0 ∷ []) 4097 8192 ≡ refused 17
 
 pub marked-rows : MarkedRows
 unfolding computed

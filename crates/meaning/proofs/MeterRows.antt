@@ -3,7 +3,7 @@
 -- definition far too long.
 --
 --   MeterRows == the table: a field for each row      meter-rows == every row holds
---   reading-first == before the first term 0 and `one`, whatever the prime
+--   reading-first == before the first term 0 and `one`, whatever the field
 -- Assumes nothing.
 use mathlib.Core.Path.{_≡_, refl}
 use mathlib.Core.Bool.{Bool, true, false}
@@ -11,41 +11,42 @@ use mathlib.Core.List.{[], _∷_}
 use mathlib.Core.Option.{none, some}
 use Prim.Native.Nat.{ℕ}
 use lib.ListN.{replicate}
+use Rattle.meaning.specs.Field.{Field, prime}
 use Rattle.meaning.specs.Result.{Result, refused, answered, firstOf}
 use Rattle.meaning.specs.Free.{FreeFigures}
 use Rattle.meaning.specs.Meter.{startMeter, meterFull, termTable, takeTerm, meterReading}
 use Rattle.meaning.specs.Meter.{profileEntry, profileOf}
-use Rattle.meaning.proofs.Computed.{computed}
+use Rattle.meaning.proofs.Computed.{GF, computed}
 
 abbrev figures : ℕ → Bool → Result FreeFigures
 figures d u = answered (record { degree = d; unique = u })
 
 pub record MeterRows : Type 0 where
-  pub started : startMeter 251 ≡ answered tt
-  pub start6 : startMeter 253 ≡ refused 6
+  pub started : startMeter (GF 251) ≡ answered tt
+  pub start6 : startMeter (GF 253) ≡ refused 6
   -- before the first term, and 0, 1, 0, 0 over GF(2): row I is the second
-  pub before-first : meterReading 2 [] ≡ figures 0 true
-  pub first : takeTerm 2 [] 0 ≡ figures 0 true
-  pub second : takeTerm 2 (0 ∷ []) 1 ≡ figures 2 false
-  pub third : takeTerm 2 (0 ∷ 1 ∷ []) 0 ≡ figures 2 false
-  pub fourth : takeTerm 2 (0 ∷ 1 ∷ 0 ∷ []) 0 ≡ figures 2 true
-  pub over3 : takeTerm 3 (1 ∷ 2 ∷ []) 1 ≡ figures 1 true
+  pub before-first : meterReading (prime 2) [] ≡ figures 0 true
+  pub first : takeTerm (prime 2) [] 0 ≡ figures 0 true
+  pub second : takeTerm (prime 2) (0 ∷ []) 1 ≡ figures 2 false
+  pub third : takeTerm (prime 2) (0 ∷ 1 ∷ []) 0 ≡ figures 2 false
+  pub fourth : takeTerm (prime 2) (0 ∷ 1 ∷ 0 ∷ []) 0 ≡ figures 2 true
+  pub over3 : takeTerm (prime 3) (1 ∷ 2 ∷ []) 1 ≡ figures 1 true
   -- 8, and 18 after it
-  pub term8 : takeTerm 2 (0 ∷ 1 ∷ []) 2 ≡ refused 8
-  pub largest : takeTerm 251 [] 250 ≡ figures 1 false
-  pub term18 : takeTerm 2 (replicate 4096 0) 1 ≡ refused 18
-  pub term8and18 : takeTerm 2 (replicate 4096 0) 2 ≡ refused 8
+  pub term8 : takeTerm (prime 2) (0 ∷ 1 ∷ []) 2 ≡ refused 8
+  pub largest : takeTerm (prime 251) [] 250 ≡ figures 1 false
+  pub term18 : takeTerm (prime 2) (replicate 4096 0) 1 ≡ refused 18
+  pub term8and18 : takeTerm (prime 2) (replicate 4096 0) 2 ≡ refused 8
   -- a meter that holds 4,095 terms takes one more, one that holds 4,096 does not
   pub last-open : meterFull 4095 ≡ false
   pub full : meterFull 4096 ≡ true
-  pub last-taken : firstOf (termTable 2 4095 1) ≡ none
-  pub one-more : firstOf (termTable 2 4096 1) ≡ some 18
+  pub last-taken : firstOf (termTable (prime 2) 4095 1) ≡ none
+  pub one-more : firstOf (termTable (prime 2) 4096 1) ≡ some 18
   -- a degree of two bytes, the less significant first
   pub two-bytes : profileEntry 0 (record { degree = 513; unique = false }) ≡ 0 ∷ 1 ∷ 2 ∷ 0 ∷ []
   pub byte-full : profileEntry 0 (record { degree = 255; unique = true }) ≡ 0 ∷ 255 ∷ 0 ∷ 1 ∷ []
   pub byte-over : profileEntry 18 (record { degree = 256; unique = true }) ≡ 18 ∷ 0 ∷ 1 ∷ 1 ∷ []
   -- a refused term in the midst: the figures stay, and so does what follows
-  pub profile : profileOf 2 [] (0 ∷ 1 ∷ 2 ∷ 0 ∷ 0 ∷ [])
+  pub profile : profileOf (prime 2) [] (0 ∷ 1 ∷ 2 ∷ 0 ∷ 0 ∷ [])
       ≡ (0 ∷ 0 ∷ 0 ∷ 1 ∷ 0 ∷ 2 ∷ 0 ∷ 0 ∷ 8 ∷ 2 ∷ 0 ∷ 0 ∷ 0 ∷ 2 ∷ 0 ∷ 0 ∷ 0 ∷ 2 ∷ 0 ∷ 1 ∷ [])
 
 pub meter-rows : MeterRows
@@ -74,6 +75,6 @@ meter-rows =
       profile = refl;
     }
 
-pub reading-first : (p : ℕ) → meterReading p [] ≡ figures 0 true
+pub reading-first : (F : Field) → meterReading F [] ≡ figures 0 true
 unfolding computed
-reading-first p = refl
+reading-first F = refl

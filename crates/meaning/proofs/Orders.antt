@@ -15,7 +15,7 @@ use Rattle.meaning.specs.Free.{rateFree}
 use Rattle.meaning.specs.Continuation.{continueSequence}
 use Rattle.meaning.specs.Irreducibility.{askIrreducible}
 use Rattle.meaning.specs.File.{rateFile}
-use Rattle.meaning.proofs.Computed.{computed}
+use Rattle.meaning.proofs.Computed.{GF, computed}
 use Rattle.meaning.proofs.Rows.{numberIn, box, field, mode, factor, term, stop, end, x+1, x²+1}
 use Rattle.meaning.proofs.Rows.{x²+x+1, headed}
 
@@ -30,7 +30,7 @@ abbrev badDegree : Polynomial
 badDegree = 1 ∷ []
 
 abbrev set : List Polynomial → List ℕ → List ℕ → Option ℕ
-set fs vs ts = numberIn (rateSet 2 fs vs ts 4097 8192)
+set fs vs ts = numberIn (rateSet (GF 2) fs vs ts 4097 8192)
 
 -- with one factor
 abbrev single : Polynomial → ℕ → List ℕ → Option ℕ
@@ -41,15 +41,15 @@ ofFile file = numberIn (rateFile file 4097 8192)
 
 pub record Orders : Type 0 where
   -- the period way: the lower number is given
-  pub period6and7 : numberIn (ratePeriod 4 x+1 [] 4097 8192) ≡ some 6
-  pub period7and8 : numberIn (ratePeriod 2 x+1 (replicate 4097 2) 4097 8192) ≡ some 7
-  pub period8and10 : numberIn (ratePeriod 2 badDegree (2 ∷ []) 4097 8192) ≡ some 8
-  pub period10and11 : numberIn (ratePeriod 2 (2 ∷ []) (0 ∷ []) 4097 8192) ≡ some 10
-  pub period12and16 : numberIn (ratePeriod 2 x²+1 (0 ∷ []) 0 0) ≡ some 12
-  pub period16and17 : numberIn (ratePeriod 2 x²+x+1 (0 ∷ 0 ∷ 0 ∷ 1 ∷ []) 4097 0) ≡ some 16
+  pub period6and7 : numberIn (ratePeriod (GF 4) x+1 [] 4097 8192) ≡ some 6
+  pub period7and8 : numberIn (ratePeriod (GF 2) x+1 (replicate 4097 2) 4097 8192) ≡ some 7
+  pub period8and10 : numberIn (ratePeriod (GF 2) badDegree (2 ∷ []) 4097 8192) ≡ some 8
+  pub period10and11 : numberIn (ratePeriod (GF 2) (2 ∷ []) (0 ∷ []) 4097 8192) ≡ some 10
+  pub period12and16 : numberIn (ratePeriod (GF 2) x²+1 (0 ∷ []) 0 0) ≡ some 12
+  pub period16and17 : numberIn (ratePeriod (GF 2) x²+x+1 (0 ∷ 0 ∷ 0 ∷ 1 ∷ []) 4097 0) ≡ some 16
   -- the set way, with no factor, one and several: 9 stands between 8 and 10, and 13 between 12 and 14; of one
   -- factor neither holds
-  pub set6and7 : numberIn (rateSet 4 (x+1 ∷ []) (1 ∷ []) [] 4097 8192) ≡ some 6
+  pub set6and7 : numberIn (rateSet (GF 4) (x+1 ∷ []) (1 ∷ []) [] 4097 8192) ≡ some 6
   pub set7and8 : single x+1 1 (replicate 4097 2) ≡ some 7
   pub set8and9 : set [] [] (2 ∷ []) ≡ some 8
   pub set8and10 : single badDegree 1 (2 ∷ []) ≡ some 8
@@ -61,19 +61,19 @@ pub record Orders : Type 0 where
   pub set12and14 : single x²+1 0 (0 ∷ []) ≡ some 12
   pub set13and14 : set (x+1 ∷ x+1 ∷ []) [] (0 ∷ []) ≡ some 13
   pub set14and15 : single x+1 4097 (0 ∷ []) ≡ some 14
-  pub set15and16 : numberIn (rateSet 2 (x+1 ∷ []) (2 ∷ []) (0 ∷ []) 0 0) ≡ some 15
-  pub set16and17 : numberIn (rateSet 2 (x+1 ∷ []) (1 ∷ []) (1 ∷ 0 ∷ []) 0 0) ≡ some 16
+  pub set15and16 : numberIn (rateSet (GF 2) (x+1 ∷ []) (2 ∷ []) (0 ∷ []) 0 0) ≡ some 15
+  pub set16and17 : numberIn (rateSet (GF 2) (x+1 ∷ []) (1 ∷ []) (1 ∷ 0 ∷ []) 0 0) ≡ some 16
   -- the free way, the continuation, the question whether a polynomial is irreducible
-  pub free6and7 : numberIn (rateFree 4 [] 4097 8192) ≡ some 6
-  pub free7and8 : numberIn (rateFree 2 (replicate 4097 2) 4097 8192) ≡ some 7
-  pub free8and16 : numberIn (rateFree 2 (2 ∷ []) 0 0) ≡ some 8
-  pub continue6and7 : numberIn (continueSequence 4 x+1 (1 ∷ []) 0 []) ≡ some 6
-  pub continue7and8 : numberIn (continueSequence 2 x+1 (2 ∷ []) 0 []) ≡ some 7
-  pub continue8and10 : numberIn (continueSequence 2 (replicate 4098 0) (2 ∷ []) 0 (0 ∷ [])) ≡ some 8
-  pub continue10and11 : numberIn (continueSequence 2 (replicate 4098 0) [] 0 (0 ∷ [])) ≡ some 10
-  pub continue11and15 : numberIn (continueSequence 2 [] (1 ∷ []) 0 (0 ∷ [])) ≡ some 11
-  pub ask6and10 : numberIn (askIrreducible 4 badDegree) ≡ some 6
-  pub ask10and11 : numberIn (askIrreducible 2 (2 ∷ [])) ≡ some 10
+  pub free6and7 : numberIn (rateFree (GF 4) [] 4097 8192) ≡ some 6
+  pub free7and8 : numberIn (rateFree (GF 2) (replicate 4097 2) 4097 8192) ≡ some 7
+  pub free8and16 : numberIn (rateFree (GF 2) (2 ∷ []) 0 0) ≡ some 8
+  pub continue6and7 : numberIn (continueSequence (GF 4) x+1 (1 ∷ []) 0 []) ≡ some 6
+  pub continue7and8 : numberIn (continueSequence (GF 2) x+1 (2 ∷ []) 0 []) ≡ some 7
+  pub continue8and10 : numberIn (continueSequence (GF 2) (replicate 4098 0) (2 ∷ []) 0 (0 ∷ [])) ≡ some 8
+  pub continue10and11 : numberIn (continueSequence (GF 2) (replicate 4098 0) [] 0 (0 ∷ [])) ≡ some 10
+  pub continue11and15 : numberIn (continueSequence (GF 2) [] (1 ∷ []) 0 (0 ∷ [])) ≡ some 11
+  pub ask6and10 : numberIn (askIrreducible (GF 4) badDegree) ≡ some 6
+  pub ask10and11 : numberIn (askIrreducible (GF 2) (2 ∷ [])) ≡ some 10
   -- each check goes over all factors before the next begins
   pub tenOverAll : set (badCoefficient ∷ badDegree ∷ []) [] (0 ∷ []) ≡ some 10
   pub elevenOverAll : set (x²+1 ∷ badLeading ∷ []) [] (0 ∷ []) ≡ some 11

@@ -5,18 +5,22 @@
 --   before n table    == the conditions before the first that is numbered n
 --   Passes table      == no condition of the table holds: `noneHolds` says it of the table, each other field
 --                        of one condition. Of a condition that the table does not have it says nothing
---   firstOf-passes    == so it is where the table decides nothing; accepted-passes == of accepted factors
+--   firstOf-passes    == so it is where the table decides nothing; accepted-passes == of accepted factors,
+--                        whose field exists (accepted-field)
 --   a & b & … & nothing == the same from what is known of each condition, in the order of the table
 --   firstOf-decides   == a table that decides by n: n holds, and no condition before it
 -- Assumes nothing.
 use Prim.Native.Nat.{ℕ}
 use mathlib.Core.Path.{_≡_, refl, sym, subst, _∙_}
-use mathlib.Core.Bool.{Bool, true, false, _||_, or-true}
+use mathlib.Core.Bool.{Bool, true, false, not, _&&_, _||_, or-true}
 use mathlib.Core.List.{List, [], _∷_}
 use mathlib.Core.Option.{none, some, Option·some-injective, Option·some-ne-none, Option·none-ne-some}
 use lib.Dec.{T, eqb, eqb-refl}
+use Rattle.meaning.specs.declared.FieldName.{FieldName}
+use Rattle.meaning.specs.Search.{isNone}
 use Rattle.meaning.specs.Polynomial.{Polynomial}
 use Rattle.meaning.specs.Result.{Check, firstOf}
+use Rattle.meaning.specs.FieldNames.{namedField, notField}
 use Rattle.meaning.specs.Portion.{acceptedFactors, factorTable}
 use Rattle.meaning.proofs.Tables.{firstOf-skip, firstOf-stop, isNone-none}
 
@@ -30,7 +34,6 @@ before n (c ∷ table) = elim (eqb (c .0) n) [ true ↦ [] | false ↦ c ∷ bef
 
 pub record Passes (table : List Check) : Type 0 where
   pub noneHolds : firstOf table ≡ none
-  pub fieldExists : holds 6 table ≡ false
   pub countInRange : holds 7 table ≡ false
   pub termsInField : holds 8 table ≡ false
   pub factorCount : holds 9 table ≡ false
@@ -59,7 +62,6 @@ pub firstOf-passes : (table : List Check) → firstOf table ≡ none → Passes 
 firstOf-passes table h =
     record {
       noneHolds = h;
-      fieldExists = firstOf-holds 6 table h;
       countInRange = firstOf-holds 7 table h;
       termsInField = firstOf-holds 8 table h;
       factorCount = firstOf-holds 9 table h;
@@ -102,7 +104,24 @@ firstOf-decides n (c ∷ table) h = by (firstOf-decides n table) (eqb (c .0) n) 
         absurd (subst T i (subst (λ m. T (eqb (c .0) m)) same (eqb-refl (c .0))))
     by rest false false i e = let (p, q) = rest (sym (firstOf-skip c table e) ∙ h) in (e & p, q)
 
-pub accepted-passes : (p : ℕ) (fs : List Polynomial) (us : List ℕ) → T (acceptedFactors p fs us)
-    → Passes (factorTable p fs us)
-unfolding acceptedFactors
-accepted-passes p fs us h = firstOf-passes (factorTable p fs us) (isNone-none h)
+module _ (name : FieldName) (fs : List Polynomial) (us : List ℕ) (h : T (acceptedFactors name fs us)) where
+  abbrev table : List Check
+  table = factorTable (namedField name) fs us
+
+  accepted-both : T (not (notField name)) × T (isNone (firstOf table))
+  unfolding acceptedFactors
+  accepted-both = both (not (notField name)) (isNone (firstOf table)) h
+    where
+      both : (b c : Bool) → T (b && c) → T b × T c
+      both true c k = (tt, k)
+      both false c k = absurd k
+
+  pub accepted-field : notField name ≡ false
+  accepted-field = go (notField name) (accepted-both .0)
+    where
+      go : (b : Bool) → T (not b) → b ≡ false
+      go true k = absurd k
+      go false k = refl
+
+  pub accepted-passes : Passes table
+  accepted-passes = firstOf-passes table (isNone-none (accepted-both .1))

@@ -14,7 +14,7 @@ use Rattle.meaning.specs.Continuation.{continueSequence}
 use Rattle.meaning.specs.Irreducibility.{askIrreducible}
 use Rattle.meaning.specs.Route.{readRecord}
 use Rattle.meaning.specs.File.{rateFile}
-use Rattle.meaning.proofs.Computed.{computed}
+use Rattle.meaning.proofs.Computed.{GF, computed}
 use Rattle.meaning.proofs.Rows.{numberIn, box, field, factor, term, terms, end, headed, x+1, x²+1}
 use Rattle.meaning.proofs.Rows.{x²+x+1}
 
@@ -61,42 +61,44 @@ pub record Refusals : Type 0 where
       4097 8192)
       ≡ some 17
   -- the period way
-  pub period6 : numberIn (ratePeriod 4 x+1 (0 ∷ 1 ∷ []) 4097 8192) ≡ some 6
-  pub period7 : numberIn (ratePeriod 2 x+1 [] 4097 8192) ≡ some 7
-  pub period8 : numberIn (ratePeriod 2 x+1 (0 ∷ 2 ∷ []) 4097 8192) ≡ some 8
-  pub period10 : numberIn (ratePeriod 2 (1 ∷ []) (0 ∷ 1 ∷ []) 4097 8192) ≡ some 10
-  pub period11 : numberIn (ratePeriod 2 [] (0 ∷ 1 ∷ []) 4097 8192) ≡ some 11
-  pub period12 : numberIn (ratePeriod 2 x²+1 (0 ∷ 1 ∷ []) 4097 8192) ≡ some 12
-  pub period16 : numberIn (ratePeriod 2 x+1 (0 ∷ 1 ∷ []) 4096 8192) ≡ some 16
-  pub period17 : numberIn (ratePeriod 2 x²+x+1 (0 ∷ 0 ∷ 0 ∷ 1 ∷ []) 4097 8192) ≡ some 17
+  pub period6 : numberIn (ratePeriod (GF 4) x+1 (0 ∷ 1 ∷ []) 4097 8192) ≡ some 6
+  pub period7 : numberIn (ratePeriod (GF 2) x+1 [] 4097 8192) ≡ some 7
+  pub period8 : numberIn (ratePeriod (GF 2) x+1 (0 ∷ 2 ∷ []) 4097 8192) ≡ some 8
+  pub period10 : numberIn (ratePeriod (GF 2) (1 ∷ []) (0 ∷ 1 ∷ []) 4097 8192) ≡ some 10
+  pub period11 : numberIn (ratePeriod (GF 2) [] (0 ∷ 1 ∷ []) 4097 8192) ≡ some 11
+  pub period12 : numberIn (ratePeriod (GF 2) x²+1 (0 ∷ 1 ∷ []) 4097 8192) ≡ some 12
+  pub period16 : numberIn (ratePeriod (GF 2) x+1 (0 ∷ 1 ∷ []) 4096 8192) ≡ some 16
+  pub period17 : numberIn (ratePeriod (GF 2) x²+x+1 (0 ∷ 0 ∷ 0 ∷ 1 ∷ []) 4097 8192) ≡ some 17
   -- the set way
-  pub set6 : numberIn (rateSet 4 (x+1 ∷ x²+x+1 ∷ []) (1 ∷ 1 ∷ []) (0 ∷ 1 ∷ 1 ∷ []) 4097 8192) ≡ some 6
-  pub set7 : numberIn (rateSet 2 (x+1 ∷ x²+x+1 ∷ []) (1 ∷ 1 ∷ []) [] 4097 8192) ≡ some 7
-  pub set8 : numberIn (rateSet 2 (x+1 ∷ x²+x+1 ∷ []) (1 ∷ 1 ∷ []) (0 ∷ 1 ∷ 2 ∷ []) 4097 8192) ≡ some 8
-  pub set9 : numberIn (rateSet 2 [] [] (0 ∷ 1 ∷ 1 ∷ []) 4097 8192) ≡ some 9
-  pub set10 : numberIn (rateSet 2 (x+1 ∷ (1 ∷ []) ∷ []) (1 ∷ 1 ∷ []) (0 ∷ 1 ∷ 1 ∷ []) 4097 8192) ≡ some 10
-  pub set11 : numberIn (rateSet 2 (x+1 ∷ [] ∷ []) (1 ∷ 1 ∷ []) (0 ∷ 1 ∷ 1 ∷ []) 4097 8192) ≡ some 11
-  pub set12 : numberIn (rateSet 2 (x+1 ∷ x²+1 ∷ []) (1 ∷ 1 ∷ []) (0 ∷ 1 ∷ 1 ∷ []) 4097 8192) ≡ some 12
-  pub set13 : numberIn (rateSet 2 (x+1 ∷ x+1 ∷ []) (1 ∷ 2 ∷ []) (0 ∷ 1 ∷ 1 ∷ []) 4097 8192) ≡ some 13
-  pub set14 : numberIn (rateSet 2 (x+1 ∷ x²+x+1 ∷ []) (1 ∷ 0 ∷ []) (0 ∷ 1 ∷ 1 ∷ []) 4097 8192) ≡ some 14
-  pub set15 : numberIn (rateSet 2 (x+1 ∷ x²+x+1 ∷ []) (1 ∷ 1 ∷ []) (0 ∷ 1 ∷ []) 4097 8192) ≡ some 15
-  pub set16 : numberIn (rateSet 2 (x+1 ∷ x²+x+1 ∷ []) (1 ∷ 1 ∷ []) (0 ∷ 1 ∷ 1 ∷ []) 4097 8191) ≡ some 16
-  pub set17 : numberIn (rateSet 2 (x+1 ∷ x²+x+1 ∷ []) (1 ∷ 1 ∷ []) (0 ∷ 1 ∷ 1 ∷ 1 ∷ []) 4097 8192) ≡ some 17
+  pub set6 : numberIn (rateSet (GF 4) (x+1 ∷ x²+x+1 ∷ []) (1 ∷ 1 ∷ []) (0 ∷ 1 ∷ 1 ∷ []) 4097 8192) ≡ some 6
+  pub set7 : numberIn (rateSet (GF 2) (x+1 ∷ x²+x+1 ∷ []) (1 ∷ 1 ∷ []) [] 4097 8192) ≡ some 7
+  pub set8 : numberIn (rateSet (GF 2) (x+1 ∷ x²+x+1 ∷ []) (1 ∷ 1 ∷ []) (0 ∷ 1 ∷ 2 ∷ []) 4097 8192) ≡ some 8
+  pub set9 : numberIn (rateSet (GF 2) [] [] (0 ∷ 1 ∷ 1 ∷ []) 4097 8192) ≡ some 9
+  pub set10 : numberIn (rateSet (GF 2) (x+1 ∷ (1 ∷ []) ∷ []) (1 ∷ 1 ∷ []) (0 ∷ 1 ∷ 1 ∷ []) 4097 8192) ≡ some
+      10
+  pub set11 : numberIn (rateSet (GF 2) (x+1 ∷ [] ∷ []) (1 ∷ 1 ∷ []) (0 ∷ 1 ∷ 1 ∷ []) 4097 8192) ≡ some 11
+  pub set12 : numberIn (rateSet (GF 2) (x+1 ∷ x²+1 ∷ []) (1 ∷ 1 ∷ []) (0 ∷ 1 ∷ 1 ∷ []) 4097 8192) ≡ some 12
+  pub set13 : numberIn (rateSet (GF 2) (x+1 ∷ x+1 ∷ []) (1 ∷ 2 ∷ []) (0 ∷ 1 ∷ 1 ∷ []) 4097 8192) ≡ some 13
+  pub set14 : numberIn (rateSet (GF 2) (x+1 ∷ x²+x+1 ∷ []) (1 ∷ 0 ∷ []) (0 ∷ 1 ∷ 1 ∷ []) 4097 8192) ≡ some 14
+  pub set15 : numberIn (rateSet (GF 2) (x+1 ∷ x²+x+1 ∷ []) (1 ∷ 1 ∷ []) (0 ∷ 1 ∷ []) 4097 8192) ≡ some 15
+  pub set16 : numberIn (rateSet (GF 2) (x+1 ∷ x²+x+1 ∷ []) (1 ∷ 1 ∷ []) (0 ∷ 1 ∷ 1 ∷ []) 4097 8191) ≡ some 16
+  pub set17 : numberIn (rateSet (GF 2) (x+1 ∷ x²+x+1 ∷ []) (1 ∷ 1 ∷ []) (0 ∷ 1 ∷ 1 ∷ 1 ∷ []) 4097 8192) ≡ some
+      17
   -- the free way
-  pub free6 : numberIn (rateFree 1 (0 ∷ []) 4097 8192) ≡ some 6
-  pub free7 : numberIn (rateFree 2 [] 4097 8192) ≡ some 7
-  pub free8 : numberIn (rateFree 2 (2 ∷ []) 4097 8192) ≡ some 8
-  pub free16 : numberIn (rateFree 2 (0 ∷ []) 4097 8191) ≡ some 16
+  pub free6 : numberIn (rateFree (GF 1) (0 ∷ []) 4097 8192) ≡ some 6
+  pub free7 : numberIn (rateFree (GF 2) [] 4097 8192) ≡ some 7
+  pub free8 : numberIn (rateFree (GF 2) (2 ∷ []) 4097 8192) ≡ some 8
+  pub free16 : numberIn (rateFree (GF 2) (0 ∷ []) 4097 8191) ≡ some 16
   -- the continuation way, and the question whether a polynomial is irreducible
-  pub continue6 : numberIn (continueSequence 9 x+1 (1 ∷ []) 0 (9 ∷ 9 ∷ [])) ≡ some 6
-  pub continue7 : numberIn (continueSequence 2 x+1 (1 ∷ []) 0 []) ≡ some 7
-  pub continue8 : numberIn (continueSequence 2 x+1 (2 ∷ []) 0 (9 ∷ 9 ∷ [])) ≡ some 8
-  pub continue10 : numberIn (continueSequence 2 (replicate 4098 0) [] 0 (9 ∷ 9 ∷ [])) ≡ some 10
-  pub continue11 : numberIn (continueSequence 2 [] [] 0 (9 ∷ 9 ∷ [])) ≡ some 11
-  pub continue15 : numberIn (continueSequence 2 x²+x+1 (0 ∷ []) 0 (9 ∷ 9 ∷ [])) ≡ some 15
-  pub ask6 : numberIn (askIrreducible 6 x+1) ≡ some 6
-  pub ask10 : numberIn (askIrreducible 2 (1 ∷ [])) ≡ some 10
-  pub ask11 : numberIn (askIrreducible 2 []) ≡ some 11
+  pub continue6 : numberIn (continueSequence (GF 9) x+1 (1 ∷ []) 0 (9 ∷ 9 ∷ [])) ≡ some 6
+  pub continue7 : numberIn (continueSequence (GF 2) x+1 (1 ∷ []) 0 []) ≡ some 7
+  pub continue8 : numberIn (continueSequence (GF 2) x+1 (2 ∷ []) 0 (9 ∷ 9 ∷ [])) ≡ some 8
+  pub continue10 : numberIn (continueSequence (GF 2) (replicate 4098 0) [] 0 (9 ∷ 9 ∷ [])) ≡ some 10
+  pub continue11 : numberIn (continueSequence (GF 2) [] [] 0 (9 ∷ 9 ∷ [])) ≡ some 11
+  pub continue15 : numberIn (continueSequence (GF 2) x²+x+1 (0 ∷ []) 0 (9 ∷ 9 ∷ [])) ≡ some 15
+  pub ask6 : numberIn (askIrreducible (GF 6) x+1) ≡ some 6
+  pub ask10 : numberIn (askIrreducible (GF 2) (1 ∷ [])) ≡ some 10
+  pub ask11 : numberIn (askIrreducible (GF 2) []) ≡ some 11
   -- the reader refuses the whole file, whatever number is asked for
   pub read1 : numberIn (readRecord (replicate 16385 0) 0) ≡ some 1
   pub read2 : numberIn (readRecord (box 7 ++ (9 ∷ [])) 0) ≡ some 2
@@ -104,14 +106,14 @@ pub record Refusals : Type 0 where
   pub read4 : numberIn (readRecord (box 7 ++ end) 0) ≡ some 4
   pub read5 : numberIn (readRecord (headed 2 4 end) 0) ≡ some 5
   -- factors are accepted when 6 and 9 to 14 do not turn them down
-  pub accepted : acceptedFactors 2 (x+1 ∷ x²+x+1 ∷ []) (1 ∷ 1 ∷ []) ≡ true
-  pub accepted6 : acceptedFactors 4 (x+1 ∷ x²+x+1 ∷ []) (1 ∷ 1 ∷ []) ≡ false
-  pub accepted9 : acceptedFactors 2 [] [] ≡ false
-  pub accepted10 : acceptedFactors 2 (x+1 ∷ (1 ∷ []) ∷ []) (1 ∷ 1 ∷ []) ≡ false
-  pub accepted11 : acceptedFactors 2 ([] ∷ []) (1 ∷ []) ≡ false
-  pub accepted12 : acceptedFactors 2 (x²+1 ∷ []) (1 ∷ []) ≡ false
-  pub accepted13 : acceptedFactors 2 (x+1 ∷ x+1 ∷ []) (1 ∷ 1 ∷ []) ≡ false
-  pub accepted14 : acceptedFactors 2 (x+1 ∷ x²+x+1 ∷ []) (1 ∷ 0 ∷ []) ≡ false
+  pub accepted : acceptedFactors (GF 2) (x+1 ∷ x²+x+1 ∷ []) (1 ∷ 1 ∷ []) ≡ true
+  pub accepted6 : acceptedFactors (GF 4) (x+1 ∷ x²+x+1 ∷ []) (1 ∷ 1 ∷ []) ≡ false
+  pub accepted9 : acceptedFactors (GF 2) [] [] ≡ false
+  pub accepted10 : acceptedFactors (GF 2) (x+1 ∷ (1 ∷ []) ∷ []) (1 ∷ 1 ∷ []) ≡ false
+  pub accepted11 : acceptedFactors (GF 2) ([] ∷ []) (1 ∷ []) ≡ false
+  pub accepted12 : acceptedFactors (GF 2) (x²+1 ∷ []) (1 ∷ []) ≡ false
+  pub accepted13 : acceptedFactors (GF 2) (x+1 ∷ x+1 ∷ []) (1 ∷ 1 ∷ []) ≡ false
+  pub accepted14 : acceptedFactors (GF 2) (x+1 ∷ x²+x+1 ∷ []) (1 ∷ 0 ∷ []) ≡ false
 
 pub refusals : Refusals
 unfolding computed

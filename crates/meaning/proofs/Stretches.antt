@@ -31,7 +31,7 @@ use Rattle.meaning.specs.Power.{isX}
 use Rattle.meaning.specs.Portion.{acceptedFactors}
 use Rattle.meaning.specs.Free.{Fits, leastDegree}
 use Rattle.meaning.specs.Calls.{PeriodCall, SetCall, FreeCall}
-use Rattle.meaning.proofs.Computed.{computed}
+use Rattle.meaning.proofs.Computed.{GF, computed}
 use Rattle.meaning.proofs.Rows.{x+1}
 
 -- the lent bytes, the work bytes afterwards, and the answer bytes after x² + 1, x + 1, x², x and 1
@@ -75,11 +75,11 @@ tooFewTerms =
 abbrev pub factors : List Polynomial
 factors = x+1 ∷ []
 
-pub accepted-2 : T (acceptedFactors 2 factors (2 ∷ []))
+pub accepted-2 : T (acceptedFactors (GF 2) factors (2 ∷ []))
 unfolding computed
 accepted-2 = tt
 
-pub accepted-3 : T (acceptedFactors 2 factors (3 ∷ []))
+pub accepted-3 : T (acceptedFactors (GF 2) factors (3 ∷ []))
 unfolding computed
 accepted-3 = tt
 
@@ -115,24 +115,24 @@ alternating-annihilated-3 (suc (suc k)) = alternating-annihilated-3 k
 
 -- three terms from place 1 on, the period from place 3 on, four terms from place 1 on
 pub alternating-set :
-    SetCall 2 factors (3 ∷ []) (cut alternating 1 3) answer work (rated 2 2 2) after-x²+1 clean
+    SetCall (GF 2) factors (3 ∷ []) (cut alternating 1 3) answer work (rated 2 2 2) after-x²+1 clean
 unfolding computed alternating
 alternating-set =
     record { rating = refl; powers = refl; lent = record { answerBytes = refl; workBytes = refl } }
 
 pub alternating-period :
-    PeriodCall 2 x+1 (cut alternating 3 2) answer work (PowerRating.Rated 2 2 2) after-x²+1 clean
+    PeriodCall (GF 2) x+1 (cut alternating 3 2) answer work (PowerRating.Rated 2 2 2) after-x²+1 clean
 unfolding computed alternating
 alternating-period = record { rating = refl; lent = record { answerBytes = refl; workBytes = refl } }
 
 pub alternating-free :
-    FreeCall 2 (cut alternating 1 4) answer work (FreeRating.Unique 2) after-x²+1 clean
+    FreeCall (GF 2) (cut alternating 1 4) answer work (FreeRating.Unique 2) after-x²+1 clean
 unfolding computed alternating
 alternating-free = record { rating = refl; lent = record { answerBytes = refl; workBytes = refl } }
 
 -- with the upper power 2, two terms from place 0 on
 pub alternating-short :
-    SetCall 2 factors (2 ∷ []) (cut alternating 0 2) answer work (rated 2 2 2) after-x²+1 clean
+    SetCall (GF 2) factors (2 ∷ []) (cut alternating 0 2) answer work (rated 2 2 2) after-x²+1 clean
 unfolding computed alternating
 alternating-short =
     record { rating = refl; powers = refl; lent = record { answerBytes = refl; workBytes = refl } }
@@ -149,11 +149,11 @@ pub ones-annihilated : AnnihilatesEndless (prime 2) (product (prime 2) (named fa
 unfolding computed ones
 ones-annihilated k = refl
 
-pub ones-set : SetCall 2 factors (2 ∷ []) (cut ones 0 2) answer work (rated 1 1 1) after-x+1 clean
+pub ones-set : SetCall (GF 2) factors (2 ∷ []) (cut ones 0 2) answer work (rated 1 1 1) after-x+1 clean
 unfolding computed ones
 ones-set = record { rating = refl; powers = refl; lent = record { answerBytes = refl; workBytes = refl } }
 
-pub ones-refused : SetCall 2 factors (2 ∷ []) (cut ones 0 1) answer work tooFewTerms answer work
+pub ones-refused : SetCall (GF 2) factors (2 ∷ []) (cut ones 0 1) answer work tooFewTerms answer work
 unfolding computed ones
 ones-refused = record { rating = refl; powers = refl; lent = record { answerBytes = refl; workBytes = refl } }
 
@@ -161,7 +161,7 @@ ones-refused = record { rating = refl; powers = refl; lent = record { answerByte
 abbrev pub x : List Polynomial
 x = (0 ∷ 1 ∷ []) ∷ []
 
-pub accepted-x : T (acceptedFactors 2 x (1 ∷ []))
+pub accepted-x : T (acceptedFactors (GF 2) x (1 ∷ []))
 unfolding computed
 accepted-x = tt
 
@@ -181,12 +181,14 @@ unfolding computed oneThenZeros
 oneThenZeros-annihilated zero = refl
 oneThenZeros-annihilated (suc k) = refl
 
-pub oneThenZeros-set-0 : SetCall 2 x (1 ∷ []) (cut oneThenZeros 0 1) answer work (rated 1 0 1) after-x clean
+pub oneThenZeros-set-0 : SetCall (GF 2) x (1 ∷ []) (cut oneThenZeros 0 1) answer work (rated 1 0 1) after-x
+    clean
 unfolding computed oneThenZeros
 oneThenZeros-set-0 =
     record { rating = refl; powers = refl; lent = record { answerBytes = refl; workBytes = refl } }
 
-pub oneThenZeros-set-1 : SetCall 2 x (1 ∷ []) (cut oneThenZeros 1 1) answer work (rated 0 1 0) after-1 clean
+pub oneThenZeros-set-1 : SetCall (GF 2) x (1 ∷ []) (cut oneThenZeros 1 1) answer work (rated 0 1 0) after-1
+    clean
 unfolding computed oneThenZeros
 oneThenZeros-set-1 =
     record { rating = refl; powers = refl; lent = record { answerBytes = refl; workBytes = refl } }
@@ -207,6 +209,6 @@ pub three-second : Fits (prime 2) three 2 (1 ∷ 0 ∷ 1 ∷ [])
 unfolding computed
 three-second = record { monic = tt; ofDegree = refl; annihilates = tt }
 
-pub three-free : FreeCall 2 three answer work (FreeRating.Several 2) after-x² clean
+pub three-free : FreeCall (GF 2) three answer work (FreeRating.Several 2) after-x² clean
 unfolding computed
 three-free = record { rating = refl; lent = record { answerBytes = refl; workBytes = refl } }

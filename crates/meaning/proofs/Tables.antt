@@ -8,9 +8,12 @@ use mathlib.Core.Option.{Option, none, some}
 use lib.Dec.{T, eqb}
 use borrow.Author.Tests.{ne-eqb}
 use native.Mathlib.Omega.{arith}
+use Rattle.meaning.specs.declared.FieldName.{FieldName}
 use Rattle.meaning.specs.Search.{least, mapOption, holdsForAll, holdsForSome, firstThat, selected}
 use Rattle.meaning.specs.Search.{isNone}
-use Rattle.meaning.specs.Result.{Check, firstOf, settle, valueOf, clearing, clears}
+use Rattle.meaning.specs.Field.{Field}
+use Rattle.meaning.specs.Result.{Result, refused, Check, firstOf, settle, valueOf, clearing, clears}
+use Rattle.meaning.specs.FieldNames.{namedField, notField, fieldNumber, inField}
 
 -- a condition that does not hold is passed over
 pub firstOf-skip : (c : Check) (table : List Check) → (c .1) tt ≡ false → firstOf (c ∷ table) ≡ firstOf table
@@ -25,6 +28,16 @@ pub isNone-none : {A : Type 0} {o : Option A} → T (isNone o) → o ≡ none
 unfolding isNone
 isNone-none {o = none} h = refl
 isNone-none {o = some a} h = absurd h
+
+-- behind the door: the answer in the field that a name stands for, or the refusal of the name
+module _ {A : Type 0} (name : FieldName) (answer : Field → Result A) where
+  pub in-field : notField name ≡ false → inField name answer ≡ answer (namedField name)
+  unfolding inField
+  in-field e = rw (e, inField)
+
+  pub no-field : notField name ≡ true → inField name answer ≡ refused (fieldNumber name)
+  unfolding inField
+  no-field e = rw (e, inField)
 
 pub settle-none : {A : Type 0} (table : List Check) (v : Unit {0} → Option A)
     → firstOf table ≡ none

@@ -20,7 +20,7 @@ use Rattle.meaning.specs.Free.{FreeFigures}
 use Rattle.meaning.specs.Print.{text}
 use Rattle.meaning.specs.Answers.{SetTold, FileTold, withPowers, withOne, withSome}
 use Rattle.meaning.specs.Calls.{PeriodCall, SetCall, FreeCall, FileCall, ProgramCall}
-use Rattle.meaning.proofs.Computed.{computed}
+use Rattle.meaning.proofs.Computed.{GF, computed}
 use Rattle.meaning.proofs.Rows.{x+1, x²+1, x²+x+1}
 use Rattle.meaning.proofs.CallRows.{answer, work, fileA, fileTwice, fileH, fileI, eightZeros, differ}
 
@@ -31,7 +31,8 @@ x+2 = 2 ∷ 1 ∷ []
 
 -- what a wrong rater answers on row B; the bytes afterwards may be any
 abbrev WrongOnB : PowerRating → Type 0
-WrongOnB r = (answer′ work′ : List ℕ) → PeriodCall 2 x+1 (0 ∷ 0 ∷ 0 ∷ 1 ∷ []) answer work r answer′ work′ → ⊥
+WrongOnB r = (answer′ work′ : List ℕ) → PeriodCall (GF 2) x+1 (0 ∷ 0 ∷ 0 ∷ 1 ∷ []) answer work r answer′ work′
+    → ⊥
 
 pub record WrongRaters : Type 0 where
   -- finds the top digit of r − 1 = 11 (base 2) and invents the other
@@ -40,30 +41,30 @@ pub record WrongRaters : Type 0 where
   pub invented-repeat : WrongOnB (PowerRating.Rated 4 4 5)
   -- tells twice the period on row E: a number of terms after which it repeats, not the least
   pub repeat-not-least : (answer′ work′ : List ℕ)
-      → PeriodCall 3 x+2 (0 ∷ 1 ∷ 2 ∷ []) answer work (PowerRating.Rated 2 2 6) answer′ work′
+      → PeriodCall (GF 3) x+2 (0 ∷ 1 ∷ 2 ∷ []) answer work (PowerRating.Rated 2 2 6) answer′ work′
       → ⊥
   pub seventeen-for-all : WrongOnB (PowerRating.Refused Refusal.NotAnnihilated)
   pub one-for-all : WrongOnB (PowerRating.Rated 0 0 1)
   pub refuses-all : WrongOnB (PowerRating.Refused Refusal.NotPrime)
   -- tells the right figures and writes nothing, or something else
   pub nothing-written : (work′ : List ℕ)
-      → PeriodCall 2 x+1 (0 ∷ 0 ∷ 0 ∷ 1 ∷ []) answer work (PowerRating.Rated 4 4 4) answer work′
+      → PeriodCall (GF 2) x+1 (0 ∷ 0 ∷ 0 ∷ 1 ∷ []) answer work (PowerRating.Rated 4 4 4) answer work′
       → ⊥
   pub work-not-cleared : (answer′ : List ℕ)
-      → PeriodCall 2 x+1 (0 ∷ 0 ∷ 0 ∷ 1 ∷ []) answer work (PowerRating.Rated 4 4 4) answer′ work
+      → PeriodCall (GF 2) x+1 (0 ∷ 0 ∷ 0 ∷ 1 ∷ []) answer work (PowerRating.Rated 4 4 4) answer′ work
       → ⊥
   pub refused-and-written : (answer′ work′ : List ℕ)
       → answer′ ≡ 1 ∷ replicate 4098 7
-      → PeriodCall 2 x²+1 (0 ∷ []) answer work (PowerRating.Refused Refusal.Reducible) answer′ work′
+      → PeriodCall (GF 2) x²+1 (0 ∷ []) answer work (PowerRating.Refused Refusal.Reducible) answer′ work′
       → ⊥
   -- answers row H with x², which fits the two terms, but with a degree that is not the least
   pub degree-not-least : (answer′ work′ : List ℕ)
-      → FreeCall 2 (1 ∷ 0 ∷ []) answer work (FreeRating.Several 2) answer′ work′
+      → FreeCall (GF 2) (1 ∷ 0 ∷ []) answer work (FreeRating.Several 2) answer′ work′
       → ⊥
   -- answers row I with x² + 1, which fits the two terms, but x² comes before it
   pub later-one : (answer′ work′ : List ℕ)
       → answer′ ≡ 1 ∷ 0 ∷ 1 ∷ replicate 4096 7
-      → FreeCall 2 (0 ∷ 1 ∷ []) answer work (FreeRating.Several 2) answer′ work′
+      → FreeCall (GF 2) (0 ∷ 1 ∷ []) answer work (FreeRating.Several 2) answer′ work′
       → ⊥
 
 -- a figure of a result, 1000 where it is refused
@@ -117,7 +118,8 @@ first r = r ∷ replicate 7 0
 
 abbrev SetA : SetOutcome → List ℕ → List ℕ → List ℕ → Type 0
 SetA o eight answer′ work′ =
-    SetCall 2 (x³+x+1 ∷ []) (6 ∷ []) termsA answer work (record { outcome = o; powers = eight }) answer′ work′
+    SetCall (GF 2) (x³+x+1 ∷ []) (6 ∷ []) termsA answer work (record { outcome = o; powers = eight }) answer′
+    work′
 
 abbrev WrongSetOnA : SetOutcome → List ℕ → Type 0
 WrongSetOnA o eight = (answer′ work′ : List ℕ) → SetA o eight answer′ work′ → ⊥
@@ -125,7 +127,7 @@ WrongSetOnA o eight = (answer′ work′ : List ℕ) → SetA o eight answer′ 
 abbrev WrongSetOnK : SetOutcome → List ℕ → Type 0
 WrongSetOnK o eight =
     (answer′ work′ : List ℕ)
-    → SetCall 2 (x+1 ∷ x²+x+1 ∷ []) (1 ∷ 1 ∷ []) (0 ∷ 1 ∷ 1 ∷ []) answer work
+    → SetCall (GF 2) (x+1 ∷ x²+x+1 ∷ []) (1 ∷ 1 ∷ []) (0 ∷ 1 ∷ 1 ∷ []) answer work
     (record { outcome = o; powers = eight }) answer′ work′
     → ⊥
 
@@ -149,7 +151,7 @@ pub record WrongSets : Type 0 where
   pub work-not-cleared : (answer′ : List ℕ) → SetA (SetOutcome.Rated 12 28 1) (first 4) answer′ work → ⊥
   pub refused-and-written : (answer′ work′ : List ℕ)
       → answer′ ≡ 1 ∷ replicate 4098 7
-      → SetCall 2 [] [] (0 ∷ []) answer work
+      → SetCall (GF 2) [] [] (0 ∷ []) answer work
       (record { outcome = SetOutcome.Refused Refusal.FactorCount; powers = eightZeros }) answer′ work′
       → ⊥
 

@@ -10,6 +10,7 @@ use mathlib.Core.Option.{some}
 use lib.ListN.{length, getD, replicate, length-replicate}
 use lib.Dec.{T, eqb}
 use borrow.Author.Tests.{eq-eqb, ne-eqb, le-ltb, lt-ltb}
+use Rattle.meaning.specs.declared.FieldName.{FieldName}
 use Rattle.meaning.specs.Search.{range, holdsForAll, isNone, bind, mapOption}
 use Rattle.meaning.specs.Field.{prime, isElement, areElements, primeInRange, isPrime, largestPrime}
 use Rattle.meaning.specs.Polynomial.{Polynomial, power, degree, monicMultiple}
@@ -19,10 +20,12 @@ use Rattle.meaning.specs.Power.{PowerFigures, powerRating}
 use Rattle.meaning.specs.Repeat.{repeatsEvery, shortestPeriod}
 use Rattle.meaning.specs.Conditions.{notPrime, countOutOfRange, termOutOfField, coefficientOutOfRange}
 use Rattle.meaning.specs.Conditions.{factorDegreeOutOfRange, lentTooShort, acceptedLent}
+use Rattle.meaning.specs.FieldNames.{namedField, notField, inField}
 use Rattle.meaning.specs.Portion.{acceptedFactors, factorTable}
-use Rattle.meaning.specs.Period.{periodPower, periodTable, periodAnswer, ratePeriod}
-use Rattle.meaning.proofs.Tables.{settle-none, holdsForAll-every, of-one, least-zero, least-one}
-use Rattle.meaning.proofs.Passes.{Passes, _&_, nothing, accepted-passes}
+use Rattle.meaning.specs.Period.{periodPower, periodTable, periodAnswer, periodIn, ratePeriod}
+use Rattle.meaning.proofs.Tables.{settle-none, in-field, holdsForAll-every, of-one, least-zero}
+use Rattle.meaning.proofs.Tables.{least-one}
+use Rattle.meaning.proofs.Passes.{Passes, _&_, nothing, accepted-field, accepted-passes}
 
 abbrev pub zeros : ℕ → List ℕ
 zeros n = replicate n 0
@@ -33,13 +36,20 @@ zero-at (suc n) zero = refl
 zero-at (suc n) (suc i) = zero-at n i
 
 -- the action of the polynomial 1 on zeros
-one-on-zeros : (p n k : ℕ) → actAt (prime p) (1 ∷ []) (periodic (zeros n)) k ≡ 0
-unfolding actAt periodic prime
-one-on-zeros p n k = rw (zero-at n, zero-mod, zero-mod)
+one-on-zeros :
+    (name : FieldName) (n k : ℕ)
+    → notField name ≡ false
+    → actAt (namedField name) (1 ∷ []) (periodic (zeros n)) k ≡ 0
+unfolding actAt periodic prime namedField notField
+one-on-zeros (FieldName.Prime p) n k h = rw (zero-at n, zero-mod, zero-mod)
+one-on-zeros (FieldName.Binary d low) n k h = absurd (true≢false h)
 
-pub power-zero : (p : ℕ) (f : Polynomial) (n : ℕ) → periodPower (prime p) f (zeros n) ≡ some 0
+pub power-zero :
+    (name : FieldName) (f : Polynomial) (n : ℕ)
+    → notField name ≡ false
+    → periodPower (namedField name) f (zeros n) ≡ some 0
 unfolding periodPower annihilatesPeriod power
-power-zero p f n = least-zero _ _ (holdsForAll-every _ (λ k. eq-eqb _ 0 (one-on-zeros p n k)) _)
+power-zero name f n h = least-zero _ _ (holdsForAll-every _ (λ k. eq-eqb _ 0 (one-on-zeros name n k h)) _)
 
 -- zeros repeat every term
 zero-periodic : (n i : ℕ) → periodic (zeros n) i ≡ 0
@@ -70,50 +80,55 @@ unfolding areElements holdsForAll isElement prime
 zeros-elements p zero = refl
 zeros-elements p (suc n) = rw (lt-ltb 0 (suc p) (omega arith), holdsForAll) (zeros-elements p n)
 
-pub terms-pass : (p n : ℕ) → notPrime p ≡ false → termOutOfField (prime p) (zeros n) ≡ false
-unfolding termOutOfField notPrime primeInRange isPrime largestPrime
-terms-pass zero n h = absurd (true≢false h)
-terms-pass (suc p) n h = rw (zeros-elements p n)
+pub terms-pass :
+    (name : FieldName) (n : ℕ) → notField name ≡ false → termOutOfField (namedField name) (zeros n) ≡ false
+unfolding namedField notField termOutOfField notPrime primeInRange isPrime largestPrime
+terms-pass (FieldName.Prime zero) n h = absurd (true≢false h)
+terms-pass (FieldName.Prime (suc p)) n h = rw (zeros-elements p n)
+terms-pass (FieldName.Binary d low) n h = absurd (true≢false h)
 
 not-false-of : (b : Bool) → T (not b) → b ≡ false
 not-false-of true h = absurd h
 not-false-of false h = refl
 
 -- nothing refuses a period of zeros
-zeros-passes : (p n : ℕ) (f : Polynomial) (answer work : ℕ)
-    → T (acceptedFactors p (f ∷ []) (1 ∷ []))
+zeros-passes : (name : FieldName) (n : ℕ) (f : Polynomial) (answer work : ℕ)
+    → T (acceptedFactors name (f ∷ []) (1 ∷ []))
     → lentTooShort answer work ≡ false
     → 1 ≤ n
     → n ≤ 4096
     → Passes
-    (periodTable p (factorDegreeOutOfRange (prime p) f) (coefficientOutOfRange (prime p) f)
-    (monicMultiple (prime p) f) (zeros n) answer work)
+    (periodTable (namedField name) (factorDegreeOutOfRange (namedField name) f)
+    (coefficientOutOfRange (namedField name) f)
+    (monicMultiple (namedField name) f) (zeros n) answer work)
 unfolding periodTable factorTable isNone
-zeros-passes p n f answer work h a l m =
-    let q = accepted-passes p (f ∷ []) (1 ∷ []) h in
-    q .fieldExists
-    & count-passes n l m
-    & terms-pass p n (q .fieldExists)
+zeros-passes name n f answer work h a l m =
+    let q = accepted-passes name (f ∷ []) (1 ∷ []) h in
+    let exists = accepted-field name (f ∷ []) (1 ∷ []) h in
+    count-passes n l m
+    & terms-pass name n exists
     & of-one _ f (q .degreesInRange)
     & of-one _ f (q .coefficientsInRange)
-    & of-one _ (monicMultiple (prime p) f) (q .irreducible)
+    & of-one _ (monicMultiple (namedField name) f) (q .irreducible)
     & a
-    & ap isNone (power-zero p (monicMultiple (prime p) f) n)
+    & ap isNone (power-zero name (monicMultiple (namedField name) f) n exists)
     & nothing
 
 abbrev zero-rating : ℕ → Rated PowerFigures
 zero-rating k = record { figures = record { power = 0; degree = 0; repeat = k }; polynomial = 1 ∷ [] }
 
-pub zero-period : (p n : ℕ) (f : Polynomial) (answer work : ℕ)
-    → T (acceptedFactors p (f ∷ []) (1 ∷ []))
+pub zero-period : (name : FieldName) (n : ℕ) (f : Polynomial) (answer work : ℕ)
+    → T (acceptedFactors name (f ∷ []) (1 ∷ []))
     → T (acceptedLent answer work)
     → 1 ≤ n
     → n ≤ 4096
-    → ratePeriod p f (zeros n) answer work
+    → ratePeriod name f (zeros n) answer work
     ≡ answered (zero-rating 1)
-unfolding ratePeriod periodAnswer acceptedLent valueOf bind powerRating mapOption power degree
-zero-period p n f answer work h a l m =
-    settle-none _ _ (zeros-passes p n f answer work h (not-false-of _ a) l m .noneHolds)
-    ∙ ap (λ o. valueOf (bind o (powerRating (prime p) (monicMultiple (prime p) f) (zeros n))))
-    (power-zero p (monicMultiple (prime p) f) n)
+unfolding ratePeriod periodIn periodAnswer acceptedLent valueOf bind powerRating mapOption power degree
+zero-period name n f answer work h a l m =
+    let exists = accepted-field name (f ∷ []) (1 ∷ []) h in
+    in-field name _ exists
+    ∙ settle-none _ _ (zeros-passes name n f answer work h (not-false-of _ a) l m .noneHolds)
+    ∙ ap (λ o. valueOf (bind o (powerRating (namedField name) (monicMultiple (namedField name) f) (zeros n))))
+    (power-zero name (monicMultiple (namedField name) f) n exists)
     ∙ ap (λ o. valueOf (mapOption zero-rating o)) (repeat-one n l)

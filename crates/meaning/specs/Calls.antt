@@ -20,6 +20,7 @@ use mathlib.Core.Path.{_≡_}
 use mathlib.Core.Bool.{Bool}
 use mathlib.Core.List.{List, [], _∷_, _++_}
 use lib.ListN.{length, getD, set}
+use Rattle.meaning.specs.declared.FieldName.{FieldName}
 use Rattle.meaning.specs.declared.Irreducibility.{Irreducibility}
 use Rattle.meaning.specs.declared.PowerRating.{PowerRating}
 use Rattle.meaning.specs.declared.SetRating.{SetRating}
@@ -48,6 +49,7 @@ use Rattle.meaning.specs.Print.{printed}
 use Rattle.meaning.specs.Answers.{toldIrreducible, toldFilling, toldPower, toldFree, toldStart, toldSet}
 use Rattle.meaning.specs.Answers.{setFiguresTold, toldFile, fileFiguresTold, toldRecord, setPadded}
 use Rattle.meaning.specs.Answers.{toldEntry, filePadded}
+use Rattle.meaning.specs.FieldNames.{namedField}
 
 pub record LentAfter {A : Type 0} (result : Result (Rated A)) (answer work answer′ work′ : List ℕ)
     : Type 0 where
@@ -57,48 +59,52 @@ pub record LentAfter {A : Type 0} (result : Result (Rated A)) (answer work answe
 pub record PrimeCall (n : ℕ) (r : Bool) : Type 0 where
   pub answer : r ≡ primeInRange n
 
-pub record IrreducibleCall (p : ℕ) (f : Polynomial) (r : Irreducibility) : Type 0 where
-  pub answer : toldIrreducible r ≡ askIrreducible p f
+pub record IrreducibleCall (name : FieldName) (f : Polynomial) (r : Irreducibility) : Type 0 where
+  pub answer : toldIrreducible r ≡ askIrreducible name f
 
-pub record PeriodCall (p : ℕ) (f ts answer work : List ℕ) (r : PowerRating) (answer′ work′ : List ℕ)
+pub record PeriodCall (name : FieldName) (f ts answer work : List ℕ) (r : PowerRating)
+    (answer′ work′ : List ℕ)
     : Type 0 where
-  pub rating : toldPower r ≡ figuresOf (ratePeriod p f ts (length answer) (length work))
-  pub lent : LentAfter (ratePeriod p f ts (length answer) (length work)) answer work answer′ work′
+  pub rating : toldPower r ≡ figuresOf (ratePeriod name f ts (length answer) (length work))
+  pub lent : LentAfter (ratePeriod name f ts (length answer) (length work)) answer work answer′ work′
 
-pub record SetCall (p : ℕ) (fs : List Polynomial) (vs ts answer work : List ℕ) (r : SetRating)
+pub record SetCall (name : FieldName) (fs : List Polynomial) (vs ts answer work : List ℕ) (r : SetRating)
     (answer′ work′ : List ℕ) : Type 0 where
   pub rating : toldSet (r .outcome)
-      ≡ mapResult setFiguresTold (figuresOf (rateSet p fs vs ts (length answer) (length work)))
-  pub powers : r .powers ≡ setPadded (figuresOf (rateSet p fs vs ts (length answer) (length work)))
-  pub lent : LentAfter (rateSet p fs vs ts (length answer) (length work)) answer work answer′ work′
+      ≡ mapResult setFiguresTold (figuresOf (rateSet name fs vs ts (length answer) (length work)))
+  pub powers : r .powers ≡ setPadded (figuresOf (rateSet name fs vs ts (length answer) (length work)))
+  pub lent : LentAfter (rateSet name fs vs ts (length answer) (length work)) answer work answer′ work′
 
-pub record FreeCall (p : ℕ) (ts answer work : List ℕ) (r : FreeRating) (answer′ work′ : List ℕ)
+pub record FreeCall (name : FieldName) (ts answer work : List ℕ) (r : FreeRating) (answer′ work′ : List ℕ)
     : Type 0 where
-  pub rating : toldFree r ≡ figuresOf (rateFree p ts (length answer) (length work))
-  pub lent : LentAfter (rateFree p ts (length answer) (length work)) answer work answer′ work′
+  pub rating : toldFree r ≡ figuresOf (rateFree name ts (length answer) (length work))
+  pub lent : LentAfter (rateFree name ts (length answer) (length work)) answer work answer′ work′
 
-pub record StartCall (model : MeterModel) (p : ℕ) (work : List ℕ) (r : MeterStart) (work′ : List ℕ)
+pub record StartCall (model : MeterModel) (name : FieldName) (work : List ℕ) (r : MeterStart) (work′ : List ℕ)
     : Type 0 where
-  pub starting : toldStart r ≡ mapResult (λ _. (model .meter) p []) (startMeter p)
-  pub workBytes : work′ ≡ unlessRefused (startMeter p) work ((model .work) p [])
+  pub starting : toldStart r ≡ mapResult (λ _. (model .meter) name []) (startMeter name)
+  pub workBytes : work′ ≡ unlessRefused (startMeter name) work ((model .work) name [])
 
-pub record TermTaken (model : MeterModel) (p : ℕ) (ts : List ℕ) (m : Meter) (t : ℕ) (terms work : List ℕ)
+pub record TermTaken (model : MeterModel) (name : FieldName) (ts : List ℕ) (m : Meter) (t : ℕ)
+    (terms work : List ℕ)
     (r : MeterStep) (terms′ work′ : List ℕ) : Type 0 where
-  pub reading : toldFree (r .reading) ≡ takeTerm p ts t
-  pub meter : r .meter ≡ unlessRefused (takeTerm p ts t) m ((model .meter) p (ts ++ (t ∷ [])))
-  pub termBytes : terms′ ≡ unlessRefused (takeTerm p ts t) terms (set terms (length ts) t)
-  pub workBytes : work′ ≡ unlessRefused (takeTerm p ts t) work ((model .work) p (ts ++ (t ∷ [])))
+  pub reading : toldFree (r .reading) ≡ takeTerm (namedField name) ts t
+  pub meter : r .meter ≡ unlessRefused (takeTerm (namedField name) ts t) m
+      ((model .meter) name (ts ++ (t ∷ [])))
+  pub termBytes : terms′ ≡ unlessRefused (takeTerm (namedField name) ts t) terms (set terms (length ts) t)
+  pub workBytes : work′ ≡ unlessRefused (takeTerm (namedField name) ts t) work
+      ((model .work) name (ts ++ (t ∷ [])))
 
 pub record TermCall (model : MeterModel) (m : Meter) (t : ℕ) (terms work : List ℕ) (r : MeterStep)
     (terms′ work′ : List ℕ) : Type 0 where
-  pub taken : (p : ℕ) (ts : List ℕ)
-      → Holding model p ts m terms work
-      → TermTaken model p ts m t terms work r terms′ work′
+  pub taken : (name : FieldName) (ts : List ℕ)
+      → Holding model name ts m terms work
+      → TermTaken model name ts m t terms work r terms′ work′
 
 pub record ReadingCall (model : MeterModel) (m : Meter) (r : FreeRating) : Type 0 where
-  pub reading : (p : ℕ) (ts terms work : List ℕ)
-      → Holding model p ts m terms work
-      → toldFree r ≡ meterReading p ts
+  pub reading : (name : FieldName) (ts terms work : List ℕ)
+      → Holding model name ts m terms work
+      → toldFree r ≡ meterReading (namedField name) ts
 
 pub record EntryCall (ts work : List ℕ) (r : EntryRating) (work′ : List ℕ) : Type 0 where
   pub finding : toldEntry r ≡ findEntry ts (length work)
@@ -113,10 +119,10 @@ unfoldable pub bufferAfter : Result (List ℕ) → List ℕ → List ℕ
 bufferAfter (refused n) buffer = buffer
 bufferAfter (answered after) buffer = after
 
-pub record ContinueCall (p : ℕ) (g : Polynomial) (start buffer : List ℕ) (place : ℕ) (r : Filling)
+pub record ContinueCall (name : FieldName) (g : Polynomial) (start buffer : List ℕ) (place : ℕ) (r : Filling)
     (buffer′ : List ℕ) : Type 0 where
-  pub filling : toldFilling r ≡ mapResult (λ _. tt) (continueSequence p g start place buffer)
-  pub bufferBytes : buffer′ ≡ bufferAfter (continueSequence p g start place buffer) buffer
+  pub filling : toldFilling r ≡ mapResult (λ _. tt) (continueSequence name g start place buffer)
+  pub bufferBytes : buffer′ ≡ bufferAfter (continueSequence name g start place buffer) buffer
 
 pub record FileCall (file answer work : List ℕ) (r : FileRating) (answer′ work′ : List ℕ) : Type 0 where
   pub sender : r .sender ≡ boxOf file

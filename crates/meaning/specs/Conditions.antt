@@ -11,7 +11,7 @@ use mathlib.Core.List.{List, [], _∷_}
 use lib.ListN.{length}
 use lib.Dec.{ltb, eqb}
 use Rattle.meaning.specs.Search.{holdsForSome}
-use Rattle.meaning.specs.Field.{Field, prime, primeInRange, areElements}
+use Rattle.meaning.specs.Field.{Field, primeInRange, areElements}
 use Rattle.meaning.specs.Polynomial.{Polynomial, degree, leading, isMonic, same, irreducible}
 
 unfoldable pub named : List Polynomial → List ℕ → List (Polynomial × ℕ)
@@ -64,13 +64,13 @@ coefficientOutOfRange F f = not (areElements F f) || eqb (leading f) 0
 unfoldable pub notMonic : Field → Polynomial → Bool
 notMonic F f = not (areElements F f) || not (isMonic f)
 
--- 12 is asked of a monic factor that 6, 10 and 11 let pass, and of no other
-unfoldable pub isAsked : ℕ → Polynomial → Bool
-isAsked p f = not (notPrime p || (factorDegreeOutOfRange (prime p) f || notMonic (prime p) f))
+-- 12 is asked of a monic factor that 10 and 11 let pass, and of no other
+unfoldable pub isAsked : Field → Polynomial → Bool
+isAsked F f = not (factorDegreeOutOfRange F f || notMonic F f)
 
 -- 12
-unfoldable pub isReducible : ℕ → Polynomial → Bool
-isReducible p f = elim (isAsked p f) [ true ↦ not (irreducible (prime p) f) | false ↦ false ]
+unfoldable pub isReducible : Field → Polynomial → Bool
+isReducible F f = elim (isAsked F f) [ true ↦ not (irreducible F f) | false ↦ false ]
 
 -- 13
 unfoldable pub twoEqual : List Polynomial → Bool

@@ -15,9 +15,10 @@
 --   SetExported r …    == `rater_rate_with_factors` with the result r: degree and repeat length are
 --                         lent numbers; its factors are the parts of one slice (`split`)
 --   wordNumber u       == the word as a number: 1 for `one`, 0 for `some`
---   FreeExported p ts … == `rater_rate_free`: the degree and the number of the word in the two lent numbers
---   ProfileExported p ts … == `rater_profile`: the entries of the profile at the front of the lent bytes, as
---                         many as these have room for, and the rest as it was
+--   FreeExported name ts … == `rater_rate_free`: the degree and the number of the word in the two lent
+--                        numbers
+--   ProfileExported name ts … == `rater_profile`: the entries of the profile at the front of the lent bytes,
+--                         as many as these have room for, and the rest as it was
 --   EntryExported ts … == `rater_find_entry`: the entry and its power in the two lent numbers
 --   Filled r …         == `rater_continue_sequence` with the result r
 --   yesAfter r n       == the lent number n afterwards: 1 for yes, 0 for no, and n as it was where refused
@@ -28,6 +29,7 @@ use mathlib.Core.Path.{_≡_}
 use mathlib.Core.Bool.{Bool, true, false}
 use mathlib.Core.List.{List, [], _++_}
 use lib.ListN.{length, take, drop}
+use Rattle.meaning.specs.declared.FieldName.{FieldName}
 use Rattle.meaning.specs.Result.{Result, refused, answered, Rated, figuresOf, written, workAfter}
 use Rattle.meaning.specs.Power.{PowerFigures}
 use Rattle.meaning.specs.Portion.{SetFigures}
@@ -37,6 +39,7 @@ use Rattle.meaning.specs.Catalogue.{EntryFigures, findEntry}
 use Rattle.meaning.specs.Answers.{padded}
 use Rattle.meaning.specs.Calls.{LentAfter, bufferAfter}
 use Rattle.meaning.specs.FlatBytes.{bytesOfAll}
+use Rattle.meaning.specs.FieldNames.{namedField}
 
 unfoldable pub statusOf : {A : Type 0} → Result A → ℕ
 statusOf (refused n) = n
@@ -81,20 +84,22 @@ wordNumber false = 0
 abbrev pub wordOf : FreeFigures → ℕ
 wordOf a = wordNumber (a .unique)
 
-pub record FreeExported (p : ℕ) (ts answer work : List ℕ) (degree unique status : ℕ)
+pub record FreeExported (name : FieldName) (ts answer work : List ℕ) (degree unique status : ℕ)
     (answer′ work′ : List ℕ) (degree′ unique′ : ℕ) : Type 0 where
-  pub told : status ≡ statusOf (rateFree p ts (length answer) (length work))
+  pub told : status ≡ statusOf (rateFree name ts (length answer) (length work))
   pub degreeAfter : degree′
-      ≡ numberAfter (λ a. a .degree) (figuresOf (rateFree p ts (length answer) (length work))) degree
+      ≡ numberAfter (λ a. a .degree) (figuresOf (rateFree name ts (length answer) (length work))) degree
   pub uniqueAfter :
-      unique′ ≡ numberAfter wordOf (figuresOf (rateFree p ts (length answer) (length work))) unique
-  pub lent : LentAfter (rateFree p ts (length answer) (length work)) answer work answer′ work′
+      unique′ ≡ numberAfter wordOf (figuresOf (rateFree name ts (length answer) (length work))) unique
+  pub lent : LentAfter (rateFree name ts (length answer) (length work)) answer work answer′ work′
 
 -- THE METER
-pub record ProfileExported (p : ℕ) (ts profile : List ℕ) (status : ℕ) (profile′ : List ℕ) : Type 0 where
-  pub told : status ≡ statusOf (startMeter p)
-  pub lent : profile′
-      ≡ unlessRefused (startMeter p) profile (written (profileOf p [] (take (length profile / 4) ts)) profile)
+pub record ProfileExported (name : FieldName) (ts profile : List ℕ) (status : ℕ) (profile′ : List ℕ) : Type 0
+  where
+    pub told : status ≡ statusOf (startMeter name)
+    pub lent : profile′
+        ≡ unlessRefused (startMeter name) profile
+        (written (profileOf (namedField name) [] (take (length profile / 4) ts)) profile)
 
 -- THE CATALOGUE (entry i is answered as `CatalogueCall` says)
 pub record EntryTold (result : Result EntryFigures) (entry power status entry′ power′ : ℕ) : Type 0 where

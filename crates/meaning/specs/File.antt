@@ -11,6 +11,8 @@
 --                          polynomial fits
 --   FileFigures         == the degree (complexity), the denominator of the density, which is the repeat
 --                          length in the period mode and else the number of terms given, and the label
+--   rateMode m F fs ts answer work == the answer of the mode's way in the field F
+--   fieldIn rs          == the name of the field that the records hold
 --   rateRecords rs answer work == the answer of the mode's way on what the records hold
 --   rateFile file answer work  == the answer for a file: the refusals 1 to 5, then those of its mode
 use Prim.Native.Nat.{ℕ}
@@ -19,15 +21,17 @@ use mathlib.Core.List.{List, [], _∷_, _++_, map}
 use mathlib.Core.Option.{none, some}
 use lib.ListN.{length, getD, take, drop}
 use lib.Dec.{eqb}
+use Rattle.meaning.specs.declared.FieldName.{FieldName}
 use Rattle.meaning.specs.Search.{holdsForAll, holdsForSome}
-use Rattle.meaning.specs.Field.{Field, prime, areElements}
+use Rattle.meaning.specs.Field.{Field, areElements}
 use Rattle.meaning.specs.Polynomial.{Polynomial}
 use Rattle.meaning.specs.Result.{Result, refused, answered, Rated}
 use Rattle.meaning.specs.Conditions.{degreeOutOfRange}
+use Rattle.meaning.specs.FieldNames.{inField}
 use Rattle.meaning.specs.Power.{PowerFigures}
 use Rattle.meaning.specs.Period.{periodAnswer}
 use Rattle.meaning.specs.Portion.{SetFigures, setAnswer}
-use Rattle.meaning.specs.Free.{FreeFigures, rateFree}
+use Rattle.meaning.specs.Free.{FreeFigures, freeIn}
 use Rattle.meaning.specs.Route.{RouteRecord, Mode, periodMode, setMode, freeMode, modeOf, bodies}
 use Rattle.meaning.specs.Route.{byteOf, factorUpper, records}
 
@@ -89,32 +93,37 @@ ofFree m (refused n) = refused n
 ofFree m (answered a) =
     answered (fileAnswer (a .figures .degree) m (freeLabel (a .figures .unique)) (a .polynomial))
 
-unfoldable pub rateMode : Mode → ℕ → List WrittenFactor → List ℕ → ℕ → ℕ → Result (Rated FileFigures)
-rateMode periodMode p fs ts answer work =
+unfoldable pub rateMode : Mode → Field → List WrittenFactor → List ℕ → ℕ → ℕ → Result (Rated FileFigures)
+rateMode periodMode F fs ts answer work =
     ofPeriod
-    (periodAnswer p
-    (holdsForSome (fileDegreeOutOfRange (prime p)) fs)
-    (holdsForSome (fileCoefficientOutOfRange (prime p)) fs)
+    (periodAnswer F
+    (holdsForSome (fileDegreeOutOfRange F) fs)
+    (holdsForSome (fileCoefficientOutOfRange F) fs)
     (getD (map polynomialOf fs) 0 [])
     ts
     answer
     work)
-rateMode setMode p fs ts answer work =
+rateMode setMode F fs ts answer work =
     ofSet (length ts)
-    (setAnswer p
-    (holdsForSome (fileDegreeOutOfRange (prime p)) fs)
-    (holdsForSome (fileCoefficientOutOfRange (prime p)) fs)
+    (setAnswer F
+    (holdsForSome (fileDegreeOutOfRange F) fs)
+    (holdsForSome (fileCoefficientOutOfRange F) fs)
     (map (λ f. (polynomialOf f, f .upper)) fs)
     ts
     answer
     work)
-rateMode freeMode p fs ts answer work = ofFree (length ts) (rateFree p ts answer work)
+rateMode freeMode F fs ts answer work = ofFree (length ts) (freeIn F ts answer work)
+
+unfoldable pub fieldIn : List RouteRecord → FieldName
+fieldIn rs = FieldName.Prime (byteOf 2 rs)
 
 unfoldable pub rateRecords : List RouteRecord → ℕ → ℕ → Result (Rated FileFigures)
 rateRecords rs answer work =
     elim (modeOf (byteOf 3 rs)) [
       | none ↦ refused 5
-      | some m ↦ rateMode m (byteOf 2 rs) (map fileFactor (bodies 4 rs)) (termsOf rs) answer work
+      | some m ↦
+          inField (fieldIn rs)
+          (λ F. rateMode m F (map fileFactor (bodies 4 rs)) (termsOf rs) answer work)
     ]
 
 unfoldable pub rateFile : List ℕ → ℕ → ℕ → Result (Rated FileFigures)

@@ -14,7 +14,9 @@
 --                         as 0
 --   freePolynomial F ts e == the first polynomial of degree e that annihilates the known terms, by trying all
 --                         of them in that order, in which `monics` lists them; under `one` the only one
---   rateFree p ts answer work == the answer of the free way
+--   freeTable F ts …   == the refusals that the free way meets in the field F, in order; freeIn F ts … ==
+--                         the answer in F
+--   rateFree name ts answer work == the answer of the free way
 use Prim.Native.Nat.{ℕ, _*_, _≤_, _<_}
 use mathlib.Core.Path.{_≡_}
 use mathlib.Core.Bool.{Bool}
@@ -22,12 +24,14 @@ use mathlib.Core.List.{List, [], _∷_}
 use mathlib.Core.Option.{Option}
 use lib.ListN.{length, getD}
 use lib.Dec.{leb, T}
+use Rattle.meaning.specs.declared.FieldName.{FieldName}
 use Rattle.meaning.specs.Search.{least, firstThat, mapOption, bind, holdsForSome}
-use Rattle.meaning.specs.Field.{Field, prime}
+use Rattle.meaning.specs.Field.{Field}
 use Rattle.meaning.specs.Polynomial.{Polynomial, degree, isMonicOver, monics}
 use Rattle.meaning.specs.Sequence.{annihilatesKnown}
 use Rattle.meaning.specs.Result.{Result, Check, settle, Rated}
-use Rattle.meaning.specs.Conditions.{notPrime, countOutOfRange, termOutOfField, lentTooShort}
+use Rattle.meaning.specs.Conditions.{countOutOfRange, termOutOfField, lentTooShort}
+use Rattle.meaning.specs.FieldNames.{inField}
 
 unfoldable pub fitsDegree : Field → List ℕ → ℕ → Bool
 fitsDegree F ts e = holdsForSome (λ g. annihilatesKnown F g ts) (monics F e)
@@ -66,14 +70,16 @@ freeRating F ts e =
     mapOption (λ g. record { figures = record { degree = e; unique = isUnique ts e }; polynomial = g })
     (freePolynomial F ts e)
 
-unfoldable pub freeTable : ℕ → List ℕ → ℕ → ℕ → List Check
-freeTable p ts answer work =
-    (6, λ _. notPrime p)
-    ∷ (7, λ _. countOutOfRange (length ts))
-    ∷ (8, λ _. termOutOfField (prime p) ts)
+unfoldable pub freeTable : Field → List ℕ → ℕ → ℕ → List Check
+freeTable F ts answer work =
+    (7, λ _. countOutOfRange (length ts))
+    ∷ (8, λ _. termOutOfField F ts)
     ∷ (16, λ _. lentTooShort answer work)
     ∷ []
 
-unfoldable pub rateFree : ℕ → List ℕ → ℕ → ℕ → Result (Rated FreeFigures)
-rateFree p ts answer work =
-    settle (freeTable p ts answer work) (λ _. bind (leastDegree (prime p) ts) (freeRating (prime p) ts))
+unfoldable pub freeIn : Field → List ℕ → ℕ → ℕ → Result (Rated FreeFigures)
+freeIn F ts answer work =
+    settle (freeTable F ts answer work) (λ _. bind (leastDegree F ts) (freeRating F ts))
+
+unfoldable pub rateFree : FieldName → List ℕ → ℕ → ℕ → Result (Rated FreeFigures)
+rateFree name ts answer work = inField name (λ F. freeIn F ts answer work)

@@ -5,6 +5,7 @@ pub mod Sequence
 pub mod RepeatLength
 pub mod Result
 pub mod Conditions
+pub mod FieldNames
 pub mod Power
 pub mod Repeat
 pub mod Period

@@ -15,28 +15,34 @@
 --   SetFigures         == the powers, the degree (the complexity) and the repeat length
 --   setRating F l ts rs == the answer with the powers rs: their product, and the repeat length of that
 --                         continuation, whatever the number of factors
---   setTable           == the refusals that the way meets, in order; `ten` and `eleven` as in Period
---   factorTable, acceptedFactors p factors uppers == factors are accepted when 6 and 9 to 14 do not turn them
---                          down
---   rateSet p factors uppers ts answer work == the answer of the way: 9 to 11 look at the factors as they are
+--   setTable           == the refusals that the way meets in the field F, in order; `ten` and `eleven` as in
+--                         Period
+--   setAnswer          == the answer in the field F, with monic factors
+--   factorTable F factors uppers == the refusals that factors and their upper powers meet, 9 to 14
+--   acceptedFactors name factors uppers == they are accepted: the name is that of a field, and 9 to 14 do not
+--                          turn them down
+--   setIn F factors uppers ts answer work == the answer with any factors: 9 to 11 look at them as they are
 --                          given, and all that follows at their monic multiples
+--   rateSet name factors uppers ts answer work == the answer of the way, in the field with this name
 use Prim.Native.Nat.{ℕ}
 use mathlib.Core.Path.{_≡_}
-use mathlib.Core.Bool.{Bool, not}
+use mathlib.Core.Bool.{Bool, not, _&&_}
 use mathlib.Core.List.{List, [], _∷_, map}
 use mathlib.Core.Option.{Option}
 use lib.ListN.{length, getD, take, set}
+use Rattle.meaning.specs.declared.FieldName.{FieldName}
 use Rattle.meaning.specs.Search.{range, least, mapOption, isNone, together, holdsForSome}
-use Rattle.meaning.specs.Field.{Field, prime}
+use Rattle.meaning.specs.Field.{Field}
 use Rattle.meaning.specs.Polynomial.{Polynomial, degree, product, monicMultiple}
 use Rattle.meaning.specs.Sequence.{Sequence, annihilatesKnown, continuation, cut, MinimalPolynomial}
 use Rattle.meaning.specs.Sequence.{LeastPower}
 use Rattle.meaning.specs.Result.{Result, Check, firstOf, settle, Rated}
-use Rattle.meaning.specs.Conditions.{named, totalDegree, notPrime, countOutOfRange, termOutOfField}
+use Rattle.meaning.specs.Conditions.{named, totalDegree, countOutOfRange, termOutOfField}
 use Rattle.meaning.specs.Conditions.{factorCountOutOfRange, factorDegreeOutOfRange}
 use Rattle.meaning.specs.Conditions.{coefficientOutOfRange}
 use Rattle.meaning.specs.Conditions.{isReducible, twoEqual, upperPowersOutOfRange, fewerTermsThan}
 use Rattle.meaning.specs.Conditions.{lentTooShort}
+use Rattle.meaning.specs.FieldNames.{namedField, notField, inField}
 use Rattle.meaning.specs.RepeatLength.{repeatLength}
 
 unfoldable pub factorsOf : List (Polynomial × ℕ) → List Polynomial
@@ -83,46 +89,48 @@ setRating F l ts rs =
       polynomial = product F (named (factorsOf l) rs);
     }
 
-unfoldable pub setTable : ℕ → Bool → Bool → List (Polynomial × ℕ) → List ℕ → ℕ → ℕ → List Check
-setTable p ten eleven l ts answer work =
-    (6, λ _. notPrime p)
-    ∷ (7, λ _. countOutOfRange (length ts))
-    ∷ (8, λ _. termOutOfField (prime p) ts)
+unfoldable pub setTable : Field → Bool → Bool → List (Polynomial × ℕ) → List ℕ → ℕ → ℕ → List Check
+setTable F ten eleven l ts answer work =
+    (7, λ _. countOutOfRange (length ts))
+    ∷ (8, λ _. termOutOfField F ts)
     ∷ (9, λ _. factorCountOutOfRange (length l))
     ∷ (10, λ _. ten)
     ∷ (11, λ _. eleven)
-    ∷ (12, λ _. holdsForSome (isReducible p) (factorsOf l))
+    ∷ (12, λ _. holdsForSome (isReducible F) (factorsOf l))
     ∷ (13, λ _. twoEqual (factorsOf l))
     ∷ (14, λ _. upperPowersOutOfRange l)
     ∷ (15, λ _. fewerTermsThan (totalDegree l) ts)
     ∷ (16, λ _. lentTooShort answer work)
-    ∷ (17, λ _. not (annihilatesKnown (prime p) (product (prime p) l) ts))
+    ∷ (17, λ _. not (annihilatesKnown F (product F l) ts))
     ∷ []
 
 unfoldable pub setAnswer :
-    ℕ → Bool → Bool → List (Polynomial × ℕ) → List ℕ → ℕ → ℕ → Result (Rated SetFigures)
-setAnswer p ten eleven l ts answer work =
-    settle (setTable p ten eleven l ts answer work)
-    (λ _. mapOption (setRating (prime p) l ts) (setPowers (prime p) l ts))
+    Field → Bool → Bool → List (Polynomial × ℕ) → List ℕ → ℕ → ℕ → Result (Rated SetFigures)
+setAnswer F ten eleven l ts answer work =
+    settle (setTable F ten eleven l ts answer work)
+    (λ _. mapOption (setRating F l ts) (setPowers F l ts))
 
-unfoldable pub rateSet : ℕ → List Polynomial → List ℕ → List ℕ → ℕ → ℕ → Result (Rated SetFigures)
-rateSet p factors uppers ts =
-    setAnswer p
-    (holdsForSome (factorDegreeOutOfRange (prime p)) factors)
-    (holdsForSome (coefficientOutOfRange (prime p)) factors)
-    (named (map (monicMultiple (prime p)) factors) uppers)
+unfoldable pub setIn : Field → List Polynomial → List ℕ → List ℕ → ℕ → ℕ → Result (Rated SetFigures)
+setIn F factors uppers ts =
+    setAnswer F
+    (holdsForSome (factorDegreeOutOfRange F) factors)
+    (holdsForSome (coefficientOutOfRange F) factors)
+    (named (map (monicMultiple F) factors) uppers)
     ts
 
-unfoldable pub factorTable : ℕ → List Polynomial → List ℕ → List Check
-factorTable p factors uppers =
-    (6, λ _. notPrime p)
-    ∷ (9, λ _. factorCountOutOfRange (length factors))
-    ∷ (10, λ _. holdsForSome (factorDegreeOutOfRange (prime p)) factors)
-    ∷ (11, λ _. holdsForSome (coefficientOutOfRange (prime p)) factors)
-    ∷ (12, λ _. holdsForSome (isReducible p) (map (monicMultiple (prime p)) factors))
-    ∷ (13, λ _. twoEqual (map (monicMultiple (prime p)) factors))
+unfoldable pub rateSet : FieldName → List Polynomial → List ℕ → List ℕ → ℕ → ℕ → Result (Rated SetFigures)
+rateSet name factors uppers ts answer work = inField name (λ F. setIn F factors uppers ts answer work)
+
+unfoldable pub factorTable : Field → List Polynomial → List ℕ → List Check
+factorTable F factors uppers =
+    (9, λ _. factorCountOutOfRange (length factors))
+    ∷ (10, λ _. holdsForSome (factorDegreeOutOfRange F) factors)
+    ∷ (11, λ _. holdsForSome (coefficientOutOfRange F) factors)
+    ∷ (12, λ _. holdsForSome (isReducible F) (map (monicMultiple F) factors))
+    ∷ (13, λ _. twoEqual (map (monicMultiple F) factors))
     ∷ (14, λ _. upperPowersOutOfRange (named factors uppers))
     ∷ []
 
-unfoldable pub acceptedFactors : ℕ → List Polynomial → List ℕ → Bool
-acceptedFactors p factors uppers = isNone (firstOf (factorTable p factors uppers))
+unfoldable pub acceptedFactors : FieldName → List Polynomial → List ℕ → Bool
+acceptedFactors name factors uppers =
+    not (notField name) && isNone (firstOf (factorTable (namedField name) factors uppers))

@@ -1,6 +1,14 @@
 // The answers of the public calls. There is no code here: the contracts and the theorems speak of these types
 // through the definitions of specs/Answers.antt, which give each case the number and the values of paper 01.
 
+// The name of a field: GF(p) by its prime p, GF(2^n) by its degree n and the coefficients of its reducing
+// polynomial below y^n, as the bits of a number. Any numbers are a name, and 6 turns down those of no field
+// in range. It turns down every name of the second kind as yet.
+pub enum FieldName {
+    Prime(u64),
+    Binary { degree: u64, low: u64 },
+}
+
 // Why a call is turned down, in the order of the numbered list (1 to 19).
 pub enum Refusal {
     // 1: the file has more than 16,384 bytes
@@ -86,12 +94,12 @@ pub enum FreeRating {
     Refused(Refusal),
 }
 
-// A meter that shows the rating of a portion alone after each term: the prime that it was started for, how
+// A meter that shows the rating of a portion alone after each term: the field that it was started for, how
 // many terms it holds, the least degree for these, and what the next step needs beside the polynomials in the
 // lent work bytes: how many coefficients the earlier one has, the inverse of its discrepancy, and the half in
 // which the present one stands.
 pub struct Meter {
-    pub prime: u64,
+    pub field: FieldName,
     pub held: usize,
     pub degree: usize,
     pub earlier: usize,

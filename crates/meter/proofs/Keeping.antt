@@ -1,11 +1,11 @@
 -- What a meter keeps: the state of the model after the terms held, in its numbers and its lent bytes.
 --
---   meter-remembers   == a meter's numbers are the prime, how many terms it holds, and their least degree, so
---                        that some result meets the contracts of a term and of a reading
+--   meter-remembers   == a meter keeps the name of its field, the number of its terms and their least degree,
+--                        so that some result meets the contracts of a term and of a reading
 --   stands-meter, stands-bytes == where the state of the model stands in numbers and bytes, the meter and the
 --                        work bytes are those of the model
---   usable-no         == a meter whose numbers are out of range holds no terms
---   holding-prime, holding-numbers == the numbers of a meter that holds terms are in range
+--   usable-no, usable-last == whether a meter is usable: its degree is too large; its half decides
+--   holding-numbers   == the numbers of a meter that holds terms are in range
 --   holding-reading   == its degree and the number of its terms give what it is to show
 --   stored-terms      == the lent terms up to one stored after those held
 --   holding-holds     == for these the state of the model stands in its work bytes
@@ -13,22 +13,22 @@
 -- Assumes nothing.
 use Prim.Native.Nat.{ℕ, zero, suc, _+_, _*_, _-_, _≤_, _<_}
 use mathlib.Core.Path.{_≡_, refl, sym, ap, ap₂, subst, _∙_}
-use mathlib.Core.Bool.{true, false}
+use mathlib.Core.Bool.{false}
 use mathlib.Core.List.{List, [], _∷_, _++_}
 use native.Mathlib.Nat as ℕ
 use native.Mathlib.Omega.{arith}
 use lib.ListN.{length, take, drop, set, length-drop, take-append-drop, List·getD-append}
 use lib.Seq.{take-at, drop-at, take-all}
 use lib.Dec.{T, leb, ltb, ltb→lt, lt→ltb}
+use Rattle.meaning.specs.declared.FieldName.{FieldName}
 use Rattle.meaning.specs.declared.Meter.{Meter}
-use Rattle.meaning.specs.Field.{prime, primeInRange}
+use Rattle.meaning.specs.Field.{Field}
 use Rattle.meaning.specs.Result.{answered, firstOf, settle, valueOf}
-use Rattle.meaning.specs.Conditions.{notPrime}
+use Rattle.meaning.specs.FieldNames.{namedField}
 use Rattle.meaning.specs.Free.{isUnique}
 use Rattle.meaning.specs.Meter.{Remembers, Holding, meterReading}
-use Rattle.bridge.proofs.Basics.Searches.{T-true, T-not-false}
-use Rattle.bridge.proofs.Basics.Interpretation.{inRange-isField}
-use Rattle.bridge.proofs.Ways.Accepted.{prime-accepted}
+use Rattle.bridge.proofs.Basics.Searches.{T-true}
+use Rattle.bridge.proofs.Basics.Interpretation.{IsField, named-isField}
 use Rattle.bridge.proofs.Basics.Padding.{pad, length-pad}
 use Rattle.bridge.proofs.Massey.Steps.{MasseyState, masseyAfter, massey-sizes, massey-half, after-local}
 use Rattle.bridge.proofs.Massey.Answer.{massey-least, massey-reading}
@@ -37,7 +37,7 @@ use Rattle.arith.specs.Inverse.{inverse}
 use Rattle.arith.specs.Slices.{part}
 use Rattle.massey.specs.declared.step.Recurrence.{Recurrence}
 use Rattle.massey.specs.step.Steps.{Stands, Holds}
-use Rattle.massey.proofs.Inverting.{inverts-primes}
+use Rattle.massey.proofs.Inverting.{inverts}
 use Rattle.meter.specs.Model.{stateAfter, meterBytes, meterModel, meterOf, recurrenceOf, Usable}
 
 -- The two polynomials in the work bytes
@@ -75,24 +75,25 @@ bytes-stand zero x w l e a b = sym (parts-whole w e) ∙ ap₂ _++_ a b
 bytes-stand (suc zero) x w l e a b = sym (parts-whole w e) ∙ ap₂ _++_ b a
 bytes-stand (suc (suc i)) x w l e a b = absurd (omega arith)
 
--- The numbers of a meter: the prime, how many terms it holds, and their least degree
+-- The numbers of a meter: the name of the field, how many terms it holds, and their least degree
 pub meter-remembers : Remembers meterModel
 meter-remembers =
     record {
-      primeKept = λ p ts. refl;
-      countKept = λ p ts. refl;
+      fieldKept = λ name ts. refl;
+      countKept = λ name ts. refl;
       degreeKept =
-          λ p ts six eight.
-          let q = prime-accepted p six in
-          massey-least (inRange-isField p q) (inverse (prime p)) (inverts-primes p q) ts;
+          λ name ts six eight.
+          let I = named-isField name six in massey-least I (inverse (namedField name)) (inverts I) ts;
     }
 
 -- The meter of a state
-module _ (p : ℕ) (ts : List ℕ) {w : List ℕ} {r : Recurrence} (h : Stands (stateAfter p ts) w r) where
-  pub stands-meter : {q : ℕ} → q ≡ p → r .seen ≡ length ts → meterOf q r ≡ (meterModel .meter) p ts
+module _ (name : FieldName) (ts : List ℕ) {w : List ℕ} {r : Recurrence}
+    (h : Stands (stateAfter (namedField name) ts) w r) where
+  pub stands-meter : {q : FieldName} → q ≡ name → r .seen ≡ length ts
+      → meterOf q r ≡ (meterModel .meter) name ts
   stands-meter e c i =
       record {
-        prime = e i;
+        field = e i;
         held = c i;
         degree = h .degree i;
         earlier = h .earlier i;
@@ -100,24 +101,27 @@ module _ (p : ℕ) (ts : List ℕ) {w : List ℕ} {r : Recurrence} (h : Stands (
         half = h .half i;
       }
 
-  pub stands-bytes : length w ≡ 8192 → w ≡ (meterModel .work) p ts
+  pub stands-bytes : length w ≡ 8192 → w ≡ (meterModel .work) name ts
   stands-bytes l =
-      bytes-stand (r .half) (stateAfter p ts) w (h .within) l (h .current) (h .previous)
-      ∙ ap (λ i. meterBytes i (stateAfter p ts)) (h .half)
+      bytes-stand (r .half) (stateAfter (namedField name) ts) w (h .within) l (h .current) (h .previous)
+      ∙ ap (λ i. meterBytes i (stateAfter (namedField name) ts)) (h .half)
 
 -- A meter that holds terms
-module _ {p : ℕ} {ts : List ℕ} {m : Meter} {terms work : List ℕ}
-    (h : Holding meterModel p ts m terms work) where
-  abbrev x : MasseyState
-  x = stateAfter p ts
+module _ {name : FieldName} {ts : List ℕ} {m : Meter} {terms work : List ℕ}
+    (h : Holding meterModel name ts m terms work) where
+  abbrev F : Field
+  F = namedField name
 
-  pub holding-prime : T (primeInRange p)
-  holding-prime = prime-accepted p (h .fieldExists)
+  abbrev x : MasseyState
+  x = stateAfter F ts
+
+  holding-isField : IsField F
+  holding-isField = named-isField name (h .fieldExists)
 
   half-bound : m .half ≤ 1
   half-bound =
       subst (λ n. n ≤ 1) (sym (ap (λ m. m .half) (h .numbers)))
-      (massey-half (prime p) (inverse (prime p)) ts (length ts))
+      (massey-half F (inverse F) ts (length ts))
 
   holding-stands : Stands x work (recurrenceOf m)
   holding-stands =
@@ -129,29 +133,25 @@ module _ {p : ℕ} {ts : List ℕ} {m : Meter} {terms work : List ℕ}
         inverse = ap (λ m. m .inverse) (h .numbers);
         current =
             ap₂ (λ w i. part w (4096 * i) 4096) (h .bytes) (ap (λ m. m .half) (h .numbers))
-            ∙ bytes-lower (x .half) x (massey-half (prime p) (inverse (prime p)) ts (length ts));
+            ∙ bytes-lower (x .half) x (massey-half F (inverse F) ts (length ts));
         previous =
             ap₂ (λ w i. part w (4096 * (1 - i)) 4096) (h .bytes) (ap (λ m. m .half) (h .numbers))
-            ∙ bytes-previous (x .half) x (massey-half (prime p) (inverse (prime p)) ts (length ts));
+            ∙ bytes-previous (x .half) x (massey-half F (inverse F) ts (length ts));
       }
 
-  pub holding-numbers : T (primeInRange (m .prime)) × ((m .degree ≤ m .held) × (m .half ≤ 1))
+  pub holding-numbers : (m .degree ≤ m .held) × (m .half ≤ 1)
   holding-numbers = (
-    subst (λ q. T (primeInRange q)) (sym (ap (λ m. m .prime) (h .numbers))) holding-prime,
-    (
-      subst (λ m. m .degree ≤ m .held) (sym (h .numbers))
-          (massey-sizes (prime p) (inverse (prime p)) ts (length ts) .short),
-      half-bound,
-    ),
+    subst (λ m. m .degree ≤ m .held) (sym (h .numbers)) (massey-sizes F (inverse F) ts (length ts) .short),
+    half-bound,
   )
 
   -- what the reading tells
-  pub holding-reading : meterReading p ts
+  pub holding-reading : meterReading F ts
       ≡ answered (record { degree = m .degree; unique = leb (2 * m .degree) (m .held) })
   unfolding meterReading settle firstOf valueOf isUnique
   holding-reading =
       rw (
-        massey-reading inverse inverts-primes p ts holding-prime,
+        massey-reading holding-isField (inverse F) (inverts holding-isField) ts,
         h .numbers,
         meterReading,
         settle,
@@ -175,36 +175,27 @@ module _ {p : ℕ} {ts : List ℕ} {m : Meter} {terms work : List ℕ}
         ∙ take-stored (length ts) terms t l
         ∙ ap (λ u. u ++ (t ∷ [])) (h .front)
 
-    pub holding-holds : Holds (prime p) next work (recurrenceOf m)
+    pub holding-holds : Holds F next work (recurrenceOf m)
     holding-holds =
         subst (λ s. Stands s work (recurrenceOf m))
-        (sym (ap (masseyAfter (prime p) (inverse (prime p)) next) held-count
-        ∙ after-local (prime p) (inverse (prime p)) next ts (length ts)
+        (sym (ap (masseyAfter F (inverse F) next) held-count
+        ∙ after-local F (inverse F) next ts (length ts)
         (λ i l. List·getD-append ts (t ∷ []) 0 i l)))
         holding-stands
 
 -- Whether a meter is usable
-abbrev pub InRange : Meter → Type 0
-InRange m = T (primeInRange (m .prime)) × ((m .degree ≤ m .held) × (m .half ≤ 1))
-
-pub usable-no : (m : Meter) → (InRange m → false ≡ true) → Usable m false
-usable-no m bad =
+pub usable-no : (m : Meter) → m .held < m .degree → Usable m false
+usable-no m l =
     record {
-      isPrime = λ e. absurd (subst T (sym e) tt);
       degree = λ e. absurd (subst T (sym e) tt);
       half = λ e. absurd (subst T (sym e) tt);
-      holding = λ p ts terms work h. bad (holding-numbers h);
+      holding = λ name ts terms work h. absurd (omega (arith, holding-numbers h));
     }
 
-pub usable-last : (m : Meter) → T (primeInRange (m .prime)) → m .degree ≤ m .held → Usable m (ltb (m .half) 2)
-usable-last m q l =
+pub usable-last : (m : Meter) → m .degree ≤ m .held → Usable m (ltb (m .half) 2)
+usable-last m l =
     record {
-      isPrime = λ _. q;
       degree = λ _. l;
       half = λ e. omega (arith, ltb→lt (m .half) 2 (subst T (sym e) tt));
-      holding = λ p ts terms work h. T-true (lt→ltb (m .half) 2 (omega (arith, holding-numbers h)));
+      holding = λ name ts terms work h. T-true (lt→ltb (m .half) 2 (omega (arith, holding-numbers h)));
     }
-
-pub not-prime-refuses : (p : ℕ) → notPrime p ≡ true → T (primeInRange p) → false ≡ true
-unfolding notPrime
-not-prime-refuses p e q = sym (T-not-false (primeInRange p) q) ∙ e

@@ -1,5 +1,6 @@
 // The factors of a file: 10 and 11 as a file meets them, and the factors as lists of coefficients in lent
 // bytes. A `count` is the number of the factors of the file.
+use arith::GaloisField;
 use meaning::Refusal;
 use refusals::Verdict;
 use refusals::conditions::factors::FactorCondition;
@@ -14,19 +15,26 @@ ghost use lib.ListN.{length, take};
 ghost use Rattle.meaning.specs.Search.{holdsForSome};
 ghost use Rattle.meaning.specs.Result.{firstOf};
 ghost use Rattle.meaning.specs.FlatBytes.{split};
+ghost use Rattle.arith.specs.Represented.{fieldOf, WellFormed};
 ghost use Rattle.refusals.specs.conditions.factors.Factors.{holdsOf};
 ghost use Rattle.refusals.specs.Verdicts.{numberIn};
 ghost use Rattle.rate_file.specs.factors.Written.{bodiesIn, factorsIn, polynomialsIn, writtenTable};
 
 // The condition holds of the record of some factor.
-fn holds_for_some_record(condition: FactorCondition, p: u64, file: &[u8], count: usize) -> bool
+fn holds_for_some_record(
+    condition: FactorCondition,
+    field: GaloisField,
+    file: &[u8],
+    count: usize,
+) -> bool
+    requires { ⌜ WellFormed field ⌝ }
     requires { ⌜ count ≡ length (bodiesIn (now file)) ⌝ }
-    ensures { λ r. ⌜ r ≡ holdsForSome (holdsOf condition p) (bodiesIn (now (file .entry))) ⌝ }
+    ensures { λ r. ⌜ r ≡ holdsForSome (holdsOf condition (fieldOf field)) (bodiesIn (now (file .entry))) ⌝ }
 {
     let mut i = 0;
     // Invariant: none before i, so the records from i on decide.
     while i < count {
-        if holds(condition, p, body_of(file, 4, i)) {
+        if holds(condition, field, body_of(file, 4, i)) {
             return true;
         }
         i += 1;
@@ -35,14 +43,20 @@ fn holds_for_some_record(condition: FactorCondition, p: u64, file: &[u8], count:
 }
 
 // 10 and 11 as a file meets them.
-pub fn written_factors_verdict(p: u64, file: &[u8], count: usize) -> Verdict
+pub fn written_factors_verdict(field: GaloisField, file: &[u8], count: usize) -> Verdict
+    requires { ⌜ WellFormed field ⌝ }
     requires { ⌜ count ≡ length (factorsIn (now file)) ⌝ }
-    ensures { λ r. ⌜ numberIn r ≡ firstOf (writtenTable p (factorsIn (now (file .entry)))) ⌝ }
+    ensures { λ r. ⌜ numberIn r ≡ firstOf (writtenTable (fieldOf field) (factorsIn (now (file .entry)))) ⌝ }
 {
-    if holds_for_some_record(FactorCondition::FileDegreeOutOfRange, p, file, count) {
+    if holds_for_some_record(FactorCondition::FileDegreeOutOfRange, field, file, count) {
         return Verdict::Refused(Refusal::DegreeOutOfRange);
     }
-    if holds_for_some_record(FactorCondition::FileCoefficientOutOfRange, p, file, count) {
+    if holds_for_some_record(
+        FactorCondition::FileCoefficientOutOfRange,
+        field,
+        file,
+        count,
+    ) {
         return Verdict::Refused(Refusal::CoefficientOutOfRange);
     }
     Verdict::Accepted

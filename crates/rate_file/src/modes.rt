@@ -1,4 +1,4 @@
-// The way of each mode on the terms and the factors of a file, which 6 to 11 let pass.
+// The way of each mode in a field on the terms and the factors of a file, which 7 to 11 let pass.
 use crate::factors::gather_uppers;
 use crate::factors::pack_factors;
 use crate::outcomes::of_free;
@@ -19,9 +19,9 @@ ghost use Rattle.meaning.specs.Conditions.{named};
 ghost use Rattle.meaning.specs.Result.{firstOf};
 ghost use Rattle.meaning.specs.Period.{periodAnswer};
 ghost use Rattle.meaning.specs.Portion.{setAnswer};
-ghost use Rattle.meaning.specs.Free.{rateFree};
+ghost use Rattle.meaning.specs.Free.{freeIn};
 ghost use Rattle.meaning.specs.File.{ofPeriod, ofSet, ofFree};
-ghost use Rattle.arith.specs.Represented.{FieldOfPrime};
+ghost use Rattle.arith.specs.Represented.{fieldOf, WellFormed};
 ghost use Rattle.refusals.specs.Verdicts.{termsTable};
 ghost use Rattle.rate_file.specs.factors.Written.{factorsIn, polynomialsIn};
 ghost use Rattle.rate_file.specs.modes.Checked.{CheckedFactor, CheckedFactors};
@@ -30,19 +30,20 @@ ghost use Rattle.rate_file.specs.outcomes.Outcomes.{RatedFile};
 // The free way on the terms.
 pub fn rate_free_file(
     sender: u64,
-    p: u64,
+    field: GaloisField,
     terms: &[u8],
     answer: &mut [u8],
     work: &mut [u8],
 ) -> FileRating
-    requires { ⌜ firstOf (termsTable p (now terms)) ≡ none ⌝ }
+    requires { ⌜ WellFormed field ⌝ }
+    requires { ⌜ firstOf (termsTable (fieldOf field) (now terms)) ≡ none ⌝ }
     ensures { λ r. ⌜ RatedFile sender
         (ofFree (length (now (terms .entry)))
-        (rateFree p (now (terms .entry)) (length (now (answer .entry)))
+        (freeIn (fieldOf field) (now (terms .entry)) (length (now (answer .entry)))
         (length (now (work .entry)))))
         (now (answer .entry)) (now (work .entry)) r (now (answer .exit)) (now (work .exit)) ⌝ }
 {
-    let rating = rate_free::rate_checked(p, terms, answer, work);
+    let rating = rate_free::rate_checked(field, terms, answer, work);
     of_free(sender, terms.len() as u64, rating)
 }
 
@@ -50,24 +51,24 @@ pub fn rate_free_file(
 pub fn rate_period_file(
     sender: u64,
     field: GaloisField,
-    p: u64,
     file: &[u8],
     terms: &[u8],
     answer: &mut [u8],
     work: &mut [u8],
 ) -> FileRating
-    requires { ⌜ FieldOfPrime p field ⌝ }
-    requires { ⌜ CheckedFactor p (now file) (now terms) ⌝ }
+    requires { ⌜ WellFormed field ⌝ }
+    requires { ⌜ CheckedFactor (fieldOf field) (now file) (now terms) ⌝ }
     ensures { λ r. ⌜ RatedFile sender
         (ofPeriod
-        (periodAnswer p false false (getD (polynomialsIn (now (file .entry))) 0 []) (now (terms .entry))
+        (periodAnswer (fieldOf field) false false (getD (polynomialsIn (now (file .entry))) 0 [])
+        (now (terms .entry))
         (length (now (answer .entry))) (length (now (work .entry)))))
         (now (answer .entry)) (now (work .entry)) r (now (answer .exit)) (now (work .exit)) ⌝ }
 {
     let mut factor = [0u8; 33];
     let n = lay_factor(body_of(file, 4, 0), &mut factor, 0);
     let f = part(&factor, 0, n);
-    let rating = rate_period::rate_checked(field, p, f, terms, answer, work);
+    let rating = rate_period::rate_checked(field, f, terms, answer, work);
     of_power(sender, rating)
 }
 
@@ -75,18 +76,17 @@ pub fn rate_period_file(
 pub fn rate_set_file(
     sender: u64,
     field: GaloisField,
-    p: u64,
     file: &[u8],
     count: usize,
     terms: &[u8],
     answer: &mut [u8],
     work: &mut [u8],
 ) -> FileRating
-    requires { ⌜ FieldOfPrime p field ⌝ }
-    requires { ⌜ CheckedFactors p (now file) count (now terms) ⌝ }
+    requires { ⌜ WellFormed field ⌝ }
+    requires { ⌜ CheckedFactors (fieldOf field) (now file) count (now terms) ⌝ }
     ensures { λ r. ⌜ RatedFile sender
         (ofSet (length (now (terms .entry)))
-        (setAnswer p false false
+        (setAnswer (fieldOf field) false false
         (named (polynomialsIn (now (file .entry))) (map (λ f. f .upper) (factorsIn (now (file .entry)))))
         (now (terms .entry)) (length (now (answer .entry))) (length (now (work .entry)))))
         (now (answer .entry)) (now (work .entry)) r (now (answer .exit)) (now (work .exit)) ⌝ }
@@ -97,7 +97,6 @@ pub fn rate_set_file(
     let factors = nine_parts(&flat, &lengths);
     let rating = rate_set::rate_checked(
         field,
-        p,
         &factors[0..count],
         &uppers[0..count],
         terms,

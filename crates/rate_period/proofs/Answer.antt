@@ -16,7 +16,7 @@ use lib.ListN.{length}
 use Rattle.meaning.specs.declared.Refusal.{Refusal}
 use Rattle.meaning.specs.declared.PowerRating.{PowerRating}
 use Rattle.meaning.specs.Search.{bind, holdsForSome}
-use Rattle.meaning.specs.Field.{Field, prime}
+use Rattle.meaning.specs.Field.{Field}
 use Rattle.meaning.specs.Polynomial.{Polynomial, degree, power}
 use Rattle.meaning.specs.Result.{Result, answered, mapResult, Check, firstOf, valueOf, settle, Rated}
 use Rattle.meaning.specs.Result.{figuresOf, cleared, answerAfter, clearing, clears, workAfter}
@@ -30,7 +30,6 @@ use Rattle.bridge.proofs.Lists.Polynomials.{monic-nonempty}
 use Rattle.bridge.proofs.Lists.Products.{power-monic}
 use Rattle.bridge.proofs.Lists.Irreducibles.{accepted-degree}
 use Rattle.bridge.proofs.Sequences.Repeats.{shortest-exists}
-use Rattle.irreducible.specs.Accepted.{Accepted}
 use Rattle.refusals.specs.declared.Verdict.{Verdict}
 use Rattle.refusals.specs.Verdicts.{numberIn}
 use Rattle.refusals.proofs.Settled.{settle-last, settle-over}
@@ -115,11 +114,11 @@ work-found F f ts l (some r) work =
     ap (λ (a : Result (Rated PowerFigures)). workAfter a work) (rating-found F f ts e)
 
 -- A call whose verdict has passed
-module _ (p : ℕ) (f : Polynomial) (ts : List ℕ) {F : Field} (h : F ≡ prime p) {o o′ : Option ℕ} (k : o′ ≡ o)
+module _ (F : Field) (f : Polynomial) (ts : List ℕ) {o o′ : Option ℕ} (k : o′ ≡ o)
     {answer answer′ : List ℕ} {q : PowerRating} (x : FoundRated F f ts o′ answer q answer′)
-    {result : Result (Rated PowerFigures)} (e : result ≡ ratingFound (prime p) f ts o) where
+    {result : Result (Rated PowerFigures)} (e : result ≡ ratingFound F f ts o) where
   same-result : ratingFound F f ts o′ ≡ result
-  same-result = ap (λ (G : Field). ratingFound G f ts o′) h ∙ ap (ratingFound (prime p) f ts) k ∙ sym e
+  same-result = ap (ratingFound F f ts) k ∙ sym e
 
   pub call-rating : toldPower q ≡ figuresOf result
   call-rating = x .rating ∙ ap figuresOf same-result
@@ -135,7 +134,7 @@ module _ (p : ℕ) (f : Polynomial) (ts : List ℕ) {F : Field} (h : F ≡ prime
             x .answerBytes ∙ ap (λ (a : Result (Rated PowerFigures)). answerAfter a answer) same-result;
         workBytes =
             w
-            ∙ sym (work-found (prime p) f ts l o work)
+            ∙ sym (work-found F f ts l o work)
             ∙ ap (λ (a : Result (Rated PowerFigures)). workAfter a work) (sym e);
       }
 

@@ -1,4 +1,4 @@
--- The period way with a monic factor that 6, 7, 8, 10 and 11 let pass, from the verdict and the power found
+-- The period way with a monic factor that 7, 8, 10 and 11 let pass, from the verdict and the power found
 -- to the result.
 --
 --   factor-monic, factor-positive == of a monic factor that 10 lets pass
@@ -20,17 +20,17 @@ use lib.Dec.{T}
 use Rattle.meaning.specs.declared.Refusal.{Refusal}
 use Rattle.meaning.specs.declared.PowerRating.{PowerRating}
 use Rattle.meaning.specs.Search.{bind, holdsForSome, isNone}
-use Rattle.meaning.specs.Field.{Field, prime, primeInRange}
+use Rattle.meaning.specs.Field.{Field}
 use Rattle.meaning.specs.Polynomial.{Polynomial, degree, power, isMonicOver}
 use Rattle.meaning.specs.Result.{Result, refused, mapResult, firstOf, settle, Rated, figuresOf, clearing}
 use Rattle.meaning.specs.Result.{clears}
 use Rattle.meaning.specs.Power.{PowerFigures, powerRating}
 use Rattle.meaning.specs.Answers.{numberOf, toldPower}
-use Rattle.bridge.proofs.Basics.Interpretation.{inRange-isField}
+use Rattle.bridge.proofs.Basics.Interpretation.{IsField}
 use Rattle.bridge.proofs.Lists.Polynomials.{monic-nonempty}
 use Rattle.bridge.proofs.Lists.Products.{accepted-monic}
 use Rattle.bridge.proofs.Lists.Irreducibles.{accepted-degree, accepted-irreducible}
-use Rattle.bridge.proofs.Ways.Accepted.{prime-accepted, count-accepted, terms-accepted, lent-enough}
+use Rattle.bridge.proofs.Ways.Accepted.{count-accepted, terms-accepted, lent-enough}
 use Rattle.meaning.proofs.Passes.{Passes}
 use Rattle.irreducible.specs.Accepted.{Accepted}
 use Rattle.irreducible.proofs.Accepted.{accepted-short}
@@ -48,13 +48,13 @@ use Rattle.period_way.proofs.Sizes.{period-small}
 use Rattle.rate_period.proofs.Answer.{call-rating, call-lent, settled-none, settled-some}
 
 -- a factor that 10, 11 and 12 do not turn down
-module _ {p : ℕ} {f : Polynomial} (a : Accepted p f) where
-  pub factor-monic : T (isMonicOver (prime p) f)
-  factor-monic = accepted-monic (prime p) f (a .monicOver)
+module _ {F : Field} {f : Polynomial} (a : Accepted F f) where
+  pub factor-monic : T (isMonicOver F f)
+  factor-monic = accepted-monic F f (a .monicOver)
 
   pub factor-positive : 1 ≤ degree f
   factor-positive =
-      accepted-degree (prime p) f (monic-nonempty (prime p) f factor-monic) (a .degreeInRange)
+      accepted-degree F f (monic-nonempty F f factor-monic) (a .degreeInRange)
 
 -- a refusal before 17
 pub refused-as :
@@ -65,124 +65,113 @@ pub refused-as :
 unfolding toldPower figuresOf mapResult
 refused-as e other = record { rating = sym (ap figuresOf e); lent = lent-refused e other }
 
-module _ (p : ℕ) (f : Polynomial) (ts : List ℕ) (answer work : ℕ) (x : Checked p f ts) where
+module _ (F : Field) (f : Polynomial) (ts : List ℕ) (answer work : ℕ) (x : Checked F f ts) where
   -- the result with the monic multiple f
   abbrev result : Result (Rated PowerFigures)
-  result = periodAnswer p false false f ts answer work
+  result = periodAnswer F false false f ts answer work
 
   -- no power of f annihilates the period
   abbrev seventeen : Unit {0} → Bool
-  seventeen _ = isNone (periodPower (prime p) f ts)
+  seventeen _ = isNone (periodPower F f ts)
 
   period-settled :
       result
-      ≡ settle (periodChecks p f ts answer work ++ ((17, seventeen) ∷ []))
-      (λ _. bind (periodPower (prime p) f ts) (powerRating (prime p) f ts))
+      ≡ settle (periodChecks F f ts answer work ++ ((17, seventeen) ∷ []))
+      (λ _. bind (periodPower F f ts) (powerRating F f ts))
   unfolding periodAnswer
   period-settled =
-      ap (λ table. settle table (λ _. bind (periodPower (prime p) f ts) (powerRating (prime p) f ts)))
-      (period-last p ts answer work f)
+      ap (λ table. settle table (λ _. bind (periodPower F f ts) (powerRating F f ts)))
+      (period-last F ts answer work f)
 
-  pub period-prime : T (primeInRange p)
-  period-prime = prime-accepted p (x .accepted .fieldExists)
-
-  rest-decides : firstOf (periodRest p f answer work) ≡ firstOf (periodChecks p f ts answer work)
+  rest-decides : firstOf (periodRest F f answer work) ≡ firstOf (periodChecks F f ts answer work)
   rest-decides =
-      sym (period-rest p ts answer work (x .accepted .fieldExists) (x .countInRange) (x .termsInField) f)
+      sym (period-rest F ts answer work (x .countInRange) (x .termsInField) f)
 
-  module _ {v : Verdict} (k : numberIn v ≡ firstOf (periodRest p f answer work)) where
+  module _ {v : Verdict} (k : numberIn v ≡ firstOf (periodRest F f answer work)) where
     period-early : {r : Refusal} → v ≡ Verdict.Refused r → result ≡ refused (numberOf r)
-    period-early q = period-settled ∙ settle-early (periodChecks p f ts answer work) _ _ (k ∙ rest-decides) q
+    period-early q = period-settled ∙ settle-early (periodChecks F f ts answer work) _ _ (k ∙ rest-decides) q
 
     module _ (q : v ≡ Verdict.Accepted) where
-      passes : Passes (periodRest p f answer work)
-      passes = verdict-passes (periodRest p f answer work) k q
+      passes : Passes (periodRest F f answer work)
+      passes = verdict-passes (periodRest F f answer work) k q
 
       pub period-lent : (4097 ≤ answer) × (8192 ≤ work)
       unfolding periodRest lentTable
       period-lent = lent-enough answer work (passes .lentEnough)
 
-      accepted-period : PeriodInput (prime p) f ts
+      pub period-input : PeriodInput F f ts
       unfolding periodRest lentTable
-      accepted-period =
+      period-input =
           let (some-terms, few) = count-accepted (length ts) (x .countInRange) in
           let a = x .accepted in
           record {
             monic = factor-monic a;
             positive = factor-positive a;
             irreducibility =
-                accepted-irreducible p f (a .fieldExists) (a .degreeInRange) (a .monicOver)
+                accepted-irreducible F f (a .degreeInRange) (a .monicOver)
                 (passes .irreducible);
             short = omega (arith, accepted-short a);
-            inField = terms-accepted p ts (x .termsInField);
+            inField = terms-accepted F ts (x .termsInField);
             atLeastOne = some-terms;
             notMany = few;
           }
 
-      period-rating : result ≡ ratingFound (prime p) f ts (periodPower (prime p) f ts)
+      period-rating : result ≡ ratingFound F f ts (periodPower F f ts)
       unfolding isNone
-      period-rating = go (periodPower (prime p) f ts) refl
+      period-rating = go (periodPower F f ts) refl
         where
           go :
               (o : Option ℕ)
-              → periodPower (prime p) f ts ≡ o
-              → result ≡ ratingFound (prime p) f ts (periodPower (prime p) f ts)
+              → periodPower F f ts ≡ o
+              → result ≡ ratingFound F f ts (periodPower F f ts)
           go none z =
               period-settled
-              ∙ settled-none (prime p) f ts _ seventeen _ (k ∙ rest-decides) q (ap isNone z)
-              ∙ ap (ratingFound (prime p) f ts) (sym z)
+              ∙ settled-none F f ts _ seventeen _ (k ∙ rest-decides) q (ap isNone z)
+              ∙ ap (ratingFound F f ts) (sym z)
           go (some r) z =
               period-settled
-              ∙ settled-some (prime p) f ts _ seventeen _ (k ∙ rest-decides) q (ap isNone z) z
-              ∙ ap (ratingFound (prime p) f ts) (sym z)
+              ∙ settled-some F f ts _ seventeen _ (k ∙ rest-decides) q (ap isNone z) z
+              ∙ ap (ratingFound F f ts) (sym z)
 
-      module _ {F : Field} (h : F ≡ prime p) where
-        pub period-input : PeriodInput F f ts
-        period-input = rw h accepted-period
-
-        pub period-answerable :
-            {found : Found} {w w′ : List ℕ}
-            → PeriodFound F f ts w w′ found
-            → Answerable F f ts (told found)
-        period-answerable y =
-            record {
-              atLeastOne = count-accepted (length ts) (x .countInRange) .0;
-              monic = rw h (factor-monic (x .accepted));
-              degreeInRange = rw h (x .accepted .degreeInRange);
-              short = accepted-short (x .accepted);
-              inField = period-input .inField;
-              annihilates =
-                  λ r z. periodPower-least F f ts (period-input .atLeastOne) (sym (y .power) ∙ z)
-                  .annihilates;
-              small =
-                  λ r z. period-small (inRange-isField p period-prime) accepted-period
-                  (ap (λ (G : Field). periodPower G f ts) (sym h) ∙ sym (y .power) ∙ z);
-            }
+      pub period-answerable :
+          IsField F
+          → {found : Found} {w w′ : List ℕ}
+          → PeriodFound F f ts w w′ found
+          → Answerable F f ts (told found)
+      period-answerable I y =
+          record {
+            atLeastOne = count-accepted (length ts) (x .countInRange) .0;
+            monic = factor-monic (x .accepted);
+            degreeInRange = x .accepted .degreeInRange;
+            short = accepted-short (x .accepted);
+            inField = period-input .inField;
+            annihilates =
+                λ r z. periodPower-least F f ts (period-input .atLeastOne) (sym (y .power) ∙ z) .annihilates;
+            small = λ r z. period-small I period-input (sym (y .power) ∙ z);
+          }
 
 -- the inner function
-module _ (p : ℕ) (f ts answer work : List ℕ) (m : Checked p f ts) {v : Verdict}
-    (e : numberIn v ≡ firstOf (periodRest p f (length answer) (length work))) where
+module _ (F : Field) (f ts answer work : List ℕ) (m : Checked F f ts) {v : Verdict}
+    (e : numberIn v ≡ firstOf (periodRest F f (length answer) (length work))) where
   pub period-refused :
       {x : Refusal}
       → v ≡ Verdict.Refused x
-      → RatedAs (periodAnswer p false false f ts (length answer) (length work)) answer work
+      → RatedAs (periodAnswer F false false f ts (length answer) (length work)) answer work
       (PowerRating.Refused x) answer work
   unfolding periodRest lentTable holdsForSome clears clearing
   period-refused q =
-      refused-as (period-early p f ts (length answer) (length work) m e q)
-      (never-clears (periodRest p f (length answer) (length work)) refl e q)
+      refused-as (period-early F f ts (length answer) (length work) m e q)
+      (never-clears (periodRest F f (length answer) (length work)) refl e q)
 
   pub period-rated :
-      {F : Field} {found : Found} {r : PowerRating} {answer′ work′ : List ℕ}
+      {found : Found} {r : PowerRating} {answer′ work′ : List ℕ}
       → v ≡ Verdict.Accepted
-      → F ≡ prime p
       → PeriodFound F f ts work work′ found
       → FoundRated F f ts (told found) answer r answer′
-      → RatedAs (periodAnswer p false false f ts (length answer) (length work)) answer work r answer′ work′
-  period-rated q h x y =
-      let z = period-rating p f ts (length answer) (length work) m e q in
-      let k = x .power ∙ ap (λ (G : Field). periodPower G f ts) h in
+      → RatedAs (periodAnswer F false false f ts (length answer) (length work)) answer work r answer′ work′
+  period-rated q x y =
+      let z = period-rating F f ts (length answer) (length work) m e q in
       record {
-        rating = call-rating p f ts h k y z;
-        lent = call-lent p f ts h k y z (count-accepted (length ts) (m .countInRange) .0) (x .work);
+        rating = call-rating F f ts (x .power) y z;
+        lent = call-lent F f ts (x .power) y z (count-accepted (length ts) (m .countInRange) .0) (x .work);
       }

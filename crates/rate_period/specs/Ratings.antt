@@ -6,7 +6,7 @@
 --                        pass; and f to the power found annihilates their endless repetition and has a
 --                        degree of at most 4,096
 --   FoundRated F f ts o answer r answer′ == r tells the answer, and the answer bytes have become answer′
---   Checked p g ts    == 6, 7, 8 and 10 let p, the terms and the factor g pass, and g is monic
+--   Checked F g ts    == 7, 8 and 10 let the terms and the factor g pass, and g is monic
 --   RatedAs result answer work r answer′ work′ == r tells the result of a call, and the lent bytes are left
 --                        as it says
 use Prim.Native.Nat.{ℕ, _*_, _≤_, _<_}
@@ -17,7 +17,7 @@ use mathlib.Core.Option.{Option, none, some}
 use lib.ListN.{length}
 use lib.Dec.{T}
 use Rattle.meaning.specs.declared.PowerRating.{PowerRating}
-use Rattle.meaning.specs.Field.{Field, prime, areElements}
+use Rattle.meaning.specs.Field.{Field, areElements}
 use Rattle.meaning.specs.Polynomial.{Polynomial, degree, isMonicOver, power}
 use Rattle.meaning.specs.Sequence.{periodic, AnnihilatesEndless}
 use Rattle.meaning.specs.Result.{Result, refused, valueOf, Rated, figuresOf, answerAfter}
@@ -45,10 +45,10 @@ pub record FoundRated (F : Field) (f : Polynomial) (ts : List ℕ) (o : Option �
   pub rating : toldPower r ≡ figuresOf (ratingFound F f ts o)
   pub answerBytes : answer′ ≡ answerAfter (ratingFound F f ts o) answer
 
-pub record Checked (p : ℕ) (g : Polynomial) (ts : List ℕ) : Type 0 where
-  pub accepted : Accepted p g
+pub record Checked (F : Field) (g : Polynomial) (ts : List ℕ) : Type 0 where
+  pub accepted : Accepted F g
   pub countInRange : countOutOfRange (length ts) ≡ false
-  pub termsInField : termOutOfField (prime p) ts ≡ false
+  pub termsInField : termOutOfField F ts ≡ false
 
 pub record RatedAs (result : Result (Rated PowerFigures)) (answer work : List ℕ) (r : PowerRating)
     (answer′ work′ : List ℕ) : Type 0 where

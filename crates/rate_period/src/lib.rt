@@ -1,5 +1,7 @@
 // The rating of a period with one factor.
+use arith::FieldAnswer;
 use arith::GaloisField;
+use meaning::FieldName;
 use meaning::PowerRating;
 use meaning::Refusal;
 use period_way::Found;
@@ -13,9 +15,9 @@ use repeat::shortest::shortest_period;
 ghost use Prim.Native.Nat.{_≤_};
 ghost use mathlib.Core.Bool.{false};
 ghost use lib.ListN.{length};
-ghost use Rattle.meaning.specs.Period.{periodAnswer};
+ghost use Rattle.meaning.specs.Period.{periodAnswer, periodIn};
 ghost use Rattle.meaning.specs.Calls.{PeriodCall};
-ghost use Rattle.arith.specs.Represented.{fieldOf, WellFormed, FieldOfPrime};
+ghost use Rattle.arith.specs.Represented.{fieldOf, WellFormed};
 ghost use Rattle.period_way.specs.Period.{told};
 ghost use Rattle.rate_period.specs.Ratings.{Answerable, FoundRated, Checked, RatedAs};
 
@@ -43,23 +45,22 @@ fn rated(field: GaloisField, answer: &mut [u8], f: &[u8], terms: &[u8], found: F
     }
 }
 
-// The rating with the monic factor f, once 6, 7, 8, 10 and 11 let p, f and the terms pass. It leaves all lent
-// bytes as `rate_period` does.
+// The rating in a field with the monic factor f, once 7, 8, 10 and 11 let f and the terms pass. It leaves all
+// lent bytes as `rate_period` does.
 pub fn rate_checked(
     field: GaloisField,
-    p: u64,
     f: &[u8],
     terms: &[u8],
     answer: &mut [u8],
     work: &mut [u8],
 ) -> PowerRating
-    requires { ⌜ FieldOfPrime p field ⌝ }
-    requires { ⌜ Checked p (now f) (now terms) ⌝ }
-    ensures { λ r. ⌜ RatedAs (periodAnswer p false false (now (f .entry)) (now (terms .entry))
+    requires { ⌜ WellFormed field ⌝ }
+    requires { ⌜ Checked (fieldOf field) (now f) (now terms) ⌝ }
+    ensures { λ r. ⌜ RatedAs (periodAnswer (fieldOf field) false false (now (f .entry)) (now (terms .entry))
         (length (now (answer .entry))) (length (now (work .entry))))
         (now (answer .entry)) (now (work .entry)) r (now (answer .exit)) (now (work .exit)) ⌝ }
 {
-    match period_verdict(p, f, answer.len(), work.len()) {
+    match period_verdict(field, f, answer.len(), work.len()) {
         Verdict::Refused(r) => PowerRating::Refused(r),
         Verdict::Accepted => {
             let found = period_power(field, work, f, terms);
@@ -68,28 +69,46 @@ pub fn rate_checked(
     }
 }
 
-// The least power of the factor that annihilates the endless repetition of the terms; the degree of the
-// factor to this power; and the repeat length, which is the shortest period of the terms. Or the refusal by
-// 6, 7, 8, 10, 11, 12, 16 or 17. The factor stands for its monic multiple. If it accepts, it writes the
-// multiple to the least power at the front of the answer. If it accepts or refuses by 17, it clears the first
-// 8,192 work bytes. Every other lent byte stays as it was.
-pub fn rate_period(
-    p: u64,
+// The rating in a field with any factor.
+fn rate_in(
+    field: GaloisField,
     factor: &[u8],
     terms: &[u8],
     answer: &mut [u8],
     work: &mut [u8],
 ) -> PowerRating
-    ensures { λ r. ⌜ PeriodCall p (now (factor .entry)) (now (terms .entry)) (now (answer .entry))
-        (now (work .entry)) r (now (answer .exit)) (now (work .exit)) ⌝ }
+    requires { ⌜ WellFormed field ⌝ }
+    ensures { λ r. ⌜ RatedAs (periodIn (fieldOf field) (now (factor .entry)) (now (terms .entry))
+        (length (now (answer .entry))) (length (now (work .entry))))
+        (now (answer .entry)) (now (work .entry)) r (now (answer .exit)) (now (work .exit)) ⌝ }
 {
-    match given_verdict(p, factor, terms) {
+    match given_verdict(field, factor, terms) {
         Verdict::Refused(r) => PowerRating::Refused(r),
         Verdict::Accepted => {
-            let field = GaloisField::of_prime(p);
             let mut multiple = [0u8; 33];
             monic_multiple(field, factor, &mut multiple);
-            rate_checked(field, p, &multiple[0..factor.len()], terms, answer, work)
+            rate_checked(field, &multiple[0..factor.len()], terms, answer, work)
         }
+    }
+}
+
+// The least power of the factor, over the field with this name, that annihilates the endless repetition of
+// the terms; the degree of the factor to this power; and the repeat length, which is the shortest period of
+// the terms. Or the refusal by 6, 7, 8, 10, 11, 12, 16 or 17. The factor stands for its monic multiple. If it
+// accepts, it writes the multiple to the least power at the front of the answer. If it accepts or refuses by
+// 17, it clears the first 8,192 work bytes. Every other lent byte stays as it was.
+pub fn rate_period(
+    name: FieldName,
+    factor: &[u8],
+    terms: &[u8],
+    answer: &mut [u8],
+    work: &mut [u8],
+) -> PowerRating
+    ensures { λ r. ⌜ PeriodCall name (now (factor .entry)) (now (terms .entry)) (now (answer .entry))
+        (now (work .entry)) r (now (answer .exit)) (now (work .exit)) ⌝ }
+{
+    match GaloisField::of(name) {
+        FieldAnswer::Refused(r) => PowerRating::Refused(r),
+        FieldAnswer::Made(field) => rate_in(field, factor, terms, answer, work),
     }
 }

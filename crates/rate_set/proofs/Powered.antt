@@ -2,7 +2,7 @@
 --
 --   product-powered == factors whose powers can be written as a product
 --   checked-few     == there are at most eight
---   accepted-lengths == the lengths of monic multiples that 6 to 10 let pass
+--   accepted-lengths == the lengths of monic multiples that 7 to 10 let pass
 --   factors-suited  == monic multiples that are not turned down are suited
 -- Assumes nothing.
 use Prim.Native.Nat.{ℕ, _*_, _≤_, _<_}
@@ -11,14 +11,16 @@ use native.Mathlib.Omega.{arith}
 use mathlib.Core.Path.{_≡_, sym, ap, subst, _∙_}
 use mathlib.Core.List.{List, []}
 use lib.ListN.{length, getD}
-use lib.Dec.{T, eqb, ltb}
+use lib.Dec.{eqb, ltb}
 use borrow.Author.Tests.{ltb-false}
-use Rattle.meaning.specs.Field.{Field, prime}
-use Rattle.meaning.specs.Polynomial.{Polynomial, degree, irreducible}
+use Rattle.meaning.specs.Field.{Field}
+use Rattle.meaning.specs.Polynomial.{Polynomial, degree}
 use Rattle.meaning.specs.Conditions.{named, factorCountOutOfRange, factorDegreeOutOfRange, notMonic}
 use Rattle.bridge.proofs.Lists.Irreducibles.{Factors}
 use Rattle.bridge.proofs.Basics.Searches.{or-false, none-at}
 use Rattle.bridge.proofs.Lists.Products.{factorAt, powerAt, length-named, powerAt-named, factorAt-named}
+use Rattle.arith.specs.declared.field.GaloisField.{GaloisField}
+use Rattle.arith.specs.Represented.{fieldOf, WellFormed}
 use Rattle.irreducible.specs.Accepted.{Accepted}
 use Rattle.irreducible.proofs.Accepted.{accepted-short}
 use Rattle.powers.specs.product.Writing.{ProductInput}
@@ -48,13 +50,12 @@ module _ {F : Field} {fs : List Polynomial} {rs : List ℕ} (x : ProductInput F 
   pub product-powered : ((i : ℕ) → i < length fs → Suited F (getD fs i [])) → PoweredFactors F fs rs
   product-powered suited = record { suited = suited; named = x .enough; small = power-few }
 
-module _ {p : ℕ} {fs : List Polynomial} {ts : List ℕ} (m : Checked p fs ts) where
-  pub accepted-at : (i : ℕ) → i < length fs → Accepted p (getD fs i [])
+module _ {F : Field} {fs : List Polynomial} {ts : List ℕ} (m : Checked F fs ts) where
+  pub accepted-at : (i : ℕ) → i < length fs → Accepted F (getD fs i [])
   accepted-at i k =
       record {
-        fieldExists = m .fieldExists;
-        degreeInRange = none-at (factorDegreeOutOfRange (prime p)) [] fs i (m .degreesInRange) k;
-        monicOver = none-at (notMonic (prime p)) [] fs i (m .monic) k;
+        degreeInRange = none-at (factorDegreeOutOfRange F) [] fs i (m .degreesInRange) k;
+        monicOver = none-at (notMonic F) [] fs i (m .monic) k;
       }
 
   pub checked-few : length fs ≤ 8
@@ -65,8 +66,12 @@ module _ {p : ℕ} {fs : List Polynomial} {ts : List ℕ} (m : Checked p fs ts) 
   pub accepted-lengths : (i : ℕ) → i < length fs → length (getD fs i []) ≤ 33
   accepted-lengths i k = accepted-short (accepted-at i k)
 
-  pub factors-suited :
-      {F : Field} → F ≡ prime p → Factors F fs → (i : ℕ) → i < length fs → Suited F (getD fs i [])
-  factors-suited {F} e x i k =
-      accepted-suited (accepted-at i k) e
-      (subst (λ G. T (irreducible G (getD fs i []))) e (x .irreducibles i k))
+pub factors-suited :
+    {field : GaloisField} {fs : List Polynomial} {ts : List ℕ}
+    → WellFormed field
+    → Checked (fieldOf field) fs ts
+    → Factors (fieldOf field) fs
+    → (i : ℕ)
+    → i < length fs
+    → Suited (fieldOf field) (getD fs i [])
+factors-suited w m x i k = accepted-suited w (accepted-at m i k) (x .irreducibles i k)

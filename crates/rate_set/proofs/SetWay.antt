@@ -18,7 +18,7 @@ use Rattle.meaning.specs.declared.Refusal.{Refusal}
 use Rattle.meaning.specs.declared.SetOutcome.{SetOutcome}
 use Rattle.meaning.specs.declared.SetRating.{SetRating}
 use Rattle.meaning.specs.Search.{holdsForSome}
-use Rattle.meaning.specs.Field.{Field, prime}
+use Rattle.meaning.specs.Field.{Field}
 use Rattle.meaning.specs.Polynomial.{Polynomial, degree, product}
 use Rattle.meaning.specs.Sequence.{annihilatesKnown}
 use Rattle.meaning.specs.Conditions.{named, totalDegree}
@@ -37,6 +37,8 @@ use Rattle.bridge.proofs.Lists.Irreducibles.{Factors, accepted-factors}
 use Rattle.bridge.proofs.Ways.Portions.{setPowers-exists}
 use Rattle.bridge.proofs.Sequences.CommonOrders.{repeatByOrders}
 use Rattle.bridge.proofs.Sequences.RepeatLengths.{set-repeatLength}
+use Rattle.arith.specs.declared.field.GaloisField.{GaloisField}
+use Rattle.arith.specs.Represented.{fieldOf, WellFormed}
 use Rattle.refusals.specs.declared.Verdict.{Verdict}
 use Rattle.refusals.specs.Verdicts.{numberIn, multiplesTable, powersTable, lentTable, setRest, setChecks}
 use Rattle.refusals.proofs.Settled.{verdict-passes, settle-early, settle-last, settle-over, set-last}
@@ -112,126 +114,116 @@ rated-call {fs = fs} us ts {answer = answer} {F = F} rs {n = n} {b = b} (o, z) s
     }
 
 none-clears :
-    (p : ℕ) (fs : List Polynomial) (us ts : List ℕ) (answer work : ℕ)
-    → clearingIn (setRest p fs us ts answer work) ≡ false
+    (F : Field) (fs : List Polynomial) (us ts : List ℕ) (answer work : ℕ)
+    → clearingIn (setRest F fs us ts answer work) ≡ false
 unfolding setRest multiplesTable powersTable lentTable holdsForSome clears clearing
-none-clears p fs us ts answer work = refl
+none-clears F fs us ts answer work = refl
 
-module _ (p : ℕ) (fs : List Polynomial) (us ts : List ℕ) (answer work : ℕ) (m : Checked p fs ts) where
+module _ (F : Field) (fs : List Polynomial) (us ts : List ℕ) (answer work : ℕ) (m : Checked F fs ts) where
   -- the result with the monic multiples
   abbrev result : Result (Rated SetFigures)
-  result = setAnswer p false false (named fs us) ts answer work
+  result = setAnswer F false false (named fs us) ts answer work
 
-  rest-decides : firstOf (setRest p fs us ts answer work) ≡ firstOf (setChecks p fs us ts answer work)
+  rest-decides : firstOf (setRest F fs us ts answer work) ≡ firstOf (setChecks F fs us ts answer work)
   rest-decides =
       sym
-      (set-rest p ts answer work (m .fieldExists) (m .countInRange) (m .termsInField) fs us (m .factorCount))
+      (set-rest F ts answer work (m .countInRange) (m .termsInField) fs us (m .factorCount))
 
-  module _ {v : Verdict} (k : numberIn v ≡ firstOf (setRest p fs us ts answer work)) where
+  module _ {v : Verdict} (k : numberIn v ≡ firstOf (setRest F fs us ts answer work)) where
     set-early : {x : Refusal} → v ≡ Verdict.Refused x → result ≡ refused (numberOf x)
     unfolding setAnswer
-    set-early q = rw (set-last p ts answer work fs us) (settle-early _ _ _ (k ∙ rest-decides) q)
+    set-early q = rw (set-last F ts answer work fs us) (settle-early _ _ _ (k ∙ rest-decides) q)
 
     module _ (q : v ≡ Verdict.Accepted) where
-      passes : Passes (setRest p fs us ts answer work)
+      passes : Passes (setRest F fs us ts answer work)
       passes = verdict-passes _ k q
 
       pub set-lent : (4097 ≤ answer) × (8192 ≤ work)
       unfolding setRest multiplesTable powersTable lentTable
       set-lent = lent-enough answer work (passes .lentEnough)
 
-      accepted-input : SetInput (prime p) fs us ts
+      pub set-input : SetInput F fs us ts
       unfolding setRest multiplesTable powersTable lentTable
-      accepted-input =
+      set-input =
           record {
             factors =
-                accepted-factors p fs (m .fieldExists) (m .degreesInRange) (m .monic) (passes .irreducible)
+                accepted-factors F fs (m .degreesInRange) (m .monic) (passes .irreducible)
                 (passes .different);
             short = accepted-lengths m;
             eight = checked-few m;
             uppers = passes .uppersInRange;
             enough = enough-accepted (totalDegree (named fs us)) ts (passes .enoughTerms);
-            inField = terms-accepted p ts (m .termsInField);
+            inField = terms-accepted F ts (m .termsInField);
             notMany = count-accepted (length ts) (m .countInRange) .1;
           }
 
       not-annihilated :
-          annihilatesKnown (prime p) (product (prime p) (named fs us)) ts ≡ false
+          annihilatesKnown F (product F (named fs us)) ts ≡ false
           → result ≡ refused 17
       unfolding setAnswer
       not-annihilated h =
-          rw (set-last p ts answer work fs us) (settle-last _ _ _ (k ∙ rest-decides) q (ap not h))
+          rw (set-last F ts answer work fs us) (settle-last _ _ _ (k ∙ rest-decides) q (ap not h))
 
       annihilated :
           (rs : List ℕ)
-          → annihilatesKnown (prime p) (product (prime p) (named fs us)) ts ≡ true
-          → setPowers (prime p) (named fs us) ts ≡ some rs
-          → result ≡ answered (setRating (prime p) (named fs us) ts rs)
+          → annihilatesKnown F (product F (named fs us)) ts ≡ true
+          → setPowers F (named fs us) ts ≡ some rs
+          → result ≡ answered (setRating F (named fs us) ts rs)
       unfolding setAnswer valueOf
       annihilated rs h i =
-          rw (set-last p ts answer work fs us)
+          rw (set-last F ts answer work fs us)
           (settle-over _ _ _ (k ∙ rest-decides) q (ap not h)
-          ∙ ap valueOf (mapOption-some (setRating (prime p) (named fs us) ts) i))
+          ∙ ap valueOf (mapOption-some (setRating F (named fs us) ts) i))
 
-      -- the field as the code has it
-      module _ {F : Field} (h : F ≡ prime p) where
-        pub set-input : SetInput F fs us ts
-        set-input = subst (λ G. SetInput G fs us ts) (sym h) accepted-input
+      module _ (I : IsField F) {b : Bool} {w w′ powers : List ℕ}
+          (y : SetFound F fs us ts w w′ b powers) where
+        powers-exist : (rs : List ℕ) × (setPowers F (named fs us) ts ≡ some rs)
+        powers-exist =
+            setPowers-exists I (named fs us) (monics-nonempty F (named fs us) (input-monics set-input)) ts
 
-        module _ (I : IsField F) {b : Bool} {w w′ powers : List ℕ}
-            (y : SetFound F fs us ts w w′ b powers) where
-          powers-exist : (rs : List ℕ) × (setPowers F (named fs us) ts ≡ some rs)
-          powers-exist =
-              setPowers-exists I (named fs us) (monics-nonempty F (named fs us) (input-monics set-input)) ts
+        decided : annihilatesKnown F (product F (named fs us)) ts ≡ b
+        decided = sym (answer-annihilated I set-input y)
 
-          decided : annihilatesKnown (prime p) (product (prime p) (named fs us)) ts ≡ b
-          decided =
-              sym (answer-annihilated I set-input y
-              ∙ ap (λ G. annihilatesKnown G (product G (named fs us)) ts) h)
+        pub set-powers-eight : b ≡ true → 8 ≡ length powers
+        set-powers-eight n =
+            let (rs, s) = powers-exist in
+            sym (ap length (answer-powers I set-input y n s) ∙ set-eight I set-input s)
 
-          pub set-powers-eight : b ≡ true → 8 ≡ length powers
-          set-powers-eight n =
-              let (rs, s) = powers-exist in
-              sym (ap length (answer-powers I set-input y n s) ∙ set-eight I set-input s)
+        pub set-powers-input : b ≡ true → ProductInput F fs powers
+        set-powers-input n =
+            let (rs, s) = powers-exist in
+            subst (ProductInput F fs) (sym (answer-powers I set-input y n s)) (set-product I set-input s)
 
-          pub set-powers-input : b ≡ true → ProductInput F fs powers
-          set-powers-input n =
-              let (rs, s) = powers-exist in
-              subst (ProductInput F fs) (sym (answer-powers I set-input y n s)) (set-product I set-input s)
-
-          pub set-powered : b ≡ true → PoweredFactors F fs powers
-          set-powered n = product-powered (set-powers-input n) (factors-suited m h (set-input .factors))
-
-module _ (p : ℕ) (fs : List Polynomial) (us ts answer work : List ℕ) (m : Checked p fs ts)
-    {v : Verdict} (e : numberIn v ≡ firstOf (setRest p fs us ts (length answer) (length work))) where
+module _ (F : Field) (fs : List Polynomial) (us ts answer work : List ℕ) (m : Checked F fs ts)
+    {v : Verdict} (e : numberIn v ≡ firstOf (setRest F fs us ts (length answer) (length work))) where
   pub set-refused :
       {x : Refusal} {s : SetRating}
       → v ≡ Verdict.Refused x
       → (s .outcome ≡ SetOutcome.Refused x) × (s .powers ≡ replicate 8 0)
-      → SetRatedAs (setAnswer p false false (named fs us) ts (length answer) (length work)) answer work s
+      → SetRatedAs (setAnswer F false false (named fs us) ts (length answer) (length work)) answer work s
       answer work
   set-refused q o =
-      let k = set-early p fs us ts (length answer) (length work) m e q in
+      let k = set-early F fs us ts (length answer) (length work) m e q in
       refused-call o k
-      (lent-refused k (never-clears _ (none-clears p fs us ts (length answer) (length work)) e q))
+      (lent-refused k (never-clears _ (none-clears F fs us ts (length answer) (length work)) e q))
 
-  module _ (q : v ≡ Verdict.Accepted) {F : Field} (h : F ≡ prime p) (I : IsField F) {b : Bool}
+  module _ (q : v ≡ Verdict.Accepted) (I : IsField F) {b : Bool}
       {work′ powers : List ℕ} (y : SetFound F fs us ts work work′ b powers) where
     input : SetInput F fs us ts
-    input = set-input p fs us ts (length answer) (length work) m e q h
+    input = set-input F fs us ts (length answer) (length work) m e q
 
-    tried : annihilatesKnown (prime p) (product (prime p) (named fs us)) ts ≡ b
-    tried = decided p fs us ts (length answer) (length work) m e q h I y
+    tried : annihilatesKnown F (product F (named fs us)) ts ≡ b
+    tried = decided F fs us ts (length answer) (length work) m e q I y
 
     pub set-seventeen :
         {s : SetRating}
         → b ≡ false
         → (s .outcome ≡ SetOutcome.Refused Refusal.NotAnnihilated) × (s .powers ≡ replicate 8 0)
-        → SetRatedAs (setAnswer p false false (named fs us) ts (length answer) (length work)) answer work s
+        → SetRatedAs (setAnswer F false false (named fs us) ts (length answer) (length work)) answer work s
         answer work′
     unfolding numberOf
     set-seventeen n o =
-        let k = not-annihilated p fs us ts (length answer) (length work) m e q (tried ∙ n) in
+        let k = not-annihilated F fs us ts (length answer) (length work) m e q (tried ∙ n) in
         refused-call o k (lent-seventeen k (y .work))
 
     pub set-rated :
@@ -241,10 +233,10 @@ module _ (p : ℕ) (fs : List Polynomial) (us ts answer work : List ℕ) (m : Ch
         → ProductWritten F fs powers answer answer′ d
         → r ≡ repeatByOrders F (named fs powers)
         → (t .outcome ≡ SetOutcome.Rated d r k) × (t .powers ≡ powers)
-        → SetRatedAs (setAnswer p false false (named fs us) ts (length answer) (length work)) answer work t
+        → SetRatedAs (setAnswer F false false (named fs us) ts (length answer) (length work)) answer work t
         answer′ work′
     set-rated {answer′} {d} n k z j o =
-        let (rs, s) = powers-exist p fs us ts (length answer) (length work) m e q h I y in
+        let (rs, s) = powers-exist F fs us ts (length answer) (length work) m e q I y in
         let i = answer-powers I input y n s in
         let size = set-count I input s in
         let factors = subst (Factors F) (sym (factorsOf-named fs us)) (input .factors) in
@@ -257,11 +249,19 @@ module _ (p : ℕ) (fs : List Polynomial) (us ts answer work : List ℕ) (m : Ch
         rated-call us ts rs
         o
         size
-        (annihilated p fs us ts (length answer) (length work) m e q rs (tried ∙ n)
-        (ap (λ G. setPowers G (named fs us) ts) (sym h) ∙ s)
-        ∙ ap (λ G. answered (setRating G (named fs us) ts rs)) (sym h))
+        (annihilated F fs us ts (length answer) (length work) m e q rs (tried ∙ n) s)
         repeat
         i
         k
         (subst (λ l. ProductWritten F fs l answer answer′ d) i z)
         (y .work)
+
+-- over the field as the code has it, what the repeat length asks
+pub set-powered :
+    {field : GaloisField} {fs : List Polynomial} {us ts powers : List ℕ}
+    → WellFormed field
+    → Checked (fieldOf field) fs ts
+    → SetInput (fieldOf field) fs us ts
+    → ProductInput (fieldOf field) fs powers
+    → PoweredFactors (fieldOf field) fs powers
+set-powered w m x y = product-powered y (factors-suited w m (x .factors))

@@ -1,6 +1,6 @@
 -- What the contracts of the inner functions of the set call cite.
 --
---   Checked p gs ts   == 6 to 10 let p, the terms and the factors gs pass, and these are monic
+--   Checked F gs ts   == 7 to 10 let the terms and the factors gs pass, and these are monic
 --   SetRatedAs result answer work r answer′ work′ == r tells the result of the call, and the lent bytes are
 --                        left as it says
 use Prim.Native.Nat.{ℕ}
@@ -10,22 +10,21 @@ use mathlib.Core.List.{List}
 use lib.ListN.{length}
 use Rattle.meaning.specs.declared.SetRating.{SetRating}
 use Rattle.meaning.specs.Search.{holdsForSome}
-use Rattle.meaning.specs.Field.{prime}
+use Rattle.meaning.specs.Field.{Field}
 use Rattle.meaning.specs.Polynomial.{Polynomial}
 use Rattle.meaning.specs.Result.{Result, mapResult, Rated, figuresOf}
-use Rattle.meaning.specs.Conditions.{notPrime, countOutOfRange, termOutOfField, factorCountOutOfRange}
+use Rattle.meaning.specs.Conditions.{countOutOfRange, termOutOfField, factorCountOutOfRange}
 use Rattle.meaning.specs.Conditions.{factorDegreeOutOfRange, notMonic}
 use Rattle.meaning.specs.Portion.{SetFigures}
 use Rattle.meaning.specs.Answers.{toldSet, setFiguresTold, setPadded}
 use Rattle.meaning.specs.Calls.{LentAfter}
 
-pub record Checked (p : ℕ) (gs : List Polynomial) (ts : List ℕ) : Type 0 where
-  pub fieldExists : notPrime p ≡ false
+pub record Checked (F : Field) (gs : List Polynomial) (ts : List ℕ) : Type 0 where
   pub countInRange : countOutOfRange (length ts) ≡ false
-  pub termsInField : termOutOfField (prime p) ts ≡ false
+  pub termsInField : termOutOfField F ts ≡ false
   pub factorCount : factorCountOutOfRange (length gs) ≡ false
-  pub degreesInRange : holdsForSome (factorDegreeOutOfRange (prime p)) gs ≡ false
-  pub monic : holdsForSome (notMonic (prime p)) gs ≡ false
+  pub degreesInRange : holdsForSome (factorDegreeOutOfRange F) gs ≡ false
+  pub monic : holdsForSome (notMonic F) gs ≡ false
 
 pub record SetRatedAs (result : Result (Rated SetFigures)) (answer work : List ℕ) (r : SetRating)
     (answer′ work′ : List ℕ) : Type 0 where

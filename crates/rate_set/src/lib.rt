@@ -1,5 +1,7 @@
 // The rating of a portion with one to eight factors.
+use arith::FieldAnswer;
 use arith::GaloisField;
+use meaning::FieldName;
 use meaning::Refusal;
 use meaning::SetOutcome;
 use meaning::SetRating;
@@ -17,10 +19,10 @@ ghost use mathlib.Core.Bool.{false};
 ghost use lib.ListN.{length, replicate};
 ghost use Rattle.meaning.specs.declared.SetOutcome.{SetOutcome};
 ghost use Rattle.meaning.specs.Conditions.{named};
-ghost use Rattle.meaning.specs.Portion.{setAnswer};
+ghost use Rattle.meaning.specs.Portion.{setAnswer, setIn};
 ghost use Rattle.meaning.specs.Calls.{SetCall};
 ghost use Rattle.meaning.specs.Slices.{listsOf};
-ghost use Rattle.arith.specs.Represented.{FieldOfPrime};
+ghost use Rattle.arith.specs.Represented.{fieldOf, WellFormed};
 ghost use Rattle.rate_set.specs.Ratings.{Checked, SetRatedAs};
 
 // A refusal, which has no powers.
@@ -47,26 +49,33 @@ fn rated(degree: u64, repeat: u64, count: u64, powers: [u64; 8]) -> SetRating
     }
 }
 
-// The rating with monic factors, once 6 to 11 let p, the factors and the terms pass. It leaves all lent bytes
-// as `rate_set` does.
+// The rating in a field with monic factors, once 7 to 11 let the factors and the terms pass. It leaves all
+// lent bytes as `rate_set` does.
 pub fn rate_checked(
     field: GaloisField,
-    p: u64,
     factors: &[&[u8]],
     uppers: &[u64],
     terms: &[u8],
     answer: &mut [u8],
     work: &mut [u8],
 ) -> SetRating
-    requires { ⌜ FieldOfPrime p field ⌝ }
-    requires { ⌜ Checked p (listsOf (now factors)) (now terms) ⌝ }
-    ensures { λ r. ⌜ SetRatedAs (setAnswer p false false
+    requires { ⌜ WellFormed field ⌝ }
+    requires { ⌜ Checked (fieldOf field) (listsOf (now factors)) (now terms) ⌝ }
+    ensures { λ r. ⌜ SetRatedAs (setAnswer (fieldOf field) false false
         (named (listsOf (now (factors .entry))) (now (uppers .entry))) (now (terms .entry))
         (length (now (answer .entry))) (length (now (work .entry))))
         (now (answer .entry)) (now (work .entry)) r (now (answer .exit)) (now (work .exit)) ⌝ }
 {
     let total = total_degree(factors, uppers);
-    match set_verdict(p, factors, uppers, total, terms, answer.len(), work.len()) {
+    match set_verdict(
+        field,
+        factors,
+        uppers,
+        total,
+        terms,
+        answer.len(),
+        work.len(),
+    ) {
         Verdict::Refused(r) => refused(r),
         Verdict::Accepted => {
             let mut powers = [0u64; 8];
@@ -82,31 +91,51 @@ pub fn rate_checked(
     }
 }
 
-// The powers of the factors in the minimal polynomial of the continuation of the first D terms, D the total
-// degree of the upper powers; the degree of that polynomial; and the repeat length, which is the least period
-// of that continuation, or 0 if there is none or it exceeds 65,536. Or the refusal by 6 to 17. Each factor
-// stands for its monic multiple. If it accepts, it writes the polynomial at the front of the answer. If it
-// accepts or refuses by 17, it clears the first 8,192 work bytes. Every other lent byte stays as it was.
-pub fn rate_set(
-    p: u64,
+// The rating in a field with any factors.
+fn rate_in(
+    field: GaloisField,
     factors: &[&[u8]],
     uppers: &[u64],
     terms: &[u8],
     answer: &mut [u8],
     work: &mut [u8],
 ) -> SetRating
-    ensures { λ r. ⌜ SetCall p (listsOf (now (factors .entry))) (now (uppers .entry)) (now (terms .entry))
+    requires { ⌜ WellFormed field ⌝ }
+    ensures { λ r. ⌜ SetRatedAs (setIn (fieldOf field) (listsOf (now (factors .entry))) (now (uppers .entry))
+        (now (terms .entry)) (length (now (answer .entry))) (length (now (work .entry))))
         (now (answer .entry)) (now (work .entry)) r (now (answer .exit)) (now (work .exit)) ⌝ }
 {
-    match given_set_verdict(p, factors, terms) {
+    match given_set_verdict(field, factors, terms) {
         Verdict::Refused(r) => refused(r),
         Verdict::Accepted => {
-            let field = GaloisField::of_prime(p);
             let mut flat = [0u8; 264];
             let lengths = pack_multiples(field, factors, &mut flat);
             let multiples = nine_parts(&flat, &lengths);
             let count = factors.len();
-            rate_checked(field, p, &multiples[0..count], uppers, terms, answer, work)
+            rate_checked(field, &multiples[0..count], uppers, terms, answer, work)
         }
+    }
+}
+
+// The powers of the factors, over the field with this name, in the minimal polynomial of the continuation of
+// the first D terms, D the total degree of the upper powers; the degree of that polynomial; and the repeat
+// length, which is the least period of that continuation, or 0 if there is none or it exceeds 65,536. Or the
+// refusal by 6 to 17. Each factor stands for its monic multiple. If it accepts, it writes the polynomial at
+// the front of the answer. If it accepts or refuses by 17, it clears the first 8,192 work bytes. Every other
+// lent byte stays as it was.
+pub fn rate_set(
+    name: FieldName,
+    factors: &[&[u8]],
+    uppers: &[u64],
+    terms: &[u8],
+    answer: &mut [u8],
+    work: &mut [u8],
+) -> SetRating
+    ensures { λ r. ⌜ SetCall name (listsOf (now (factors .entry))) (now (uppers .entry)) (now (terms .entry))
+        (now (answer .entry)) (now (work .entry)) r (now (answer .exit)) (now (work .exit)) ⌝ }
+{
+    match GaloisField::of(name) {
+        FieldAnswer::Refused(r) => refused(r),
+        FieldAnswer::Made(field) => rate_in(field, factors, uppers, terms, answer, work),
     }
 }

@@ -5,21 +5,30 @@
 --   lent-refused     == a refusal by another number leaves all as it was
 --   lent-seventeen   == 17 leaves the work bytes cleared
 --   lent-rated       == an answer leaves its polynomial written, and the work bytes cleared
+--   name-keeps       == the refusal of a name leaves the work bytes as they were
+--   lent-declined, lent-behind == the bytes of a call by its name: where the name is refused, and where the
+--                       field is made
 -- Assumes nothing.
 use Prim.Native.Nat.{ℕ}
-use mathlib.Core.Path.{_≡_, refl, sym, ap, _∙_}
+use mathlib.Core.Path.{_≡_, refl, sym, ap, subst, _∙_}
 use mathlib.Core.Bool.{Bool, true, false}
 use mathlib.Core.List.{List, [], _∷_}
 use mathlib.Core.Option.{some, Option·some-injective, Option·none-ne-some}
+use Rattle.meaning.specs.declared.FieldName.{FieldName}
 use Rattle.meaning.specs.declared.Refusal.{Refusal}
 use Rattle.meaning.specs.Search.{holdsForSome}
+use Rattle.meaning.specs.Field.{Field}
 use Rattle.meaning.specs.Result.{Result, refused, answered, Check, firstOf, Rated, written, cleared}
 use Rattle.meaning.specs.Result.{answerAfter, clearing, clears, workAfter}
+use Rattle.meaning.specs.FieldNames.{fieldNumber, inField}
 use Rattle.meaning.specs.Answers.{numberOf}
 use Rattle.meaning.specs.Calls.{LentAfter}
 use Rattle.meaning.proofs.Tables.{firstOf-skip, firstOf-stop}
 use Rattle.meaning.proofs.Passes.{nothing}
 use Rattle.bridge.proofs.Basics.Searches.{none-uncons}
+use Rattle.arith.specs.declared.field.GaloisField.{GaloisField}
+use Rattle.arith.specs.Represented.{fieldOf, FieldNamed, Declined}
+use Rattle.arith.proofs.Door.{behind-door, at-door}
 use Rattle.refusals.specs.declared.Verdict.{Verdict}
 use Rattle.refusals.specs.Verdicts.{numberIn}
 
@@ -78,3 +87,22 @@ module _ {A : Type 0} {result : Result (Rated A)} {answer work : List ℕ} where
       → LentAfter result answer work answer′ work′
   unfolding answerAfter workAfter
   lent-rated e a w = lent e a w
+
+-- the refusal of a name leaves the work bytes as they were
+number-keeps : (name : FieldName) → clears (fieldNumber name) ≡ false
+unfolding fieldNumber clears clearing holdsForSome
+number-keeps (FieldName.Prime p) = refl
+number-keeps (FieldName.Binary n low) = refl
+
+pub name-keeps : {name : FieldName} {x : Refusal} → Declined name x → clears (numberOf x) ≡ false
+name-keeps {name} d = ap clears (d .number) ∙ number-keeps name
+
+module _ {A : Type 0} {name : FieldName} (rated : Field → Result (Rated A)) {answer work : List ℕ} where
+  pub lent-declined : {x : Refusal} → Declined name x → LentAfter (inField name rated) answer work answer work
+  lent-declined d = lent-refused (at-door rated d) (name-keeps d)
+
+  pub lent-behind : {f : GaloisField} {answer′ work′ : List ℕ} → FieldNamed name f
+      → LentAfter (rated (fieldOf f)) answer work answer′ work′
+      → LentAfter (inField name rated) answer work answer′ work′
+  lent-behind {answer′ = answer′} {work′} o l =
+      subst (λ r. LentAfter r answer work answer′ work′) (sym (behind-door rated o)) l

@@ -13,7 +13,7 @@ use mathlib.Core.List.{List, [], _∷_, _++_}
 use mathlib.Core.Option.{Option}
 use Rattle.meaning.specs.declared.Refusal.{Refusal}
 use Rattle.meaning.specs.Search.{isNone}
-use Rattle.meaning.specs.Field.{prime}
+use Rattle.meaning.specs.Field.{Field}
 use Rattle.meaning.specs.Polynomial.{Polynomial, product}
 use Rattle.meaning.specs.Sequence.{annihilatesKnown}
 use Rattle.meaning.specs.Conditions.{named}
@@ -74,16 +74,16 @@ module _ {A : Type 0} (table : List Check) (c : Check) (v : Unit {0} → Option 
   settle-over q h =
       settle-none _ v (accepted-before table (c ∷ []) e q ∙ first-skip c [] refl h ∙ sym first-nowhere)
 
-module _ (p : ℕ) (ts : List ℕ) (answer work : ℕ) where
+module _ (F : Field) (ts : List ℕ) (answer work : ℕ) where
   pub period-last : (g : Polynomial)
-      → periodTable p false false g ts answer work
-      ≡ periodChecks p g ts answer work ++ ((17, λ _. isNone (periodPower (prime p) g ts)) ∷ [])
+      → periodTable F false false g ts answer work
+      ≡ periodChecks F g ts answer work ++ ((17, λ _. isNone (periodPower F g ts)) ∷ [])
   unfolding periodTable periodChecks allButLast
   period-last g = refl
 
   pub set-last : (gs : List Polynomial) (us : List ℕ)
-      → setTable p false false (named gs us) ts answer work
-      ≡ setChecks p gs us ts answer work
-      ++ ((17, λ _. not (annihilatesKnown (prime p) (product (prime p) (named gs us)) ts)) ∷ [])
+      → setTable F false false (named gs us) ts answer work
+      ≡ setChecks F gs us ts answer work
+      ++ ((17, λ _. not (annihilatesKnown F (product F (named gs us)) ts)) ∷ [])
   unfolding setTable setChecks allButLast
   set-last gs us = refl

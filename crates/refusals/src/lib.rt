@@ -1,28 +1,28 @@
 // The conditions of the numbered list of refusals in their order, one function for each call: the first that
-// holds, but for 17. Each answers for any numbers and slices of any length, but for those from 12 on, which
-// assume that 6, 10 and 11 let the factors pass; none changes a lent byte.
+// holds in a field, but for 17. Each answers for any numbers and slices of any length, but for those from 12
+// on, which assume that 10 and 11 let the factors pass; none changes a lent byte. All assume a well-formed
+// field: whoever makes it has met 6.
 pub mod conditions;
-mod factors;
+pub mod factors;
 pub mod numbering;
 pub mod ratings;
 
 use crate::conditions::lists::coefficient_out_of_range;
 use crate::conditions::lists::continuation_degree_out_of_range;
-use crate::conditions::lists::factor_degree_out_of_range;
 use crate::conditions::lists::start_unlike_degree;
 use crate::conditions::lists::term_out_of_field;
 use crate::conditions::numbers::count_out_of_range;
 use crate::conditions::numbers::lent_too_short;
 use crate::conditions::numbers::meter_full;
-use crate::conditions::numbers::not_prime;
 use crate::conditions::numbers::place_out_of_range;
+use arith::GaloisField;
 use meaning::Refusal;
 ghost use mathlib.Core.Path.{_≡_};
 ghost use Rattle.meaning.specs.Result.{firstOf};
 ghost use Rattle.meaning.specs.Free.{freeTable};
 ghost use Rattle.meaning.specs.Meter.{termTable};
 ghost use Rattle.meaning.specs.Continuation.{continueTable};
-ghost use Rattle.meaning.specs.Irreducibility.{irreducibleTable};
+ghost use Rattle.arith.specs.Represented.{fieldOf, WellFormed};
 ghost use Rattle.refusals.specs.Verdicts.{numberIn, termsTable, lentTable};
 
 // Whether a call is turned down, and why.
@@ -31,17 +31,15 @@ pub enum Verdict {
     Refused(Refusal),
 }
 
-// 6, 7, 8: what all ways of rating meet first.
-pub fn terms_verdict(p: u64, terms: &[u8]) -> Verdict
-    ensures { λ r. ⌜ numberIn r ≡ firstOf (termsTable p (now (terms .entry))) ⌝ }
+// 7, 8: what all ways of rating meet first in the field.
+pub fn terms_verdict(field: GaloisField, terms: &[u8]) -> Verdict
+    requires { ⌜ WellFormed field ⌝ }
+    ensures { λ r. ⌜ numberIn r ≡ firstOf (termsTable (fieldOf field) (now (terms .entry))) ⌝ }
 {
-    if not_prime(p) {
-        return Verdict::Refused(Refusal::NotPrime);
-    }
     if count_out_of_range(terms.len()) {
         return Verdict::Refused(Refusal::CountOutOfRange);
     }
-    if term_out_of_field(p, terms) {
+    if term_out_of_field(field, terms) {
         return Verdict::Refused(Refusal::TermOutOfField);
     }
     Verdict::Accepted
@@ -57,22 +55,24 @@ pub fn lent_verdict(answer: usize, work: usize) -> Verdict
     Verdict::Accepted
 }
 
-// The free way: 6, 7, 8, 16.
-pub fn free_verdict(p: u64, terms: &[u8], answer: usize, work: usize) -> Verdict
-    ensures { λ r. ⌜ numberIn r ≡ firstOf (freeTable p (now (terms .entry)) answer work) ⌝ }
+// The free way: 7, 8, 16.
+pub fn free_verdict(field: GaloisField, terms: &[u8], answer: usize, work: usize) -> Verdict
+    requires { ⌜ WellFormed field ⌝ }
+    ensures { λ r. ⌜ numberIn r ≡ firstOf (freeTable (fieldOf field) (now (terms .entry)) answer work) ⌝ }
 {
-    match terms_verdict(p, terms) {
+    match terms_verdict(field, terms) {
         Verdict::Refused(r) => Verdict::Refused(r),
         Verdict::Accepted => lent_verdict(answer, work),
     }
 }
 
 // A term for a meter that holds so many: 8, 18.
-pub fn term_verdict(p: u64, held: usize, term: u8) -> Verdict
-    ensures { λ r. ⌜ numberIn r ≡ firstOf (termTable p held term) ⌝ }
+pub fn term_verdict(field: GaloisField, held: usize, term: u8) -> Verdict
+    requires { ⌜ WellFormed field ⌝ }
+    ensures { λ r. ⌜ numberIn r ≡ firstOf (termTable (fieldOf field) held term) ⌝ }
 {
     let terms = [term];
-    if term_out_of_field(p, &terms) {
+    if term_out_of_field(field, &terms) {
         return Verdict::Refused(Refusal::TermOutOfField);
     }
     if meter_full(held) {
@@ -81,46 +81,29 @@ pub fn term_verdict(p: u64, held: usize, term: u8) -> Verdict
     Verdict::Accepted
 }
 
-// The question whether a polynomial is irreducible: 6, 10, 11.
-pub fn irreducible_verdict(p: u64, factor: &[u8]) -> Verdict
-    ensures { λ r. ⌜ numberIn r ≡ firstOf (irreducibleTable p (now (factor .entry))) ⌝ }
-{
-    if not_prime(p) {
-        return Verdict::Refused(Refusal::NotPrime);
-    }
-    if factor_degree_out_of_range(p, factor) {
-        return Verdict::Refused(Refusal::DegreeOutOfRange);
-    }
-    if coefficient_out_of_range(p, factor) {
-        return Verdict::Refused(Refusal::CoefficientOutOfRange);
-    }
-    Verdict::Accepted
-}
-
-// The continuation: 6, 7, 8, 10, 11, 15, for a buffer of `size` bytes.
+// The continuation: 7, 8, 10, 11, 15, for a buffer of `size` bytes.
 pub fn continue_verdict(
-    p: u64,
+    field: GaloisField,
     polynomial: &[u8],
     start: &[u8],
     place: usize,
     size: usize,
 ) -> Verdict
+    requires { ⌜ WellFormed field ⌝ }
     ensures { λ r. ⌜ numberIn r
-        ≡ firstOf (continueTable p (now (polynomial .entry)) (now (start .entry)) place size) ⌝ }
+        ≡ firstOf (continueTable (fieldOf field) (now (polynomial .entry)) (now (start .entry)) place
+        size) ⌝ }
 {
-    if not_prime(p) {
-        return Verdict::Refused(Refusal::NotPrime);
-    }
     if place_out_of_range(size, place) {
         return Verdict::Refused(Refusal::CountOutOfRange);
     }
-    if term_out_of_field(p, start) {
+    if term_out_of_field(field, start) {
         return Verdict::Refused(Refusal::TermOutOfField);
     }
     if continuation_degree_out_of_range(polynomial) {
         return Verdict::Refused(Refusal::DegreeOutOfRange);
     }
-    if coefficient_out_of_range(p, polynomial) {
+    if coefficient_out_of_range(field, polynomial) {
         return Verdict::Refused(Refusal::CoefficientOutOfRange);
     }
     if start_unlike_degree(polynomial, start) {

@@ -9,11 +9,13 @@ use crate::factors::factors_verdict;
 use crate::factors::multiples_verdict;
 use crate::lent_verdict;
 use crate::terms_verdict;
+use arith::GaloisField;
 use meaning::Refusal;
 ghost use mathlib.Core.Path.{_≡_};
 ghost use Rattle.meaning.specs.Result.{firstOf};
 ghost use Rattle.meaning.specs.Conditions.{named};
 ghost use Rattle.meaning.specs.Slices.{listsOf};
+ghost use Rattle.arith.specs.Represented.{fieldOf, WellFormed};
 ghost use Rattle.poly.specs.factors.Degrees.{cappedDegree};
 ghost use Rattle.irreducible.specs.Accepted.{Accepted};
 ghost use Rattle.refusals.specs.conditions.factors.Factors.{AllAccepted};
@@ -43,33 +45,37 @@ fn powers_verdict(
     lent_verdict(answer, work)
 }
 
-// The terms and one factor as they are given: 6, 7, 8, 10, 11.
-pub fn given_verdict(p: u64, factor: &[u8], terms: &[u8]) -> Verdict
-    ensures { λ r. ⌜ numberIn r ≡ firstOf (givenTable p (now (factor .entry)) (now (terms .entry))) ⌝ }
+// The terms and one factor as they are given: 7, 8, 10, 11.
+pub fn given_verdict(field: GaloisField, factor: &[u8], terms: &[u8]) -> Verdict
+    requires { ⌜ WellFormed field ⌝ }
+    ensures { λ r. ⌜ numberIn r ≡ firstOf
+        (givenTable (fieldOf field) (now (factor .entry)) (now (terms .entry))) ⌝ }
 {
-    match terms_verdict(p, terms) {
+    match terms_verdict(field, terms) {
         Verdict::Refused(r) => Verdict::Refused(r),
-        Verdict::Accepted => factor_verdict(p, factor),
+        Verdict::Accepted => factor_verdict(field, factor),
     }
 }
 
-// The terms and the factors of a set as they are given: 6 to 11.
-pub fn given_set_verdict(p: u64, factors: &[&[u8]], terms: &[u8]) -> Verdict
+// The terms and the factors of a set as they are given: 7 to 11.
+pub fn given_set_verdict(field: GaloisField, factors: &[&[u8]], terms: &[u8]) -> Verdict
+    requires { ⌜ WellFormed field ⌝ }
     ensures { λ r. ⌜ numberIn r
-        ≡ firstOf (givenSetTable p (listsOf (now (factors .entry))) (now (terms .entry))) ⌝ }
+        ≡ firstOf (givenSetTable (fieldOf field) (listsOf (now (factors .entry))) (now (terms .entry))) ⌝ }
 {
-    match terms_verdict(p, terms) {
+    match terms_verdict(field, terms) {
         Verdict::Refused(r) => Verdict::Refused(r),
-        Verdict::Accepted => factors_verdict(p, factors),
+        Verdict::Accepted => factors_verdict(field, factors),
     }
 }
 
 // The period way after that: 12, 16.
-pub fn period_verdict(p: u64, multiple: &[u8], answer: usize, work: usize) -> Verdict
-    requires { ⌜ Accepted p (now multiple) ⌝ }
-    ensures { λ r. ⌜ numberIn r ≡ firstOf (periodRest p (now (multiple .entry)) answer work) ⌝ }
+pub fn period_verdict(field: GaloisField, multiple: &[u8], answer: usize, work: usize) -> Verdict
+    requires { ⌜ WellFormed field ⌝ }
+    requires { ⌜ Accepted (fieldOf field) (now multiple) ⌝ }
+    ensures { λ r. ⌜ numberIn r ≡ firstOf (periodRest (fieldOf field) (now (multiple .entry)) answer work) ⌝ }
 {
-    if reducible(p, multiple) {
+    if reducible(field, multiple) {
         return Verdict::Refused(Refusal::Reducible);
     }
     lent_verdict(answer, work)
@@ -77,7 +83,7 @@ pub fn period_verdict(p: u64, multiple: &[u8], answer: usize, work: usize) -> Ve
 
 // The set way after that, with the total degree of the upper powers: 12 to 16.
 pub fn set_verdict(
-    p: u64,
+    field: GaloisField,
     multiples: &[&[u8]],
     uppers: &[u64],
     degree: usize,
@@ -85,13 +91,16 @@ pub fn set_verdict(
     answer: usize,
     work: usize,
 ) -> Verdict
-    requires { ⌜ AllAccepted p (listsOf (now multiples)) ⌝ }
+    requires { ⌜ WellFormed field ⌝ }
+    requires { ⌜ AllAccepted (fieldOf field) (listsOf (now multiples)) ⌝ }
     requires { ⌜ degree ≡ cappedDegree (named (listsOf (now multiples)) (now uppers)) ⌝ }
     ensures { λ r. ⌜ numberIn r
-        ≡ firstOf (setRest p (listsOf (now (multiples .entry))) (now (uppers .entry)) (now (terms .entry))
+        ≡ firstOf
+        (setRest (fieldOf field) (listsOf (now (multiples .entry))) (now (uppers .entry))
+        (now (terms .entry))
         answer work) ⌝ }
 {
-    match multiples_verdict(p, multiples) {
+    match multiples_verdict(field, multiples) {
         Verdict::Refused(r) => Verdict::Refused(r),
         Verdict::Accepted => powers_verdict(multiples, uppers, degree, terms, answer, work),
     }

@@ -37,15 +37,14 @@ use Rattle.bridge.proofs.Binary.Catalogue.{listed-member}
 use Rattle.bridge.proofs.Binary.Catalogue.{entry-at, first-found, first-missing}
 use Rattle.bridge.proofs.Binary.CatalogueTable.{catalogue-count, catalogue-rising, catalogue-order}
 use Rattle.theorems.specs.Answering.{Answered, OneOf, Tells, Decided}
-use Rattle.theorems.specs.Ratings.{GF}
-use Rattle.theorems.specs.Catalogue.{searchNumbers, searchConditions, Entry, SearchLeaves}
+use Rattle.theorems.specs.Catalogue.{GF2, searchNumbers, searchConditions, Entry, SearchLeaves}
 use Rattle.theorems.specs.Catalogue.{SearchAnswers}
 use Rattle.theorems.specs.Catalogue.{EntryAnswers, CataloguePromise, EntryAnswered, EntryRight}
 use Rattle.theorems.specs.Catalogue.{EntryPromise}
 use Rattle.theorems.specs.Catalogue.{SearchExport, SearchExportAnswers}
 use Rattle.theorems.proofs.Deciding.{settle-decided, tested, then, meant, done}
-use Rattle.theorems.proofs.Telling.{settle-tells, Listed as Numbered, meets, no-zero, work-untouched}
-use Rattle.theorems.proofs.Telling.{cleared-front, cleared-beyond, cleared-length}
+use Rattle.theorems.proofs.Telling.{settle-tells, no-zero, isListed, Listed as Numbered, listed, meets}
+use Rattle.theorems.proofs.Telling.{work-untouched, cleared-front, cleared-beyond, cleared-length}
 use Rattle.theorems.proofs.Answering.{present}
 use Rattle.theorems.proofs.OtherLanguages.{status-told}
 
@@ -59,12 +58,12 @@ listed-entry : {n : ℕ} → Listed n → Entry n
 listed-entry {n} x = member-some (eqb n) catalogue n (listed-member x) (eqb-refl n)
 
 module _ {n : ℕ} (x : Listed n) where
-  listed-words : NotAProduct (GF 2) (entryPolynomial n)
+  listed-words : NotAProduct GF2 (entryPolynomial n)
   listed-words =
       irreducible-words binary-isField (entryPolynomial n) (entry-monic n (x .atLeast) (x .less))
       (entry-positive n (x .atLeast) (x .less)) (x .irreducibility)
 
-words-listed : {n : ℕ} → 2 ≤ n → n < 2048 → NotAProduct (GF 2) (entryPolynomial n) → Listed n
+words-listed : {n : ℕ} → 2 ≤ n → n < 2048 → NotAProduct GF2 (entryPolynomial n) → Listed n
 words-listed {n} l k w =
     record { atLeast = l; less = k; irreducibility = words-irreducible binary-isField (entryPolynomial n) w }
 
@@ -88,10 +87,10 @@ catalogue-promise =
           value 2 f,
           listed-entry
               (words-listed (number-large f m l k) (number-small f m l k)
-              (subst (NotAProduct (GF 2)) (sym (number-entry f m l k)) w)),
+              (subst (NotAProduct GF2) (sym (number-entry f m l k)) w)),
           number-entry f m l k,
         ),
-        λ h. subst (NotAProduct (GF 2)) (h .2) (listed-words (entry-listed (h .1))),
+        λ h. subst (NotAProduct GF2) (h .2) (listed-words (entry-listed (h .1))),
       );
       one-number =
           λ n m h k e.
@@ -116,11 +115,11 @@ catalogue-promise =
 -- THE POWERS OF AN ENTRY
 module _ (ts : List ℕ) (some-terms : 0 < length ts) where
   least-power : (n : ℕ) {r : ℕ} → entryPower ts n ≡ some r
-      → LeastPower (GF 2) (entryPolynomial n) (periodic ts) r
+      → LeastPower GF2 (entryPolynomial n) (periodic ts) r
   unfolding entryPower
-  least-power n e = periodPower-least (GF 2) (entryPolynomial n) ts some-terms e
+  least-power n e = periodPower-least GF2 (entryPolynomial n) ts some-terms e
 
-  no-power : {n : ℕ} → Listed n → entryPower ts n ≡ none → NoPower (GF 2) (entryPolynomial n) ts
+  no-power : {n : ℕ} → Listed n → entryPower ts n ≡ none → NoPower GF2 (entryPolynomial n) ts
   unfolding entryPower
   no-power {n} x e =
       periodPower-none binary-isField (entryPolynomial n) (entry-monic n (x .atLeast) (x .less))
@@ -128,12 +127,12 @@ module _ (ts : List ℕ) (some-terms : 0 < length ts) where
 
 -- 19: no entry is found exactly if none has a power
 module _ (ts : List ℕ) (some-terms : 0 < length ts) where
-  missing-says : isNone (firstEntry ts) ≡ true → (n : ℕ) → Entry n → NoPower (GF 2) (entryPolynomial n) ts
+  missing-says : isNone (firstEntry ts) ≡ true → (n : ℕ) → Entry n → NoPower GF2 (entryPolynomial n) ts
   missing-says e n y =
       no-power ts some-terms (entry-listed y)
       (first-missing ts (isNone-none (true-T e)) n (entry-listed y))
 
-  says-missing : ((n : ℕ) → Entry n → NoPower (GF 2) (entryPolynomial n) ts) → isNone (firstEntry ts) ≡ true
+  says-missing : ((n : ℕ) → Entry n → NoPower GF2 (entryPolynomial n) ts) → isNone (firstEntry ts) ≡ true
   unfolding isNone
   says-missing h = go (firstEntry ts) refl
     where
@@ -147,8 +146,8 @@ module _ (ts : List ℕ) (some-terms : 0 < length ts) where
 
 -- DEMAND 1
 search-listed : Numbered searchNumbers
-unfolding Numbered refusalOf refusals lookUp holdsForAll isNone
-search-listed = tt
+unfolding isListed refusalOf refusals lookUp holdsForAll isNone
+search-listed = listed _ tt
 
 pub search-tells : (ts : List ℕ) (work : ℕ) → Tells searchNumbers (findEntry ts work)
 unfolding findEntry entryTable
@@ -272,7 +271,7 @@ found-right ts work {a} e =
 nineteen-right : (ts : List ℕ) (work : ℕ) → findEntry ts work ≡ refused 19
     → (n : ℕ)
     → Entry n
-    → NoPower (GF 2) (entryPolynomial n) ts
+    → NoPower GF2 (entryPolynomial n) ts
 unfolding findEntry entryTable
 nineteen-right ts work e n y =
     let (h, z) = settle-refused _ (entryTable ts work) (omega arith) e in

@@ -1,17 +1,19 @@
 -- The tests of the conditions are the words of the numbered list. Assumes nothing.
 use Prim.Native.Nat.{ℕ, _-_, _/_, _^_, _≤_, _<_}
-use mathlib.Core.Path.{_≡_, sym, subst}
+use mathlib.Core.Path.{_≡_, subst}
 use mathlib.Core.Logic.{_↔_, _⊎_, inl, inr, _≢_}
 use mathlib.Core.Bool.{Bool, true, false, not, _||_}
 use mathlib.Core.List.{List}
 use native.Mathlib.Omega.{arith}
 use lib.ListN.{length, getD}
 use lib.Dec.{T, eqb, ltb, T-not, not-T, ltb→lt, nltb→le, eqb→eq, eqb-refl}
+use Rattle.meaning.specs.declared.FieldName.{FieldName}
 use Rattle.meaning.specs.Field.{Field, PrimeNumber, primeInRange, areElements}
 use Rattle.meaning.specs.Polynomial.{Polynomial, degree, leading}
 use Rattle.meaning.specs.Conditions.{notPrime, countOutOfRange, placeOutOfRange, termOutOfField}
 use Rattle.meaning.specs.Conditions.{factorCountOutOfRange, degreeOutOfRange, continuationDegreeOutOfRange}
 use Rattle.meaning.specs.Conditions.{coefficientOutOfRange, fewerTermsThan, startUnlikeDegree, lentTooShort}
+use Rattle.meaning.specs.FieldNames.{notField}
 use Rattle.theorems.specs.Ratings.{ConditionWords}
 use Rattle.bridge.proofs.Basics.Interpretation.{inRange-prime, prime-inRange, prime-meaning, meaning-prime}
 use Rattle.bridge.proofs.Lists.Polynomials.{elements-getD, getD-elements}
@@ -79,11 +81,15 @@ start-words : (g : Polynomial) (start : List ℕ) → T (startUnlikeDegree g sta
 unfolding startUnlikeDegree
 start-words g start = neither (eqb (length start) (degree g)) (equal (length start) (degree g))
 
+six-words : (p : ℕ) → T (notField (FieldName.Prime p)) ↔ ((PrimeNumber p × (p ≤ 251)) → ⊥)
+unfolding notField notPrime
+six-words p = neither (primeInRange p) (in-range p)
+
 pub condition-words : ConditionWords
-unfolding notPrime placeOutOfRange termOutOfField factorCountOutOfRange fewerTermsThan lentTooShort
+unfolding placeOutOfRange termOutOfField factorCountOutOfRange fewerTermsThan lentTooShort
 condition-words =
     record {
-      six = λ p. neither (primeInRange p) (in-range p);
+      six = six-words;
       seven = count-words;
       seven-place =
           λ size place. either (ltb size place) (countOutOfRange (size - place)) (less size place)

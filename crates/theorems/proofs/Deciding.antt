@@ -10,7 +10,7 @@
 -- Assumes nothing.
 use Prim.Native.Nat.{ℕ}
 use mathlib.Core.Path.{_≡_, refl, sym, ap, subst, _∙_}
-use mathlib.Core.Logic.{_⊎_, _↔_, inl, inr}
+use mathlib.Core.Logic.{inl, inr}
 use mathlib.Core.Bool.{Bool, true, false, true≢false}
 use mathlib.Core.List.{List, [], _∷_, _++_}
 use mathlib.Core.Option.{Option, none, some, Option·some-injective, Option·some-ne-none, Option·none-ne-some}
@@ -18,8 +18,7 @@ use lib.Dec.{T}
 use Rattle.meaning.specs.Result.{Check, Result, refused, answered, mapResult, firstOf, settle, valueOf}
 use Rattle.meaning.proofs.Tables.{firstOf-skip, firstOf-stop, settle-none}
 use Rattle.meaning.proofs.Passes.{Passes, firstOf-passes}
-use Rattle.bridge.proofs.Basics.Searches.{never-answered, refused-same, map-answered, map-refused, true-T}
-use Rattle.bridge.proofs.Basics.Searches.{T-true}
+use Rattle.bridge.proofs.Basics.Searches.{never-answered, refused-same, true-T, T-true}
 use Rattle.theorems.specs.Answering.{Answered, Condition, NoneHolds, FirstThatHolds, Decided}
 
 -- THE FIRST CONDITION THAT HOLDS

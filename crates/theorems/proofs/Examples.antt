@@ -20,6 +20,7 @@ use Rattle.meaning.specs.Sequence.{Sequence, InField, AnnihilatesEndless, Minim
 use Rattle.meaning.specs.Conditions.{named, totalDegree}
 use Rattle.meaning.specs.Search.{range, holdsForAll}
 use Rattle.meaning.specs.Field.{isPrime}
+use Rattle.meaning.specs.FieldNames.{namedField}
 use Rattle.meaning.specs.Portion.{acceptedFactors}
 use Rattle.meaning.specs.Free.{Fits, leastDegree}
 use Rattle.meaning.specs.Result.{Result, answered, refused}
@@ -31,20 +32,20 @@ use Rattle.meaning.proofs.Stretches.{oneThenZeros-inField, oneThenZeros-annihil
 use Rattle.meaning.proofs.Stretches.{oneThenZeros-set-0, oneThenZeros-set-1}
 use Rattle.meaning.proofs.Stretches.{three, three-least, three-first, three-second, three-free}
 use Rattle.bridge.proofs.Sequences.Minimal.{minimal-unique}
-use Rattle.theorems.specs.Ratings.{GF}
+use Rattle.theorems.specs.Ratings.{GF, NamesField}
 use Rattle.theorems.specs.CutAnywhere.{CutAnywhere, SetReturns, FreeReturns}
 use Rattle.theorems.proofs.Words.{field-of}
-use Rattle.theorems.proofs.Instance.{degree-in, ones-instance, ones-polynomial}
+use Rattle.theorems.proofs.Instance.{two, degree-in, ones-instance, ones-polynomial}
 use Rattle.theorems.proofs.Instance.{short-instance, short-polynomial}
 
 -- THE FACTOR X annihilates 1, 0, 0, …; every other hypothesis of `cut-anywhere` holds
 pub record FactorX : Type 0 where
-  pub accepted : T (acceptedFactors 2 x (1 ∷ []))
-  pub inField : InField (GF 2) oneThenZeros
-  pub annihilated : AnnihilatesEndless (GF 2) (product (GF 2) (named x (1 ∷ []))) oneThenZeros
-  pub refuted : CutAnywhere 2 x (1 ∷ []) oneThenZeros → ⊥
+  pub accepted : T (acceptedFactors two x (1 ∷ []))
+  pub inField : InField (GF two) oneThenZeros
+  pub annihilated : AnnihilatesEndless (GF two) (product (GF two) (named x (1 ∷ []))) oneThenZeros
+  pub refuted : CutAnywhere two x (1 ∷ []) oneThenZeros → ⊥
 
-x-refuted : CutAnywhere 2 x (1 ∷ []) oneThenZeros → ⊥
+x-refuted : CutAnywhere two x (1 ∷ []) oneThenZeros → ⊥
 unfolding totalDegree named degree toldSet degree-in
 x-refuted c =
     let a = c .set-way 0 1 (lit≤ tt) (lit≤ tt) answer work lent _ _ _ oneThenZeros-set-0 in
@@ -54,6 +55,7 @@ x-refuted c =
     omega arith
 
 pub factorX : FactorX
+unfolding namedField
 factorX =
     record {
       accepted = accepted-x;
@@ -66,15 +68,15 @@ factorX =
 pub record OneTermShort : Type 0 where
   pub undecided : (rate : List ℕ → Polynomial)
       → ((s : Sequence)
-      → InField (GF 2) s
-      → AnnihilatesEndless (GF 2) (product (GF 2) (named factors (2 ∷ []))) s
-      → MinimalPolynomial (GF 2) (rate (cut s 0 1)) s)
+      → InField (GF two) s
+      → AnnihilatesEndless (GF two) (product (GF two) (named factors (2 ∷ []))) s
+      → MinimalPolynomial (GF two) (rate (cut s 0 1)) s)
       → ⊥
-  pub refused-by-15 : (g : Polynomial) → SetReturns 2 factors (2 ∷ []) (cut ones 0 1) g → ⊥
+  pub refused-by-15 : (g : Polynomial) → SetReturns two factors (2 ∷ []) (cut ones 0 1) g → ⊥
 
-two-prime : T (isPrime 2)
+two-named : NamesField two
 unfolding isPrime holdsForAll range
-two-prime = tt
+two-named = tt
 
 agree : cut ones 0 1 ≡ cut alternating 0 1
 unfolding cut ones alternating
@@ -85,28 +87,28 @@ which (refused n) = 0
 which (answered a) = 1
 
 pub oneTermShort : OneTermShort
-unfolding toldSet which
+unfolding namedField toldSet which
 oneTermShort = record { undecided = undecided; refused-by-15 = refused-by-15 }
   where
     undecided :
         (rate : List ℕ → Polynomial)
         → ((s : Sequence)
-        → InField (GF 2) s
-        → AnnihilatesEndless (GF 2) (product (GF 2) (named factors (2 ∷ []))) s
-        → MinimalPolynomial (GF 2) (rate (cut s 0 1)) s)
+        → InField (GF two) s
+        → AnnihilatesEndless (GF two) (product (GF two) (named factors (2 ∷ []))) s
+        → MinimalPolynomial (GF two) (rate (cut s 0 1)) s)
         → ⊥
     undecided rate h =
         let a =
-        minimal-unique (field-of 2 two-prime) (rate (cut ones 0 1)) (ones-instance .g) ones
+        minimal-unique (field-of two two-named) (rate (cut ones 0 1)) (ones-instance .g) ones
         (h ones ones-inField ones-annihilated) (ones-instance .minimal) in
         let b =
-        minimal-unique (field-of 2 two-prime) (rate (cut alternating 0 1)) (short-instance .g) alternating
+        minimal-unique (field-of two two-named) (rate (cut alternating 0 1)) (short-instance .g) alternating
         (h alternating alternating-inField alternating-annihilated-2) (short-instance .minimal) in
         let e : _≡_ {A = ℕ} 2 3 =
         ap length (sym ones-polynomial ∙ sym a ∙ ap rate agree ∙ b ∙ short-polynomial) in
         omega arith
 
-    refused-by-15 : (g : Polynomial) → SetReturns 2 factors (2 ∷ []) (cut ones 0 1) g → ⊥
+    refused-by-15 : (g : Polynomial) → SetReturns two factors (2 ∷ []) (cut ones 0 1) g → ⊥
     refused-by-15 g h =
         let z = h answer work lent _ _ _ ones-refused in
         let e : _≡_ {A = ℕ} 0 1 = ap which (z .1) in
@@ -116,12 +118,12 @@ oneTermShort = record { undecided = undecided; refused-by-15 = refused-by-15 }
 pub record TwoFit : Type 0 where
   pub stretch : cut alternating 1 3 ≡ three
   pub one-term-short : 2 * degree (short-instance .g) ≡ suc (length three)
-  pub least : leastDegree (GF 2) three ≡ some 2
-  pub first : Fits (GF 2) three 2 (0 ∷ 0 ∷ 1 ∷ [])
-  pub second : Fits (GF 2) three 2 (1 ∷ 0 ∷ 1 ∷ [])
-  pub refuted : FreeReturns 2 three (short-instance .g) → ⊥
+  pub least : leastDegree (GF two) three ≡ some 2
+  pub first : Fits (GF two) three 2 (0 ∷ 0 ∷ 1 ∷ [])
+  pub second : Fits (GF two) three 2 (1 ∷ 0 ∷ 1 ∷ [])
+  pub refuted : FreeReturns two three (short-instance .g) → ⊥
 
-two-refuted : FreeReturns 2 three (short-instance .g) → ⊥
+two-refuted : FreeReturns two three (short-instance .g) → ⊥
 two-refuted h =
     let z = h answer work lent _ _ _ three-free in
     let e : _≡_ {A = ℕ} 0 1 =
@@ -129,7 +131,7 @@ two-refuted h =
     omega arith
 
 pub twoFit : TwoFit
-unfolding cut alternating degree
+unfolding namedField cut alternating degree
 twoFit =
     record {
       stretch = refl;

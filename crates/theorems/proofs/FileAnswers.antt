@@ -12,35 +12,43 @@ use mathlib.Core.Bool.{Bool, true, false, true≢false}
 use mathlib.Core.List.{List, [], map}
 use mathlib.Core.Option.{Option, none, some}
 use lib.ListN.{length, getD}
+use Rattle.meaning.specs.declared.FieldName.{FieldName}
 use Rattle.meaning.specs.declared.FileOutcome.{FileOutcome}
 use Rattle.meaning.specs.declared.FileRating.{FileRating}
 use Rattle.meaning.specs.declared.RecordOutcome.{RecordOutcome}
 use Rattle.meaning.specs.Search.{holdsForAll, holdsForSome, isNone}
+use Rattle.meaning.specs.Field.{Field}
 use Rattle.meaning.specs.Result.{Result, Rated, refused, answered, mapResult, figuresOf, answerAfter}
 use Rattle.meaning.specs.Result.{workAfter}
-use Rattle.meaning.specs.Free.{FreeFigures}
+use Rattle.meaning.specs.FieldNames.{inField}
+use Rattle.meaning.specs.Period.{periodTable}
+use Rattle.meaning.specs.Portion.{setTable}
+use Rattle.meaning.specs.Free.{FreeFigures, freeTable}
 use Rattle.meaning.specs.Route.{RouteRecord, Mode, periodMode, setMode, freeMode, modeOf, byteOf, bodies}
-use Rattle.meaning.specs.Route.{lookUp, records, modeUnsuited, readRecord, endRecord, boxOf}
+use Rattle.meaning.specs.Route.{lookUp, records, readRecord, endRecord, boxOf}
 use Rattle.meaning.specs.File.{fileFactor, termsOf, Label, powers, unique, several, FileFigures, rateMode}
-use Rattle.meaning.specs.File.{rateFile}
+use Rattle.meaning.specs.File.{fieldIn, rateFile}
 use Rattle.meaning.specs.Answers.{toldFile, fileFiguresTold, labelTold, toldRecord, FileTold, filePadded}
 use Rattle.meaning.specs.Answers.{withPowers, withOne, withSome}
 use Rattle.meaning.specs.Calls.{FileCall, bodyAfter}
 use Rattle.meaning.specs.Print.{printed}
 use Rattle.meaning.proofs.Determined.{refusals, refusalOf, file-call-determined, record-call-determined}
 use Rattle.bridge.proofs.Basics.Searches.{map-answered, map-refused, never-answered, refused-same}
+use Rattle.bridge.proofs.Basics.Interpretation.{IsField}
 use Rattle.bridge.proofs.Files.Records.{records-suited, records-number}
 use Rattle.bridge.proofs.Files.FileRatings.{known-mode, accepted-file, refused-file, file-size, period-map}
 use Rattle.bridge.proofs.Files.FileRatings.{set-map}
 use Rattle.bridge.proofs.Files.FileRatings.{free-map, pairs-nonempty}
 use Rattle.theorems.specs.Answering.{Answered, OneOf, Tells, modeNumbers, readerNumbers, fileNumbers}
 use Rattle.theorems.specs.Answering.{fileDegree, FileAnswers, RecordAnswers, ProgramAnswers}
-use Rattle.theorems.specs.Answering.{periodNumbers, setNumbers, freeNumbers, Decided, readerConditions}
+use Rattle.theorems.specs.Answering.{Decided, readerConditions}
 use Rattle.theorems.specs.Files.{RatedBy, freeTold}
-use Rattle.theorems.proofs.Telling.{map-tells, Listed, meets, Sized, lent-after, rating-answers}
-use Rattle.theorems.proofs.Telling.{Within, within}
-use Rattle.theorems.proofs.Answering.{period-tells, set-tells, free-tells, period-lent, set-lent}
-use Rattle.theorems.proofs.Answering.{free-lent}
+use Rattle.theorems.proofs.Telling.{map-tells, Keeping, keeping, isListed, Listed, listed, meets}
+use Rattle.theorems.proofs.Telling.{Sized, lent-after, rating-answers}
+use Rattle.theorems.proofs.Names.{name-tells, name-lent}
+use Rattle.theorems.proofs.Answering.{period-listed, period-keeping, period-tells, period-lent}
+use Rattle.theorems.proofs.Answering.{set-listed, set-keeping, set-tells, set-lent}
+use Rattle.theorems.proofs.Answering.{free-listed, free-keeping, free-tells, free-lent}
 use Rattle.theorems.proofs.Deciding.{answered-decided, refused-decided, map-decided}
 use Rattle.theorems.proofs.FileDeciding.{unknown-unsuited, records-decided, file-decided}
 use Rattle.theorems.proofs.Files.{file-promise}
@@ -90,8 +98,8 @@ read-decided file n = elim (records-tells file) [
 ]
 
 reader-listed : Listed readerNumbers
-unfolding Listed refusalOf refusals lookUp holdsForAll isNone
-reader-listed = tt
+unfolding isListed refusalOf refusals lookUp holdsForAll isNone
+reader-listed = listed _ tt
 
 pub record-answers : RecordAnswers
 unfolding toldRecord
@@ -112,29 +120,33 @@ record-answers file n =
     }
 
 -- ROUTE FILES
+abbrev modeRating : List RouteRecord → ℕ → ℕ → Mode → Field → Result (Rated FileFigures)
+modeRating rs answer work m F = rateMode m F (map fileFactor (bodies 4 rs)) (termsOf rs) answer work
+
+abbrev modeResult : List RouteRecord → ℕ → ℕ → Mode → Result (Rated FileFigures)
+modeResult rs answer work m = inField (fieldIn rs) (modeRating rs answer work m)
+
 mode-tells :
     (rs : List RouteRecord) (answer work : ℕ) (m : Mode)
-    → Tells (modeNumbers m)
-    (rateMode m (byteOf 2 rs) (map fileFactor (bodies 4 rs)) (termsOf rs) answer work)
-unfolding rateMode
+    → Tells (modeNumbers m (fieldIn rs)) (modeResult rs answer work m)
+unfolding rateMode periodTable setTable freeTable
 mode-tells rs answer work periodMode =
-    map-tells _ _ _ (period-map _)
-    (period-tells (byteOf 2 rs) _ _ _ (termsOf rs) answer work)
+    name-tells (fieldIn rs) (modeRating rs answer work periodMode) _
+    (λ _. map-tells _ _ _ (period-map _) (period-tells _ _ _ _ (termsOf rs) answer work))
 mode-tells rs answer work setMode =
+    name-tells (fieldIn rs) (modeRating rs answer work setMode) _
+    (λ I.
     map-tells _ _ _ (set-map (length (termsOf rs)) _)
-    (set-tells (byteOf 2 rs) _ _ _ (termsOf rs) answer work
-    (λ _. pairs-nonempty (map fileFactor (bodies 4 rs))))
+    (set-tells I _ _ _ (termsOf rs) answer work (λ _. pairs-nonempty (map fileFactor (bodies 4 rs)))))
 mode-tells rs answer work freeMode =
-    map-tells _ _ _ (free-map (length (termsOf rs)) _)
-    (free-tells (byteOf 2 rs) (termsOf rs) answer work)
+    name-tells (fieldIn rs) (modeRating rs answer work freeMode) _
+    (λ I. map-tells _ _ _ (free-map (length (termsOf rs)) _) (free-tells I (termsOf rs) answer work))
 
 -- a file is refused by its records, or rated by its mode
 by-file :
     (file : List ℕ) (answer work : ℕ) (B : List ℕ → Result (Rated FileFigures) → Type 0)
     → ((n : ℕ) → OneOf n readerNumbers → B readerNumbers (refused n))
-    → ((rs : List RouteRecord) (m : Mode)
-    → B (modeNumbers m)
-    (rateMode m (byteOf 2 rs) (map fileFactor (bodies 4 rs)) (termsOf rs) answer work))
+    → ((rs : List RouteRecord) (m : Mode) → B (modeNumbers m (fieldIn rs)) (modeResult rs answer work m))
     → B (fileNumbers (records file)) (rateFile file answer work)
 by-file file answer work B early way = go (records file) refl
   where
@@ -151,10 +163,10 @@ by-file file answer work B early way = go (records file) refl
         by :
             (o : Option Mode)
             → modeOf (byteOf 3 rs) ≡ o
-            → B (elim o [ none ↦ [] | some m ↦ modeNumbers m ]) (rateFile file answer work)
+            → B (elim o [ none ↦ [] | some m ↦ modeNumbers m (fieldIn rs) ]) (rateFile file answer work)
         by none q = absurd (true≢false (sym (unknown-unsuited rs q) ∙ records-suited file e))
         by (some m) q =
-            subst (B (modeNumbers m))
+            subst (B (modeNumbers m (fieldIn rs)))
             (sym (accepted-file file answer work e ∙ known-mode rs answer work q))
             (way rs m)
 
@@ -175,18 +187,18 @@ moved g x y e (inl (b, q)) = let (a, z, _) = map-answered g x (sym e ∙ q) in i
 moved g x y e (inr q) = inr (map-refused g x (sym e ∙ q))
 
 mode-lent :
-    (rs : List RouteRecord) (answer work : ℕ) (m : Mode)
-    → let x = rateMode m (byteOf 2 rs) (map fileFactor (bodies 4 rs)) (termsOf rs) answer work in
+    (rs : List RouteRecord) (answer work : ℕ) (m : Mode) {F : Field}
+    → IsField F
+    → let x = modeRating rs answer work m F in
     Answered x ⊎ (x ≡ refused 17)
     → (4097 ≤ answer) × (8192 ≤ work)
 unfolding rateMode
-mode-lent rs answer work periodMode h =
-    period-lent (byteOf 2 rs) _ _ _ (termsOf rs) answer work
-    (moved _ _ _ (period-map _) h)
-mode-lent rs answer work setMode h =
-    set-lent (byteOf 2 rs) _ _ _ (termsOf rs) answer work (moved _ _ _ (set-map (length (termsOf rs)) _) h)
-mode-lent rs answer work freeMode h =
-    free-lent (byteOf 2 rs) (termsOf rs) answer work (moved _ _ _ (free-map (length (termsOf rs)) _) h)
+mode-lent rs answer work periodMode {F} I h =
+    period-lent F _ _ _ (termsOf rs) answer work (moved _ _ _ (period-map _) h)
+mode-lent rs answer work setMode I h =
+    set-lent I _ _ _ (termsOf rs) answer work (moved _ _ _ (set-map (length (termsOf rs)) _) h)
+mode-lent rs answer work freeMode I h =
+    free-lent I (termsOf rs) answer work (moved _ _ _ (free-map (length (termsOf rs)) _) h)
 
 file-lent :
     (file : List ℕ) (answer work : ℕ)
@@ -201,7 +213,7 @@ file-lent file answer work =
       | inl (a, e) ↦ never-answered e
       | inr e ↦ subst (λ k. OneOf k readerNumbers) (refused-same e) h
     ]))
-    (λ rs m. mode-lent rs answer work m)
+    (λ rs m. name-lent (fieldIn rs) (modeRating rs answer work m) (λ I. mode-lent rs answer work m I))
 
 label-degree : (l : Label) (d m : ℕ) → fileDegree (labelTold l d m) ≡ d
 unfolding labelTold
@@ -209,23 +221,22 @@ label-degree (powers rs) d m = refl
 label-degree unique d m = refl
 label-degree several d m = refl
 
-mode-listed : (m : Mode) → Listed (modeNumbers m)
-unfolding Listed refusalOf refusals lookUp holdsForAll isNone
-mode-listed periodMode = tt
-mode-listed setMode = tt
-mode-listed freeMode = tt
+mode-listed : (m : Mode) (name : FieldName) → Listed (modeNumbers m name)
+mode-listed periodMode = period-listed
+mode-listed setMode = set-listed
+mode-listed freeMode = free-listed
 
 none-listed : Listed []
-unfolding Listed holdsForAll
-none-listed = tt
+unfolding holdsForSome
+none-listed n h = absurd h
 
 numbers-listed : (x : Result (List RouteRecord)) → Listed (fileNumbers x)
 numbers-listed (refused n) = reader-listed
 numbers-listed (answered rs) = go (modeOf (byteOf 3 rs))
   where
-    go : (o : Option Mode) → Listed (elim o [ none ↦ [] | some m ↦ modeNumbers m ])
+    go : (o : Option Mode) → Listed (elim o [ none ↦ [] | some m ↦ modeNumbers m (fieldIn rs) ])
     go none = none-listed
-    go (some m) = mode-listed m
+    go (some m) = mode-listed m (fieldIn rs)
 
 outcomeOf : FileTold → FileOutcome
 outcomeOf (withPowers d m n) = FileOutcome.Powers d m n
@@ -305,21 +316,20 @@ module _ (file answer work : List ℕ) where
         lent = file-lent file (length answer) (length work);
       }
 
--- the numbers of a file are 1 to 17
-mode-within : (m : Mode) → Within (modeNumbers m)
-unfolding holdsForAll
-mode-within periodMode = within periodNumbers tt
-mode-within setMode = within setNumbers tt
-mode-within freeMode = within freeNumbers tt
+-- none of the numbers of a file is 0, and each but 17 leaves the work bytes as they were
+mode-keeping : (m : Mode) (name : FieldName) → Keeping (modeNumbers m name)
+mode-keeping periodMode = period-keeping
+mode-keeping setMode = set-keeping
+mode-keeping freeMode = free-keeping
 
-pub file-within : (x : Result (List RouteRecord)) → Within (fileNumbers x)
+pub file-keeping : (x : Result (List RouteRecord)) → Keeping (fileNumbers x)
 unfolding holdsForAll holdsForSome
-file-within (refused k) = within readerNumbers tt
-file-within (answered rs) = go (modeOf (byteOf 3 rs))
+file-keeping (refused k) = keeping readerNumbers tt
+file-keeping (answered rs) = go (modeOf (byteOf 3 rs))
   where
-    go : (o : Option Mode) → Within (elim o [ none ↦ [] | some m ↦ modeNumbers m ])
+    go : (o : Option Mode) → Keeping (elim o [ none ↦ [] | some m ↦ modeNumbers m (fieldIn rs) ])
     go none n h = absurd h
-    go (some m) n h = mode-within m n h
+    go (some m) n h = mode-keeping m (fieldIn rs) n h
 
 pub file-answers : FileAnswers
 file-answers file answer work =
@@ -328,7 +338,7 @@ file-answers file answer work =
           λ r answer′ work′ c.
           rating-answers _ _ fileDegree fileFiguresTold (result file answer work)
           (toldFile (r .outcome)) answer work answer′ work′ (c .rating)
-          (file-within (records file))
+          (file-keeping (records file))
           (file-tells file (length answer) (length work))
           (file-decided file (length answer) (length work)) (file-sized file answer work)
           (c .lent);

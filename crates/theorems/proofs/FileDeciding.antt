@@ -17,29 +17,29 @@ use lib.ListN.{length, getD, drop, length-drop, length-map}
 use lib.Dec.{ltb}
 use borrow.Author.Tests.{ltb-true, ltb-false, lt-ltb, le-ltb}
 use Rattle.meaning.specs.Search.{holdsForSome}
+use Rattle.meaning.specs.Field.{Field}
 use Rattle.meaning.specs.Result.{Result, refused, answered}
-use Rattle.meaning.specs.Conditions.{notPrime, factorDegreeOutOfRange, notMonic, isReducible}
+use Rattle.meaning.specs.Conditions.{factorDegreeOutOfRange, notMonic, isReducible}
 use Rattle.meaning.specs.Route.{RouteRecord, Stage, atStart, afterBox, afterField, inFactors, inTerms}
 use Rattle.meaning.specs.Route.{afterEnd, lookUp, bodyLengths, admitted, stopped, before, walk, suited}
 use Rattle.meaning.specs.Route.{modeUnsuited, records, Mode, periodMode, setMode, freeMode, modeOf, byteOf}
 use Rattle.meaning.specs.Route.{bodies}
 use Rattle.meaning.specs.File.{WrittenFactor, fileFactor, polynomialOf, fileDegreeOutOfRange}
-use Rattle.meaning.specs.File.{fileCoefficientOutOfRange, termsOf, rateMode, rateFile}
+use Rattle.meaning.specs.File.{fileCoefficientOutOfRange, termsOf, rateMode, fieldIn, rateFile}
 use Rattle.bridge.proofs.Basics.Searches.{never-answered, refused-same, answered-same, true-T, T-true}
 use Rattle.bridge.proofs.Files.Records.{walk-skip, walk-unknown, walk-cut, walk-misplaced, walk-good}
 use Rattle.bridge.proofs.Basics.Searches.{none-at}
-use Rattle.bridge.proofs.Basics.Interpretation.{inRange-isField}
-use Rattle.bridge.proofs.Ways.Accepted.{prime-accepted}
+use Rattle.bridge.proofs.Basics.Interpretation.{IsField}
 use Rattle.bridge.proofs.Files.Records.{records-long, records-short, records-suited, records-whole}
 use Rattle.bridge.proofs.Files.WrittenFactors.{all-full, polynomials-ten, polynomials-eleven}
 use Rattle.bridge.proofs.Files.FileRatings.{known-mode, accepted-file, refused-file, exactly-one, period-map}
 use Rattle.bridge.proofs.Files.FileRatings.{set-map, free-map, pairs-nonempty}
-use Rattle.theorems.specs.Ratings.{GF}
 use Rattle.theorems.specs.Answering.{Decided, Reached, front, onward, UnknownKind, modeConditions}
 use Rattle.theorems.specs.Answering.{BodyCut, EndMissing, OutOfPlace, readerConditions}
-use Rattle.theorems.specs.Answering.{laterConditions, fileConditions}
+use Rattle.theorems.specs.Answering.{underName, laterConditions, fileConditions}
 use Rattle.theorems.proofs.Deciding.{answered-decided, refused-decided, map-decided, first-earlier}
 use Rattle.theorems.proofs.Deciding.{append-decided}
+use Rattle.theorems.proofs.Names.{name-decided}
 use Rattle.theorems.proofs.Ways.{OneFactor, one-factor-of}
 use Rattle.theorems.proofs.Answering.{period-decides, set-decides, free-decides}
 
@@ -283,45 +283,43 @@ module _ (file : List ℕ) where
   ]
 
 -- THE MODE
-module _ (file : List ℕ) (rs : List RouteRecord) (its : records file ≡ answered rs) (answer work : ℕ) where
-  abbrev p : ℕ
-  p = byteOf 2 rs
+module _ (file : List ℕ) (rs : List RouteRecord) (its : records file ≡ answered rs) {F : Field}
+    (I : IsField F) (answer work : ℕ)
+  where
+    abbrev fs : List WrittenFactor
+    fs = map fileFactor (bodies 4 rs)
 
-  abbrev fs : List WrittenFactor
-  fs = map fileFactor (bodies 4 rs)
+    abbrev ten : Bool
+    ten = holdsForSome (fileDegreeOutOfRange F) fs
 
-  abbrev ten : Bool
-  ten = holdsForSome (fileDegreeOutOfRange (GF p)) fs
+    abbrev eleven : Bool
+    eleven = holdsForSome (fileCoefficientOutOfRange F) fs
 
-  abbrev eleven : Bool
-  eleven = holdsForSome (fileCoefficientOutOfRange (GF p)) fs
+    -- the one factor of mode 1
+    file-factor : modeOf (byteOf 3 rs) ≡ some periodMode → ten ≡ false → eleven ≡ false
+        → isReducible F (getD (map polynomialOf fs) 0 []) ≡ false
+        → OneFactor F (getD (map polynomialOf fs) 0 [])
+    file-factor mode none-ten none-eleven twelve =
+        let one = exactly-one rs mode (records-suited file its) in
+        let low : 0 < length (map polynomialOf fs) =
+        omega (arith, one, length-map (bodies 4 rs) fileFactor, length-map fs polynomialOf) in
+        one-factor-of I (getD (map polynomialOf fs) 0 [])
+        (none-at (factorDegreeOutOfRange F) [] (map polynomialOf fs) 0
+        (polynomials-ten F fs (all-full rs (records-whole file its .1)) none-ten) low)
+        (none-at (notMonic F) [] (map polynomialOf fs) 0 (polynomials-eleven F I fs none-eleven) low)
+        twelve
 
-  -- the one factor of mode 1
-  file-factor : modeOf (byteOf 3 rs) ≡ some periodMode → notPrime p ≡ false → ten ≡ false → eleven ≡ false
-      → isReducible p (getD (map polynomialOf fs) 0 []) ≡ false
-      → OneFactor p (getD (map polynomialOf fs) 0 [])
-  file-factor mode six none-ten none-eleven twelve =
-      let I = inRange-isField p (prime-accepted p six) in
-      let one = exactly-one rs mode (records-suited file its) in
-      let low : 0 < length (map polynomialOf fs) =
-      omega (arith, one, length-map (bodies 4 rs) fileFactor, length-map fs polynomialOf) in
-      one-factor-of p (getD (map polynomialOf fs) 0 []) six
-      (none-at (factorDegreeOutOfRange (GF p)) [] (map polynomialOf fs) 0
-      (polynomials-ten (GF p) fs (all-full rs (records-whole file its .1)) none-ten) low)
-      (none-at (notMonic (GF p)) [] (map polynomialOf fs) 0 (polynomials-eleven (GF p) I fs none-eleven) low)
-      twelve
-
-  mode-decided : (m : Mode) → modeOf (byteOf 3 rs) ≡ some m
-      → Decided (modeConditions m p fs (termsOf rs) answer work) (rateMode m p fs (termsOf rs) answer work)
-  unfolding rateMode
-  mode-decided periodMode mode =
-      map-decided _ _ _ (period-map _)
-      (period-decides p ten eleven _ (termsOf rs) answer work (file-factor mode))
-  mode-decided setMode mode =
-      map-decided _ _ _ (set-map (length (termsOf rs)) _)
-      (set-decides p ten eleven _ (termsOf rs) answer work (λ _. pairs-nonempty fs))
-  mode-decided freeMode mode =
-      map-decided _ _ _ (free-map (length (termsOf rs)) _) (free-decides p (termsOf rs) answer work)
+    mode-decided : (m : Mode) → modeOf (byteOf 3 rs) ≡ some m
+        → Decided (modeConditions m fs (termsOf rs) answer work F) (rateMode m F fs (termsOf rs) answer work)
+    unfolding rateMode
+    mode-decided periodMode mode =
+        map-decided _ _ _ (period-map _)
+        (period-decides F ten eleven _ (termsOf rs) answer work (file-factor mode))
+    mode-decided setMode mode =
+        map-decided _ _ _ (set-map (length (termsOf rs)) _)
+        (set-decides I ten eleven _ (termsOf rs) answer work (λ _. pairs-nonempty fs))
+    mode-decided freeMode mode =
+        map-decided _ _ _ (free-map (length (termsOf rs)) _) (free-decides I (termsOf rs) answer work)
 
 -- THE FILE
 pub unknown-unsuited : (rs : List RouteRecord) → modeOf (byteOf 3 rs) ≡ none → modeUnsuited rs ≡ true
@@ -344,16 +342,14 @@ file-decided file answer work = by-records (records file) refl
             (readerConditions file
             ++ elim o [
               | none ↦ []
-              | some m ↦ modeConditions m (byteOf 2 rs) (map fileFactor (bodies 4 rs))
-                  (termsOf rs) answer work
+              | some m ↦
+                  underName (fieldIn rs)
+                  (modeConditions m (map fileFactor (bodies 4 rs)) (termsOf rs) answer work)
             ])
             (rateFile file answer work)
         by-mode none q = absurd (true≢false (sym (unknown-unsuited rs q) ∙ records-suited file e))
         by-mode (some m) q =
             append-decided (readerConditions file) _ (rateFile file answer work)
             (records-decided file .answers .0 (rs, e))
-            (subst
-            (Decided
-            (modeConditions m (byteOf 2 rs) (map fileFactor (bodies 4 rs)) (termsOf rs) answer work))
-            (sym (accepted-file file answer work e ∙ known-mode rs answer work q))
-            (mode-decided file rs e answer work m q))
+            (subst (Decided _) (sym (accepted-file file answer work e ∙ known-mode rs answer work q))
+            (name-decided (fieldIn rs) _ _ (λ I. mode-decided file rs e I answer work m q)))

@@ -3,6 +3,7 @@
 -- and the polynomial is x² + 1, which is neither the factor nor its upper power. What is computed of it
 -- stands in proofs/Stretches.antt of crate meaning.
 --
+--   two        == the name of GF(2)
 --   instance   == the theorem for this sequence; `polynomial`: its polynomial
 --   ones-instance, ones-polynomial == the same for 1, 1, 1, … with the upper power 2: the polynomial is x + 1
 --   short-instance, short-polynomial == and for 1, 0, 1, 0, … with the upper power 2
@@ -14,8 +15,10 @@ use mathlib.Core.Path.{_≡_, sym, _∙_, ap}
 use mathlib.Core.List.{[], _∷_}
 use lib.ListN.{take}
 use lib.Dec.{lit≤}
+use Rattle.meaning.specs.declared.FieldName.{FieldName}
 use Rattle.meaning.specs.Polynomial.{degree}
 use Rattle.meaning.specs.Conditions.{named, totalDegree}
+use Rattle.meaning.specs.FieldNames.{namedField}
 use Rattle.meaning.specs.Answers.{SetTold, toldSet}
 use Rattle.meaning.specs.Result.{Result, answered, refused}
 use Rattle.meaning.proofs.Stretches.{answer, work, lent, after-x²+1, after-x+1, factors, accepted-2}
@@ -30,9 +33,15 @@ unfoldable pub degree-in : Result SetTold → ℕ
 degree-in (refused n) = 9
 degree-in (answered a) = a .degree
 
-pub instance : CutAnywhere 2 factors (3 ∷ []) alternating
+-- the name of GF(2)
+abbrev pub two : FieldName
+two = FieldName.Prime 2
+
+pub instance : CutAnywhere two factors (3 ∷ []) alternating
+unfolding namedField
 instance =
-    cut-anywhere 2 factors (3 ∷ []) alternating accepted-3 plain alternating-inField alternating-annihilated-3
+    cut-anywhere two factors (3 ∷ []) alternating accepted-3 plain alternating-inField
+    alternating-annihilated-3
 
 -- so the polynomial of the theorem is the one in the answer bytes
 pub polynomial : instance .g ≡ 1 ∷ 0 ∷ 1 ∷ []
@@ -42,8 +51,9 @@ polynomial =
     sym (ap (λ (n : ℕ). take (suc n) after-x²+1) (ap degree-in (x .1)) ∙ x .2 .coefficients)
 
 -- With the upper power 2
-pub ones-instance : CutAnywhere 2 factors (2 ∷ []) ones
-ones-instance = cut-anywhere 2 factors (2 ∷ []) ones accepted-2 plain ones-inField ones-annihilated
+pub ones-instance : CutAnywhere two factors (2 ∷ []) ones
+unfolding namedField
+ones-instance = cut-anywhere two factors (2 ∷ []) ones accepted-2 plain ones-inField ones-annihilated
 
 pub ones-polynomial : ones-instance .g ≡ 1 ∷ 1 ∷ []
 unfolding totalDegree named degree toldSet degree-in
@@ -51,9 +61,11 @@ ones-polynomial =
     let x = ones-instance .set-way 0 2 (lit≤ tt) (lit≤ tt) answer work lent _ _ _ ones-set in
     sym (ap (λ (n : ℕ). take (suc n) after-x+1) (ap degree-in (x .1)) ∙ x .2 .coefficients)
 
-pub short-instance : CutAnywhere 2 factors (2 ∷ []) alternating
+pub short-instance : CutAnywhere two factors (2 ∷ []) alternating
+unfolding namedField
 short-instance =
-    cut-anywhere 2 factors (2 ∷ []) alternating accepted-2 plain alternating-inField alternating-annihilated-2
+    cut-anywhere two factors (2 ∷ []) alternating accepted-2 plain alternating-inField
+    alternating-annihilated-2
 
 pub short-polynomial : short-instance .g ≡ 1 ∷ 0 ∷ 1 ∷ []
 unfolding totalDegree named degree toldSet degree-in

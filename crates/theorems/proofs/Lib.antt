@@ -1,9 +1,10 @@
 pub mod Words
 pub mod Conditions
+pub mod Deciding
+pub mod Telling
+pub mod Names
 pub mod Ways
 pub mod CutAnywhere
-pub mod Telling
-pub mod Deciding
 pub mod Answering
 pub mod Files
 pub mod FileDeciding

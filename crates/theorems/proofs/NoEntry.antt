@@ -37,9 +37,8 @@ use Rattle.bridge.proofs.Binary.Bits.{binary-isField}
 use Rattle.bridge.proofs.Binary.Catalogue.{Listed, entry-monic, entry-positive, entry-number}
 use Rattle.bridge.proofs.Sequences.KnownActions.{allZero}
 use Rattle.bridge.proofs.Ways.Periods.{period-whole, period-size}
-use Rattle.theorems.specs.Ratings.{GF}
 use Rattle.theorems.specs.Answering.{FirstThatHolds}
-use Rattle.theorems.specs.Catalogue.{Entry, searchConditions}
+use Rattle.theorems.specs.Catalogue.{GF2, Entry, searchConditions}
 use Rattle.theorems.proofs.Catalogue.{entry-listed, search-answers}
 
 abbrev pub period : List ℕ
@@ -48,23 +47,23 @@ period = 0 ∷ 0 ∷ 1 ∷ []
 -- the polynomial of n is irreducible and annihilates the period
 fits : ℕ → Bool
 fits n =
-    irreducible (GF 2) (entryPolynomial n)
-    && annihilatesPeriod (GF 2) (power (GF 2) (entryPolynomial n) (GF 2 .characteristic ^ 0)) period
+    irreducible GF2 (entryPolynomial n)
+    && annihilatesPeriod GF2 (power GF2 (entryPolynomial n) (GF2 .characteristic ^ 0)) period
 
 none-fits : T (holdsForAll (λ n. not (fits n)) (range 2 14))
 unfolding computed fits
 none-fits = tt
 
 -- what is computed of the period
-three-odd : length period ≡ GF 2 .characteristic ^ 0 * 3
+three-odd : length period ≡ GF2 .characteristic ^ 0 * 3
 unfolding computed
 three-odd = refl
 
-not-divided : 3 % GF 2 .characteristic ≢ 0
+not-divided : 3 % GF2 .characteristic ≢ 0
 unfolding computed
 not-divided e = omega arith
 
-in-field : T (areElements (GF 2) period)
+in-field : T (areElements GF2 period)
 unfolding computed
 in-field = tt
 
@@ -74,17 +73,17 @@ unfolding computed allZero
 not-zero h = h
 
 module _ {n : ℕ} (x : Listed n) (e : ℕ)
-    (z : AnnihilatesEndless (GF 2) (power (GF 2) (entryPolynomial n) e) (periodic period)) where
+    (z : AnnihilatesEndless GF2 (power GF2 (entryPolynomial n) e) (periodic period)) where
   abbrev f : Polynomial
   f = entryPolynomial n
 
-  monic : T (isMonicOver (GF 2) f)
+  monic : T (isMonicOver GF2 f)
   monic = entry-monic n (x .atLeast) (x .less)
 
   positive : 1 ≤ degree f
   positive = entry-positive n (x .atLeast) (x .less)
 
-  itself : T (annihilatesPeriod (GF 2) (power (GF 2) f (GF 2 .characteristic ^ 0)) period)
+  itself : T (annihilatesPeriod GF2 (power GF2 f (GF2 .characteristic ^ 0)) period)
   itself =
       period-whole binary-isField f monic positive (x .irreducibility) period (omega arith) 0 3 three-odd
       not-divided e z
@@ -92,16 +91,16 @@ module _ {n : ℕ} (x : Listed n) (e : ℕ)
   small : degree f ≤ 3
   unfolding computed
   small =
-      let l : GF 2 .characteristic ^ 0 * degree f ≤ 3 =
+      let l : GF2 .characteristic ^ 0 * degree f ≤ 3 =
       period-size binary-isField f monic positive (x .irreducibility) period (omega arith) 0 3 three-odd
       not-divided in-field not-zero itself in
       omega (arith, l)
 
   below-16 : n < 16
   below-16 =
-      let size : length f ≡ suc (degree f) = degree-length f (monic-nonempty (GF 2) f monic) in
+      let size : length f ≡ suc (degree f) = degree-length f (monic-nonempty GF2 f monic) in
       let digits : Below 2 f =
-      subst (λ q. Below q f) (prime-size 2) (elements-below (GF 2) f (monic-elements (GF 2) f monic)) in
+      subst (λ q. Below q f) (prime-size 2) (elements-below GF2 f (monic-elements GF2 f monic)) in
       let few : length f ≤ 4 = omega (arith, size, small) in
       subst (λ m. m < 16) (entry-number n (x .atLeast) (x .less))
       (le-trans (value-below digits) (pow-le-pow-right {n = 2} (omega arith) few))
@@ -111,9 +110,9 @@ module _ {n : ℕ} (x : Listed n) (e : ℕ)
   contradiction =
       T-not (fits n)
       (all-range (λ n. not (fits n)) 2 14 none-fits n (x .atLeast) (omega (arith, below-16)))
-      (and-T (irreducible (GF 2) f) _ (x .irreducibility) itself)
+      (and-T (irreducible GF2 f) _ (x .irreducibility) itself)
 
-pub no-entry : (n : ℕ) → Entry n → NoPower (GF 2) (entryPolynomial n) period
+pub no-entry : (n : ℕ) → Entry n → NoPower GF2 (entryPolynomial n) period
 no-entry n y e z = contradiction (entry-listed y) e z
 
 -- 7, 8 and 16 do not hold
@@ -121,7 +120,7 @@ counted : T (countOutOfRange (length period)) → ⊥
 unfolding computed
 counted h = h
 
-all-elements : T (termOutOfField (GF 2) period) → ⊥
+all-elements : T (termOutOfField GF2 period) → ⊥
 unfolding computed
 all-elements h = h
 

@@ -5,7 +5,7 @@ use mathlib.Core.Path.{_≡_, refl, sym, ap, subst, _∙_}
 use mathlib.Core.Logic.{inl, inr}
 use mathlib.Core.List.{List, _++_}
 use lib.ListN.{length, take, drop}
-use Rattle.meaning.specs.Search.{holdsForSome}
+use Rattle.meaning.specs.declared.FieldName.{FieldName}
 use Rattle.meaning.specs.Result.{Result, refused, answered, figuresOf, mapResult}
 use Rattle.meaning.specs.Field.{primeInRange}
 use Rattle.meaning.specs.Period.{ratePeriod}
@@ -23,9 +23,10 @@ use Rattle.theorems.specs.Answering.{periodNumbers, setNumbers, freeNumb
 use Rattle.theorems.specs.Answering.{continueNumbers, irreducibleNumbers, Answered, OneOf, Tells}
 use Rattle.theorems.specs.OtherLanguages.{StatusTold, PeriodExport, SetExport, FreeExport}
 use Rattle.theorems.specs.OtherLanguages.{ContinueExport, IrreducibleExport, ExportAnswers}
-use Rattle.theorems.proofs.Telling.{no-zero, lent-after}
+use Rattle.theorems.proofs.Telling.{keeping-zero, lent-after}
 use Rattle.theorems.proofs.Answering.{period-answers, set-answers, free-answers}
-use Rattle.theorems.proofs.Answering.{continue-answers, irreducible-answers}
+use Rattle.theorems.proofs.Answering.{continue-answers, irreducible-answers, period-keeping}
+use Rattle.theorems.proofs.Answering.{set-keeping, free-keeping, continue-keeping, irreducible-keeping}
 use Rattle.theorems.proofs.Ways.{period-promise, set-promise, free-promise}
 use Rattle.theorems.proofs.Words.{continue-promise, irreducible-promise}
 
@@ -57,11 +58,12 @@ number-map g f (answered a) n = refl
 
 -- THE PERIOD WAY
 pub period-export : PeriodExport
-unfolding holdsForSome
 period-export p f ts answer work power degree repeat status answer′ work′ power′ degree′ repeat′ x =
-    let answers = period-answers p f ts answer work in
+    let name = FieldName.Prime p in
+    let numbers = periodNumbers name in
+    let answers = period-answers name f ts answer work in
     let (r, _, _, c₀) = answers .some in
-    let c : PeriodCall p f ts answer work r answer′ work′ =
+    let c : PeriodCall name f ts answer work r answer′ work′ =
     record { rating = c₀ .rating; lent = x .lent } in
     let each = answers .each r answer′ work′ c in
     let figures =
@@ -70,11 +72,11 @@ period-export p f ts answer work power degree repeat status answer′ work′ po
     record {
       told = toldPower r;
       status-told =
-          status-told periodNumbers (toldPower r) status (no-zero periodNumbers tt) (each .tells)
+          status-told numbers (toldPower r) status (keeping-zero numbers (period-keeping name)) (each .tells)
           (figures .told);
       figures-told = figures;
       answers = each;
-      right = period-promise p f ts answer work r answer′ work′ c;
+      right = period-promise name f ts answer work r answer′ work′ c;
     }
 
 -- THE SET WAY
@@ -89,21 +91,24 @@ powers-left x powers powers′ h (a, e) =
     (subst (λ y. PowersAfter y powers powers′) e h)
 
 pub set-export : SetExport
-unfolding PowersAfter holdsForSome figuresOf setFiguresTold
+unfolding PowersAfter figuresOf setFiguresTold
 set-export p fs vs ts answer work powers degree repeat status answer′ work′ powers′ degree′ repeat′ x =
-    let result = figuresOf (rateSet p fs vs ts (length answer) (length work)) in
-    let answers = set-answers p fs vs ts answer work in
+    let name = FieldName.Prime p in
+    let numbers = setNumbers name in
+    let result = figuresOf (rateSet name fs vs ts (length answer) (length work)) in
+    let answers = set-answers name fs vs ts answer work in
     let (r, _, _, c₀) = answers .some in
-    let c : SetCall p fs vs ts answer work r answer′ work′ =
+    let c : SetCall name fs vs ts answer work r answer′ work′ =
     record { rating = c₀ .rating; powers = c₀ .powers; lent = x .lent } in
     let each = answers .each r answer′ work′ c in
     record {
       told = toldSet (r .outcome);
       eight = r .powers;
       status-told =
-          status-told setNumbers (toldSet (r .outcome)) status (no-zero setNumbers tt) (each .tells)
+          status-told numbers (toldSet (r .outcome)) status (keeping-zero numbers (set-keeping name))
+          (each .tells)
           (x .told
-          ∙ status-map (λ a. a .figures) (rateSet p fs vs ts (length answer) (length work))
+          ∙ status-map (λ a. a .figures) (rateSet name fs vs ts (length answer) (length work))
           ∙ status-map setFiguresTold result
           ∙ ap statusOf (sym (c₀ .rating)));
       degree-told =
@@ -125,67 +130,72 @@ set-export p fs vs ts answer work powers degree repeat status answer′ work′ 
           subst (λ y. PowersAfter y powers powers′)
           (map-refused setFiguresTold result (sym (c₀ .rating) ∙ e)) (x .powersLeft);
       answers = each;
-      right = set-promise p fs vs ts answer work r answer′ work′ c;
+      right = set-promise name fs vs ts answer work r answer′ work′ c;
     }
 
 -- THE FREE WAY
 pub free-export : FreeExport
-unfolding holdsForSome figuresOf
+unfolding figuresOf
 free-export p ts answer work degree unique status answer′ work′ degree′ unique′ x =
-    let answers = free-answers p ts answer work in
+    let name = FieldName.Prime p in
+    let numbers = freeNumbers name in
+    let answers = free-answers name ts answer work in
     let (r, _, _, c₀) = answers .some in
-    let c : FreeCall p ts answer work r answer′ work′ =
+    let c : FreeCall name ts answer work r answer′ work′ =
     record { rating = c₀ .rating; lent = x .lent } in
     let each = answers .each r answer′ work′ c in
     record {
       told = toldFree r;
       status-told =
-          status-told freeNumbers (toldFree r) status (no-zero freeNumbers tt) (each .tells)
+          status-told numbers (toldFree r) status (keeping-zero numbers (free-keeping name)) (each .tells)
           (x .told
-          ∙ status-map (λ a. a .figures) (rateFree p ts (length answer) (length work))
+          ∙ status-map (λ a. a .figures) (rateFree name ts (length answer) (length work))
           ∙ ap statusOf (sym (c₀ .rating)));
       degree-told = x .degreeAfter ∙ ap (λ y. numberAfter (λ a. a .degree) y degree) (sym (c₀ .rating));
       word-told = x .uniqueAfter ∙ ap (λ y. numberAfter wordOf y unique) (sym (c₀ .rating));
       answers = each;
-      right = free-promise p ts answer work r answer′ work′ c;
+      right = free-promise name ts answer work r answer′ work′ c;
     }
 
 -- THE CONTINUATION AND THE QUESTION
 pub continue-export : ContinueExport
-unfolding holdsForSome
 continue-export p g start buffer place status buffer′ x =
-    let answers = continue-answers p g start buffer place in
+    let name = FieldName.Prime p in
+    let numbers = continueNumbers name in
+    let answers = continue-answers name g start buffer place in
     let (r, _, c₀) = answers .some in
-    let c : ContinueCall p g start buffer place r buffer′ =
+    let c : ContinueCall name g start buffer place r buffer′ =
     record { filling = c₀ .filling; bufferBytes = x .lent } in
     let tells = answers .tells r buffer′ c in
     record {
       told = toldFilling r;
       status-told =
-          status-told continueNumbers (toldFilling r) status (no-zero continueNumbers tt) tells
+          status-told numbers (toldFilling r) status (keeping-zero numbers (continue-keeping name)) tells
           (x .told
-          ∙ status-map (λ _. tt) (continueSequence p g start place buffer)
+          ∙ status-map (λ _. tt) (continueSequence name g start place buffer)
           ∙ ap statusOf (sym (c₀ .filling)));
       answers = tells;
       decided = answers .decided r buffer′ c;
-      right = continue-promise p g start buffer place r buffer′ c;
+      right = continue-promise name g start buffer place r buffer′ c;
     }
 
 pub irreducible-export : IrreducibleExport
-unfolding holdsForSome
 irreducible-export p f n status n′ x =
-    let answers = irreducible-answers p f in
+    let name = FieldName.Prime p in
+    let numbers = irreducibleNumbers name in
+    let answers = irreducible-answers name f in
     let (r, c) = answers .some in
     let tells = answers .tells r c in
     record {
       told = toldIrreducible r;
       status-told =
-          status-told irreducibleNumbers (toldIrreducible r) status (no-zero irreducibleNumbers tt) tells
+          status-told numbers (toldIrreducible r) status (keeping-zero numbers (irreducible-keeping name))
+          tells
           (x .told ∙ ap statusOf (sym (c .answer)));
       yes-told = x .lent ∙ ap (λ y. yesAfter y n) (sym (c .answer));
       answers = tells;
       decided = answers .decided r c;
-      right = irreducible-promise p f r c;
+      right = irreducible-promise name f r c;
     }
 
 -- DEMAND 1: the contracts are equations
@@ -214,7 +224,7 @@ export-answers =
           _,
           record {
             figures = record { told = refl; powerAfter = refl; degreeAfter = refl; repeatAfter = refl };
-            lent = lent-after (ratePeriod p f ts (length answer) (length work)) answer work;
+            lent = lent-after (ratePeriod (FieldName.Prime p) f ts (length answer) (length work)) answer work;
           },
         );
         one = λ r s c d.
@@ -226,7 +236,7 @@ export-answers =
             λ i. (status i, answers i, works i, powers i, degrees i, repeats i);
       };
       set = λ p fs vs ts answer work powers degree repeat.
-          let result = rateSet p fs vs ts (length answer) (length work) in
+          let result = rateSet (FieldName.Prime p) fs vs ts (length answer) (length work) in
           record {
             some = (
               _,
@@ -255,7 +265,7 @@ export-answers =
             told = refl;
             degreeAfter = refl;
             uniqueAfter = refl;
-            lent = lent-after (rateFree p ts (length answer) (length work)) answer work;
+            lent = lent-after (rateFree (FieldName.Prime p) ts (length answer) (length work)) answer work;
           },
         );
         one = λ r s c d.

@@ -1,6 +1,5 @@
 -- All promises hold.
 -- Assumes nothing.
-use native.Mathlib.Omega.{arith}
 use Rattle.meaning.specs.Search.{holdsForSome}
 use Rattle.meaning.specs.Route.{records}
 use Rattle.theorems.specs.Answering.{periodNumbers, setNumbers, freeNumbers}
@@ -8,14 +7,15 @@ use Rattle.theorems.specs.Answering.{continueNumbers, irreducibleNumbers
 use Rattle.theorems.specs.Answering.{NeverZero}
 use Rattle.theorems.specs.Catalogue.{searchNumbers}
 use Rattle.theorems.specs.Promises.{Promises}
-use Rattle.theorems.proofs.Telling.{tells-zero, no-zero}
+use Rattle.theorems.proofs.Telling.{tells-zero, no-zero, keeping-zero}
 use Rattle.theorems.proofs.Answering.{period-answers, set-answers, free-answers}
 use Rattle.theorems.proofs.Answering.{continue-answers, irreducible-answers, prime-answers}
-use Rattle.theorems.proofs.Answering.{period-told, set-told, free-tells, continue-told}
-use Rattle.theorems.proofs.Answering.{irreducible-tells}
+use Rattle.theorems.proofs.Answering.{period-told, set-told, free-told, continue-told}
+use Rattle.theorems.proofs.Answering.{irreducible-told, period-keeping, set-keeping, free-keeping}
+use Rattle.theorems.proofs.Answering.{continue-keeping, irreducible-keeping}
 use Rattle.theorems.proofs.FileAnswers.{file-answers, record-answers, program-answers, file-tells}
-use Rattle.theorems.proofs.FileAnswers.{read-tells, file-within}
-use Rattle.theorems.proofs.Words.{prime-words, irreducible-words, prime-promise}
+use Rattle.theorems.proofs.FileAnswers.{read-tells, file-keeping}
+use Rattle.theorems.proofs.Words.{name-words, prime-words, irreducible-words, prime-promise}
 use Rattle.theorems.proofs.Conditions.{condition-words}
 use Rattle.theorems.proofs.Words.{irreducible-promise, continue-promise, multiple-promise}
 use Rattle.theorems.proofs.Words.{multiples-promise}
@@ -35,22 +35,29 @@ unfolding holdsForSome
 never-zero =
     record {
       period =
-          λ p f ts answer work.
-          tells-zero periodNumbers _ (no-zero periodNumbers tt) (period-told p f ts answer work);
+          λ name f ts answer work.
+          tells-zero (periodNumbers name) _ (keeping-zero (periodNumbers name) (period-keeping name))
+          (period-told name f ts answer work);
       set =
-          λ p fs vs ts answer work.
-          tells-zero setNumbers _ (no-zero setNumbers tt) (set-told p fs vs ts answer work);
+          λ name fs vs ts answer work.
+          tells-zero (setNumbers name) _ (keeping-zero (setNumbers name) (set-keeping name))
+          (set-told name fs vs ts answer work);
       free =
-          λ p ts answer work.
-          tells-zero freeNumbers _ (no-zero freeNumbers tt) (free-tells p ts answer work);
+          λ name ts answer work.
+          tells-zero (freeNumbers name) _ (keeping-zero (freeNumbers name) (free-keeping name))
+          (free-told name ts answer work);
       continuation =
-          λ p g start place buffer.
-          tells-zero continueNumbers _ (no-zero continueNumbers tt) (continue-told p g start buffer place);
+          λ name g start place buffer.
+          tells-zero (continueNumbers name) _ (keeping-zero (continueNumbers name) (continue-keeping name))
+          (continue-told name g start buffer place);
       irreducibility =
-          λ p f. tells-zero irreducibleNumbers _ (no-zero irreducibleNumbers tt) (irreducible-tells p f);
+          λ name f.
+          tells-zero (irreducibleNumbers name) _
+          (keeping-zero (irreducibleNumbers name) (irreducible-keeping name)) (irreducible-told name f);
       file =
           λ file answer work.
-          tells-zero (fileNumbers (records file)) _ (λ h. omega (arith, file-within (records file) 0 h .0))
+          tells-zero (fileNumbers (records file)) _
+          (keeping-zero (fileNumbers (records file)) (file-keeping (records file)))
           (file-tells file answer work);
       reader = λ file n. tells-zero readerNumbers _ (no-zero readerNumbers tt) (read-tells file n);
       search = λ ts work. tells-zero searchNumbers _ (no-zero searchNumbers tt) (search-tells ts work);
@@ -80,6 +87,7 @@ promises =
       primes = prime-promise;
       multiple = multiple-promise;
       multiples = multiples-promise;
+      name-words = name-words;
       prime-words = prime-words;
       irreducible-words = irreducible-words;
       condition-words = condition-words;

@@ -2,6 +2,8 @@
 -- such a result leaves in the lent bytes.
 --
 --   settle-tells     == a settled table tells so, where the value is not missing
+--   Keeping numbers  == none of the numbers is 0, and each but 17 leaves the work bytes as they were
+--   Listed numbers   == the numbers are numbers of refusals
 --   meets            == some answer tells it
 --   Sized …          == the polynomial of an answer has one coefficient more than the degree that is told,
 --                       and there is room for it; the work bytes have their 8,192
@@ -89,38 +91,44 @@ tells-zero numbers x z (inr (n, q, h)) e = z (subst (λ k. OneOf k numbers) (ref
 pub no-zero : (numbers : List ℕ) → T (not (holdsForSome (eqb 0) numbers)) → ¬ OneOf 0 numbers
 no-zero numbers h = T-not (holdsForSome (eqb 0) numbers) h
 
--- the numbers of a list are 1 to 17, by a test of the list
-abbrev pub Within : List ℕ → Type 0
-Within numbers = (n : ℕ) → OneOf n numbers → (1 ≤ n) × (n ≤ 17)
+abbrev pub Keeping : List ℕ → Type 0
+Keeping numbers = (n : ℕ) → OneOf n numbers → (1 ≤ n) × ((n ≡ 17 → ⊥) → clears n ≡ false)
 
-pub within : (numbers : List ℕ) → T (holdsForAll (λ k. leb 1 k && leb k 17) numbers) → Within numbers
-within numbers h n t =
+-- so it is of numbers from 1 to 17, by a test of the list
+pub keeping : (numbers : List ℕ) → T (holdsForAll (λ k. leb 1 k && leb k 17) numbers) → Keeping numbers
+keeping numbers h n t =
     let (k, i, z) = some-member (eqb n) numbers t in
     let (low, high) = T-and (leb 1 k) (leb k 17) (all-member (λ k. leb 1 k && leb k 17) numbers h k i) in
-    subst (λ j. (1 ≤ j) × (j ≤ 17)) (sym (eqb→eq n k z)) (leb→le 1 k low, leb→le k 17 high)
+    let (l, u) =
+    subst (λ j. (1 ≤ j) × (j ≤ 17)) (sym (eqb→eq n k z)) (leb→le 1 k low, leb→le k 17 high) in
+    (l, λ other. keeps-low n (omega arith))
+
+pub keeping-zero : (numbers : List ℕ) → Keeping numbers → ¬ OneOf 0 numbers
+keeping-zero numbers h t = absurd (omega (arith, h 0 t .0))
 
 -- SOME ANSWER TELLS IT
 
--- the numbers are numbers of refusals
-unfoldable pub Listed : List ℕ → Type 0
-Listed numbers = T (holdsForAll (λ n. elim (isNone (refusalOf n)) [ true ↦ false | false ↦ true ]) numbers)
+-- the number is that of a refusal
+unfoldable pub isListed : ℕ → Bool
+isListed n = not (isNone (refusalOf n))
 
-listed-refusal : (numbers : List ℕ) (n : ℕ) → Listed numbers → OneOf n numbers
-    → (x : Refusal) × (numberOf x ≡ n)
-unfolding Listed isNone
-listed-refusal numbers n h t =
-    let (k, m, z) = some-member (eqb n) numbers t in
-    let same : n ≡ k = eqb→eq n k z in
-    go k (refusalOf k) refl (all-member _ numbers h k m) same
+pub listed-refusal : (n : ℕ) → T (isListed n) → (x : Refusal) × (numberOf x ≡ n)
+unfolding isListed isNone
+listed-refusal n h = go (refusalOf n) refl h
   where
-    go :
-        (k : ℕ) (o : Option Refusal)
-        → refusalOf k ≡ o
-        → T (elim (isNone (refusalOf k)) [ true ↦ false | false ↦ true ])
-        → n ≡ k
-        → (x : Refusal) × (numberOf x ≡ n)
-    go k none e h same = absurd (rw e at h)
-    go k (some x) e h same = (x, refusal-found k e ∙ sym same)
+    go : (o : Option Refusal) → refusalOf n ≡ o → T (not (isNone o)) → (x : Refusal) × (numberOf x ≡ n)
+    go none e k = absurd k
+    go (some x) e k = (x, refusal-found n e)
+
+abbrev pub Listed : List ℕ → Type 0
+Listed numbers = (n : ℕ) → OneOf n numbers → (x : Refusal) × (numberOf x ≡ n)
+
+-- by a test of the list
+pub listed : (numbers : List ℕ) → T (holdsForAll isListed numbers) → Listed numbers
+listed numbers h n t =
+    let (k, m, z) = some-member (eqb n) numbers t in
+    let (x, e) = listed-refusal k (all-member isListed numbers h k m) in
+    (x, e ∙ sym (eqb→eq n k z))
 
 pub meets :
     {R A : Type 0} (tell : R → Result A) (make : A → R) (refuse : Refusal → R)
@@ -133,7 +141,7 @@ pub meets :
     → (r : R) × (tell r ≡ x)
 meets tell make refuse made turned numbers listed x (inl (a, e)) = (make a, made a ∙ sym e)
 meets tell make refuse made turned numbers listed x (inr (n, e, h)) =
-    let (z, q) = listed-refusal numbers n listed h in
+    let (z, q) = listed n h in
     (refuse z, turned z ∙ ap refused q ∙ sym e)
 
 -- THE LENT BYTES
@@ -146,9 +154,14 @@ pub lent-after : {A : Type 0} (x : Result (Rated A)) (answer work : List ℕ)
     → LentAfter x answer work (answerAfter x answer) (workAfter x work)
 lent-after x answer work = record { answerBytes = refl; workBytes = refl }
 
-pub work-untouched : (A : Type 0) (n : ℕ) (work : List ℕ) → n ≤ 16 → workAfter {A = A} (refused n) work ≡ work
+work-kept : (A : Type 0) (n : ℕ) (work : List ℕ)
+    → clears n ≡ false
+    → workAfter {A = A} (refused n) work ≡ work
 unfolding workAfter
-work-untouched A n work l = rw (keeps-low n l, workAfter)
+work-kept A n work e = rw (e, workAfter)
+
+pub work-untouched : (A : Type 0) (n : ℕ) (work : List ℕ) → n ≤ 16 → workAfter {A = A} (refused n) work ≡ work
+work-untouched A n work l = work-kept A n work (keeps-low n l)
 
 work-17 : (A : Type 0) (n : ℕ) (work : List ℕ) → n ≡ 17 → workAfter {A = A} (refused n) work ≡ cleared work
 unfolding workAfter clears clearing holdsForSome
@@ -224,14 +237,14 @@ pub rating-answers :
     {A B : Type 0} (numbers : List ℕ) (conditions : List Condition) (degreeIn : B → ℕ) (g : A → B)
     (result : Result (Rated A)) (told : Result B) (answer work answer′ work′ : List ℕ)
     → told ≡ mapResult g (figuresOf result)
-    → Within numbers
+    → Keeping numbers
     → Tells numbers result
     → Decided conditions result
     → Sized (λ a. degreeIn (g a)) result (length answer) (length work)
     → LentAfter result answer work answer′ work′
     → RatingAnswers numbers conditions degreeIn told answer work answer′ work′
 unfolding mapResult figuresOf answerAfter workAfter
-rating-answers {A} numbers conditions degreeIn g (refused n) told answer work answer′ work′ e low t d sized
+rating-answers {A} numbers conditions degreeIn g (refused n) told answer work answer′ work′ e kept t d sized
     lent =
     let named : OneOf n numbers = elim t [
       | inl (a, q) ↦ never-answered q
@@ -241,9 +254,9 @@ rating-answers {A} numbers conditions degreeIn g (refused n) told answer work an
     (refused-decided conditions e (d .refuses n .0 refl)) (lent .answerBytes)
     (λ s.
     (lent .workBytes ∙ work-17 (Rated A) n work s, sized .lent (inr (ap refused s)) .1))
-    (λ s. lent .workBytes ∙ work-untouched (Rated A) n work (omega (arith, low n named .1)))
+    (λ s. lent .workBytes ∙ work-kept (Rated A) n work (kept n named .1 s))
 rating-answers numbers conditions degreeIn g (answered b)
-    told answer work answer′ work′ e low t d sized lent =
+    told answer work answer′ work′ e kept t d sized lent =
     let cleared-work : work′ ≡ cleared work = lent .workBytes in
     let room = sized .lent (inl (b, refl)) in
     let size : length (b .polynomial) ≡ suc (degreeIn (g (b .figures))) = sized .polynomial b refl in

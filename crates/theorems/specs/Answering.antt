@@ -4,8 +4,11 @@
 -- alone decides. The signs are those of Promises.
 --
 --   Decided conditions told == so the conditions, each with its number, decide what is told
---   periodConditions, … == the conditions of the call, in their order
---   periodNumbers, … == the numbers by which paper 01 lets the call refuse
+--   underName name conditions == the conditions of a call that is given the name of a field: that of the
+--                       name, and then those in the field
+--   periodConditions F …, … == the conditions of the call in the field F, in their order
+--   periodNumbers name, … == the numbers by which paper 01 lets the call refuse: that of the name (6 of a
+--                       prime), and then those of the conditions in the field
 --   OneOf n numbers  == n is one of the numbers
 --   Tells numbers told == what is told is an answer, or a refusal by one of the numbers
 --   RatingAnswers …  == what a rating tells, and what it leaves in the lent bytes
@@ -24,18 +27,21 @@ use mathlib.Core.List.{List, [], _∷_, _++_, map}
 use mathlib.Core.Option.{none, some}
 use lib.ListN.{length, getD, take, drop, replicate}
 use lib.Dec.{T, eqb}
+use Rattle.meaning.specs.declared.FieldName.{FieldName}
 use Rattle.meaning.specs.declared.Filling.{Filling}
 use Rattle.meaning.specs.declared.Irreducibility.{Irreducibility}
 use Rattle.meaning.specs.declared.RecordOutcome.{RecordOutcome}
 use Rattle.meaning.specs.Search.{holdsForSome}
+use Rattle.meaning.specs.Field.{Field}
 use Rattle.meaning.specs.Polynomial.{Polynomial, product, monicMultiple}
 use Rattle.meaning.specs.Sequence.{annihilatesKnown}
 use Rattle.meaning.specs.Result.{Result, refused, answered}
-use Rattle.meaning.specs.Conditions.{named, totalDegree, notPrime, countOutOfRange, placeOutOfRange}
+use Rattle.meaning.specs.Conditions.{named, totalDegree, countOutOfRange, placeOutOfRange}
 use Rattle.meaning.specs.Conditions.{termOutOfField, factorCountOutOfRange, factorDegreeOutOfRange}
 use Rattle.meaning.specs.Conditions.{continuationDegreeOutOfRange, coefficientOutOfRange, isReducible}
 use Rattle.meaning.specs.Conditions.{twoEqual}
 use Rattle.meaning.specs.Conditions.{upperPowersOutOfRange, fewerTermsThan, startUnlikeDegree, lentTooShort}
+use Rattle.meaning.specs.FieldNames.{notField, fieldNumber}
 use Rattle.meaning.specs.Period.{NoPower, ratePeriod}
 use Rattle.meaning.specs.Portion.{factorsOf, rateSet}
 use Rattle.meaning.specs.Free.{rateFree}
@@ -46,7 +52,7 @@ use Rattle.meaning.specs.Route.{RouteRecord, Mode, periodMode, setMode, freeMod
 use Rattle.meaning.specs.Route.{Stage, atStart, afterEnd, lookUp, bodyLengths, admitted, walk, bodies}
 use Rattle.meaning.specs.Route.{modeUnsuited, readRecord}
 use Rattle.meaning.specs.File.{WrittenFactor, fileFactor, polynomialOf, fileDegreeOutOfRange}
-use Rattle.meaning.specs.File.{fileCoefficientOutOfRange, termsOf, rateFile}
+use Rattle.meaning.specs.File.{fileCoefficientOutOfRange, termsOf, fieldIn, rateFile}
 use Rattle.meaning.specs.Answers.{toldIrreducible, toldFilling, toldPower, toldSet, toldFree, toldFile}
 use Rattle.meaning.specs.Answers.{toldRecord, FileTold, withPowers, withOne, withSome}
 use Rattle.meaning.specs.Calls.{PrimeCall, IrreducibleCall, PeriodCall, SetCall, FreeCall, ContinueCall}
@@ -55,33 +61,33 @@ use Rattle.theorems.specs.Ratings.{GF}
 
 -- THE NUMBERS OF EACH CALL
 
-abbrev pub periodNumbers : List ℕ
-periodNumbers = 6 ∷ 7 ∷ 8 ∷ 10 ∷ 11 ∷ 12 ∷ 16 ∷ 17 ∷ []
+abbrev pub periodNumbers : FieldName → List ℕ
+periodNumbers name = fieldNumber name ∷ 7 ∷ 8 ∷ 10 ∷ 11 ∷ 12 ∷ 16 ∷ 17 ∷ []
 
-abbrev pub setNumbers : List ℕ
-setNumbers = 6 ∷ 7 ∷ 8 ∷ 9 ∷ 10 ∷ 11 ∷ 12 ∷ 13 ∷ 14 ∷ 15 ∷ 16 ∷ 17 ∷ []
+abbrev pub setNumbers : FieldName → List ℕ
+setNumbers name = fieldNumber name ∷ 7 ∷ 8 ∷ 9 ∷ 10 ∷ 11 ∷ 12 ∷ 13 ∷ 14 ∷ 15 ∷ 16 ∷ 17 ∷ []
 
-abbrev pub freeNumbers : List ℕ
-freeNumbers = 6 ∷ 7 ∷ 8 ∷ 16 ∷ []
+abbrev pub freeNumbers : FieldName → List ℕ
+freeNumbers name = fieldNumber name ∷ 7 ∷ 8 ∷ 16 ∷ []
 
-abbrev pub continueNumbers : List ℕ
-continueNumbers = 6 ∷ 7 ∷ 8 ∷ 10 ∷ 11 ∷ 15 ∷ []
+abbrev pub continueNumbers : FieldName → List ℕ
+continueNumbers name = fieldNumber name ∷ 7 ∷ 8 ∷ 10 ∷ 11 ∷ 15 ∷ []
 
-abbrev pub irreducibleNumbers : List ℕ
-irreducibleNumbers = 6 ∷ 10 ∷ 11 ∷ []
+abbrev pub irreducibleNumbers : FieldName → List ℕ
+irreducibleNumbers name = fieldNumber name ∷ 10 ∷ 11 ∷ []
 
 abbrev pub readerNumbers : List ℕ
 readerNumbers = 1 ∷ 2 ∷ 3 ∷ 4 ∷ 5 ∷ []
 
--- A file meets 1 to 5, and where they let it pass the checks of its mode.
-abbrev pub modeNumbers : Mode → List ℕ
+-- A file meets 1 to 5, and where they let it pass the checks of its mode, with the name of its field.
+abbrev pub modeNumbers : Mode → FieldName → List ℕ
 modeNumbers periodMode = periodNumbers
 modeNumbers setMode = setNumbers
 modeNumbers freeMode = freeNumbers
 
 abbrev pub fileNumbers : Result (List RouteRecord) → List ℕ
 fileNumbers (refused n) = readerNumbers
-fileNumbers (answered rs) = elim (modeOf (byteOf 3 rs)) [ none ↦ [] | some m ↦ modeNumbers m ]
+fileNumbers (answered rs) = elim (modeOf (byteOf 3 rs)) [ none ↦ [] | some m ↦ modeNumbers m (fieldIn rs) ]
 
 -- AN ANSWER, OR A REFUSAL BY ONE OF THE NUMBERS
 
@@ -116,62 +122,60 @@ pub record Decided {A : Type 0} (conditions : List Condition) (told : Result A) 
   pub answers : Answered told ↔ NoneHolds conditions
   pub refuses : (n : ℕ) → (told ≡ refused n) ↔ FirstThatHolds n conditions
 
+-- A call that is given the name of a field asks first whether it is that of no field in range, and then what
+-- it asks in the field.
+abbrev pub underName : FieldName → (Field → List Condition) → List Condition
+underName name conditions = (fieldNumber name, T (notField name)) ∷ conditions (GF name)
+
 -- The period way and the set way: `ten` and `eleven` say whether these hold of the factors, which a list and
 -- a file write differently; f stands for the monic multiple of the factor, l for the monic multiples with
 -- their upper powers. 17: no power of f, however large, annihilates the period; the product does not
 -- annihilate the terms.
-abbrev pub periodConditions : ℕ → Bool → Bool → Polynomial → List ℕ → ℕ → ℕ → List Condition
-periodConditions p ten eleven f ts answer work =
-    (6, T (notPrime p))
-    ∷ (7, T (countOutOfRange (length ts)))
-    ∷ (8, T (termOutOfField (GF p) ts))
+abbrev pub periodConditions : Field → Bool → Bool → Polynomial → List ℕ → ℕ → ℕ → List Condition
+periodConditions F ten eleven f ts answer work =
+    (7, T (countOutOfRange (length ts)))
+    ∷ (8, T (termOutOfField F ts))
     ∷ (10, T ten)
     ∷ (11, T eleven)
-    ∷ (12, T (isReducible p f))
+    ∷ (12, T (isReducible F f))
     ∷ (16, T (lentTooShort answer work))
-    ∷ (17, NoPower (GF p) f ts)
+    ∷ (17, NoPower F f ts)
     ∷ []
 
-abbrev pub setConditions : ℕ → Bool → Bool → List (Polynomial × ℕ) → List ℕ → ℕ → ℕ → List Condition
-setConditions p ten eleven l ts answer work =
-    (6, T (notPrime p))
-    ∷ (7, T (countOutOfRange (length ts)))
-    ∷ (8, T (termOutOfField (GF p) ts))
+abbrev pub setConditions : Field → Bool → Bool → List (Polynomial × ℕ) → List ℕ → ℕ → ℕ → List Condition
+setConditions F ten eleven l ts answer work =
+    (7, T (countOutOfRange (length ts)))
+    ∷ (8, T (termOutOfField F ts))
     ∷ (9, T (factorCountOutOfRange (length l)))
     ∷ (10, T ten)
     ∷ (11, T eleven)
-    ∷ (12, T (holdsForSome (isReducible p) (factorsOf l)))
+    ∷ (12, T (holdsForSome (isReducible F) (factorsOf l)))
     ∷ (13, T (twoEqual (factorsOf l)))
     ∷ (14, T (upperPowersOutOfRange l))
     ∷ (15, T (fewerTermsThan (totalDegree l) ts))
     ∷ (16, T (lentTooShort answer work))
-    ∷ (17, (T (annihilatesKnown (GF p) (product (GF p) l) ts) → ⊥))
+    ∷ (17, (T (annihilatesKnown F (product F l) ts) → ⊥))
     ∷ []
 
-abbrev pub freeConditions : ℕ → List ℕ → ℕ → ℕ → List Condition
-freeConditions p ts answer work =
-    (6, T (notPrime p))
-    ∷ (7, T (countOutOfRange (length ts)))
-    ∷ (8, T (termOutOfField (GF p) ts))
+abbrev pub freeConditions : Field → List ℕ → ℕ → ℕ → List Condition
+freeConditions F ts answer work =
+    (7, T (countOutOfRange (length ts)))
+    ∷ (8, T (termOutOfField F ts))
     ∷ (16, T (lentTooShort answer work))
     ∷ []
 
-abbrev pub continueConditions : ℕ → Polynomial → List ℕ → ℕ → ℕ → List Condition
-continueConditions p g start place size =
-    (6, T (notPrime p))
-    ∷ (7, T (placeOutOfRange size place))
-    ∷ (8, T (termOutOfField (GF p) start))
+abbrev pub continueConditions : Field → Polynomial → List ℕ → ℕ → ℕ → List Condition
+continueConditions F g start place size =
+    (7, T (placeOutOfRange size place))
+    ∷ (8, T (termOutOfField F start))
     ∷ (10, T (continuationDegreeOutOfRange g))
-    ∷ (11, T (coefficientOutOfRange (GF p) g))
+    ∷ (11, T (coefficientOutOfRange F g))
     ∷ (15, T (startUnlikeDegree g start))
     ∷ []
 
-abbrev pub irreducibleConditions : ℕ → Polynomial → List Condition
-irreducibleConditions p f =
-    (6, T (notPrime p))
-    ∷ (10, T (factorDegreeOutOfRange (GF p) f))
-    ∷ (11, T (coefficientOutOfRange (GF p) f))
-    ∷ []
+abbrev pub irreducibleConditions : Field → Polynomial → List Condition
+irreducibleConditions F f =
+    (10, T (factorDegreeOutOfRange F f)) ∷ (11, T (coefficientOutOfRange F f)) ∷ []
 
 -- The records of a file. `Reached file rest stage`: all records before the bytes `rest` are of a known kind,
 -- whole and in place, and the order of records has come to this stage.
@@ -234,23 +238,24 @@ readerConditions file =
     ∷ (5, Unsuited file)
     ∷ []
 
--- A file that 1 to 5 let pass meets the conditions of its mode.
-abbrev pub modeConditions : Mode → ℕ → List WrittenFactor → List ℕ → ℕ → ℕ → List Condition
-modeConditions periodMode p fs ts answer work =
-    periodConditions p (holdsForSome (fileDegreeOutOfRange (GF p)) fs)
-    (holdsForSome (fileCoefficientOutOfRange (GF p)) fs) (getD (map polynomialOf fs) 0 []) ts answer work
-modeConditions setMode p fs ts answer work =
-    setConditions p (holdsForSome (fileDegreeOutOfRange (GF p)) fs)
-    (holdsForSome (fileCoefficientOutOfRange (GF p)) fs) (map (λ f. (polynomialOf f, f .upper)) fs) ts answer
-    work
-modeConditions freeMode p fs ts answer work = freeConditions p ts answer work
+-- A file that 1 to 5 let pass meets the condition of the name that it holds, and then those of its mode.
+abbrev pub modeConditions : Mode → List WrittenFactor → List ℕ → ℕ → ℕ → Field → List Condition
+modeConditions periodMode fs ts answer work F =
+    periodConditions F (holdsForSome (fileDegreeOutOfRange F) fs)
+    (holdsForSome (fileCoefficientOutOfRange F) fs) (getD (map polynomialOf fs) 0 []) ts answer work
+modeConditions setMode fs ts answer work F =
+    setConditions F (holdsForSome (fileDegreeOutOfRange F) fs) (holdsForSome (fileCoefficientOutOfRange F) fs)
+    (map (λ f. (polynomialOf f, f .upper)) fs) ts answer work
+modeConditions freeMode fs ts answer work F = freeConditions F ts answer work
 
 abbrev pub laterConditions : Result (List RouteRecord) → ℕ → ℕ → List Condition
 laterConditions (refused n) answer work = []
 laterConditions (answered rs) answer work =
     elim (modeOf (byteOf 3 rs)) [
       | none ↦ []
-      | some m ↦ modeConditions m (byteOf 2 rs) (map fileFactor (bodies 4 rs)) (termsOf rs) answer work
+      | some m ↦
+          underName (fieldIn rs)
+          (modeConditions m (map fileFactor (bodies 4 rs)) (termsOf rs) answer work)
     ]
 
 abbrev pub fileConditions : List ℕ → ℕ → ℕ → List Condition
@@ -289,34 +294,41 @@ pub record Answering {R A : Type 0} (numbers : List ℕ) (conditions : List Cond
 -- THE RATINGS
 
 -- a factor, or factors, as lists: 10 and 11 look at them as they are given
-abbrev pub listConditions : ℕ → Polynomial → List ℕ → ℕ → ℕ → List Condition
-listConditions p f =
-    periodConditions p (factorDegreeOutOfRange (GF p) f) (coefficientOutOfRange (GF p) f)
-    (monicMultiple (GF p) f)
+abbrev pub listConditions : FieldName → Polynomial → List ℕ → ℕ → ℕ → List Condition
+listConditions name f ts answer work =
+    underName name
+    (λ F.
+    periodConditions F (factorDegreeOutOfRange F f) (coefficientOutOfRange F f) (monicMultiple F f) ts answer
+    work)
 
-abbrev pub listsConditions : ℕ → List Polynomial → List ℕ → List ℕ → ℕ → ℕ → List Condition
-listsConditions p fs vs =
-    setConditions p (holdsForSome (factorDegreeOutOfRange (GF p)) fs)
-    (holdsForSome (coefficientOutOfRange (GF p)) fs) (named (map (monicMultiple (GF p)) fs) vs)
+abbrev pub listsConditions : FieldName → List Polynomial → List ℕ → List ℕ → ℕ → ℕ → List Condition
+listsConditions name fs vs ts answer work =
+    underName name
+    (λ F.
+    setConditions F (holdsForSome (factorDegreeOutOfRange F) fs) (holdsForSome (coefficientOutOfRange F) fs)
+    (named (map (monicMultiple F) fs) vs) ts answer work)
+
+-- no factor
+abbrev pub termsConditions : FieldName → List ℕ → ℕ → ℕ → List Condition
+termsConditions name ts answer work = underName name (λ F. freeConditions F ts answer work)
 
 abbrev pub PeriodAnswers : Type 0
 PeriodAnswers =
-    (p : ℕ) (f : Polynomial) (ts answer work : List ℕ)
-    → Answering periodNumbers (listConditions p f ts (length answer) (length work)) toldPower (λ a. a .degree)
-    answer work (PeriodCall p f ts answer work)
+    (name : FieldName) (f : Polynomial) (ts answer work : List ℕ)
+    → Answering (periodNumbers name) (listConditions name f ts (length answer) (length work)) toldPower
+    (λ a. a .degree) answer work (PeriodCall name f ts answer work)
 
 abbrev pub SetAnswers : Type 0
 SetAnswers =
-    (p : ℕ) (fs : List Polynomial) (vs ts answer work : List ℕ)
-    → Answering setNumbers (listsConditions p fs vs ts (length answer) (length work))
-    (λ r. toldSet (r .outcome)) (λ a. a .degree) answer work (SetCall p fs vs ts answer work)
+    (name : FieldName) (fs : List Polynomial) (vs ts answer work : List ℕ)
+    → Answering (setNumbers name) (listsConditions name fs vs ts (length answer) (length work))
+    (λ r. toldSet (r .outcome)) (λ a. a .degree) answer work (SetCall name fs vs ts answer work)
 
 abbrev pub FreeAnswers : Type 0
 FreeAnswers =
-    (p : ℕ) (ts answer work : List ℕ)
-    → Answering freeNumbers (freeConditions p ts (length answer) (length work)) toldFree
-    (λ a. a .degree) answer
-    work (FreeCall p ts answer work)
+    (name : FieldName) (ts answer work : List ℕ)
+    → Answering (freeNumbers name) (termsConditions name ts (length answer) (length work)) toldFree
+    (λ a. a .degree) answer work (FreeCall name ts answer work)
 
 abbrev pub fileDegree : FileTold → ℕ
 fileDegree (withPowers d m n) = d
@@ -331,43 +343,46 @@ FileAnswers =
 
 -- THE CONTINUATION
 
-pub record Continuing (p : ℕ) (g : Polynomial) (start buffer : List ℕ) (place : ℕ) : Type 0 where
+pub record Continuing (name : FieldName) (g : Polynomial) (start buffer : List ℕ) (place : ℕ) : Type 0 where
   pub tells : (r : Filling) (buffer′ : List ℕ)
-      → ContinueCall p g start buffer place r buffer′
-      → Tells continueNumbers (toldFilling r)
+      → ContinueCall name g start buffer place r buffer′
+      → Tells (continueNumbers name) (toldFilling r)
   pub decided : (r : Filling) (buffer′ : List ℕ)
-      → ContinueCall p g start buffer place r buffer′
-      → Decided (continueConditions p g start place (length buffer)) (toldFilling r)
+      → ContinueCall name g start buffer place r buffer′
+      → Decided (underName name (λ F. continueConditions F g start place (length buffer))) (toldFilling r)
   pub buffer-kept : (r : Filling) (buffer′ : List ℕ)
-      → ContinueCall p g start buffer place r buffer′
+      → ContinueCall name g start buffer place r buffer′
       → (n : ℕ)
       → toldFilling r ≡ refused n
       → buffer′ ≡ buffer
   pub buffer-length : (r : Filling) (buffer′ : List ℕ)
-      → ContinueCall p g start buffer place r buffer′
+      → ContinueCall name g start buffer place r buffer′
       → length buffer′ ≡ length buffer
-  pub some : (r : Filling) × (buffer′ : List ℕ) × ContinueCall p g start buffer place r buffer′
+  pub some : (r : Filling) × (buffer′ : List ℕ) × ContinueCall name g start buffer place r buffer′
   pub one : (r s : Filling) (buffer′ buffer″ : List ℕ)
-      → ContinueCall p g start buffer place r buffer′
-      → ContinueCall p g start buffer place s buffer″
+      → ContinueCall name g start buffer place r buffer′
+      → ContinueCall name g start buffer place s buffer″
       → (r ≡ s) × (buffer′ ≡ buffer″)
 
 abbrev pub ContinueAnswers : Type 0
 ContinueAnswers =
-    (p : ℕ) (g : Polynomial) (start buffer : List ℕ) (place : ℕ) → Continuing p g start buffer place
+    (name : FieldName) (g : Polynomial) (start buffer : List ℕ) (place : ℕ)
+    → Continuing name g start buffer place
 
 -- THE TWO QUESTIONS, THE READER, THE PROGRAM
 
-pub record Asking (p : ℕ) (f : Polynomial) : Type 0 where
-  pub tells : (r : Irreducibility) → IrreducibleCall p f r → Tells irreducibleNumbers (toldIrreducible r)
+pub record Asking (name : FieldName) (f : Polynomial) : Type 0 where
+  pub tells : (r : Irreducibility)
+      → IrreducibleCall name f r
+      → Tells (irreducibleNumbers name) (toldIrreducible r)
   pub decided : (r : Irreducibility)
-      → IrreducibleCall p f r
-      → Decided (irreducibleConditions p f) (toldIrreducible r)
-  pub some : (r : Irreducibility) × IrreducibleCall p f r
-  pub one : (r s : Irreducibility) → IrreducibleCall p f r → IrreducibleCall p f s → r ≡ s
+      → IrreducibleCall name f r
+      → Decided (underName name (λ F. irreducibleConditions F f)) (toldIrreducible r)
+  pub some : (r : Irreducibility) × IrreducibleCall name f r
+  pub one : (r s : Irreducibility) → IrreducibleCall name f r → IrreducibleCall name f s → r ≡ s
 
 abbrev pub IrreducibleAnswers : Type 0
-IrreducibleAnswers = (p : ℕ) (f : Polynomial) → Asking p f
+IrreducibleAnswers = (name : FieldName) (f : Polynomial) → Asking name f
 
 -- the prime question has no refusal
 pub record AskingPrime (n : ℕ) : Type 0 where
@@ -406,15 +421,15 @@ ProgramAnswers = (input : List ℕ) → Printing input
 -- NO VALUE IS MISSING, WHATEVER THE INPUT
 
 pub record NeverZero : Type 0 where
-  pub period : (p : ℕ) (f : Polynomial) (ts : List ℕ) (answer work : ℕ)
-      → ratePeriod p f ts answer work ≢ refused 0
-  pub set : (p : ℕ) (fs : List Polynomial) (vs ts : List ℕ) (answer work : ℕ)
-      → rateSet p fs vs ts answer work ≢ refused 0
-  pub free : (p : ℕ) (ts : List ℕ) (answer work : ℕ)
-      → rateFree p ts answer work ≢ refused 0
-  pub continuation : (p : ℕ) (g : Polynomial) (start : List ℕ) (place : ℕ) (buffer : List ℕ)
-      → continueSequence p g start place buffer ≢ refused 0
-  pub irreducibility : (p : ℕ) (f : Polynomial) → askIrreducible p f ≢ refused 0
+  pub period : (name : FieldName) (f : Polynomial) (ts : List ℕ) (answer work : ℕ)
+      → ratePeriod name f ts answer work ≢ refused 0
+  pub set : (name : FieldName) (fs : List Polynomial) (vs ts : List ℕ) (answer work : ℕ)
+      → rateSet name fs vs ts answer work ≢ refused 0
+  pub free : (name : FieldName) (ts : List ℕ) (answer work : ℕ)
+      → rateFree name ts answer work ≢ refused 0
+  pub continuation : (name : FieldName) (g : Polynomial) (start : List ℕ) (place : ℕ) (buffer : List ℕ)
+      → continueSequence name g start place buffer ≢ refused 0
+  pub irreducibility : (name : FieldName) (f : Polynomial) → askIrreducible name f ≢ refused 0
   pub file : (file : List ℕ) (answer work : ℕ) → rateFile file answer work ≢ refused 0
   pub reader : (file : List ℕ) (n : ℕ) → readRecord file n ≢ refused 0
   pub search : (ts : List ℕ) (work : ℕ) → findEntry ts work ≢ refused 0

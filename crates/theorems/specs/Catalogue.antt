@@ -1,6 +1,7 @@
 -- The catalogue and its search, as statements about the contracts of their calls. The signs are those of
 -- Promises.
 --
+--   GF2              == GF(2), the field of the catalogue
 --   searchNumbers    == the numbers by which the search is refused; searchConditions == when it is
 --   Entry n          == n is an entry of the catalogue
 --   SearchAnswers    == demand 1 of the search; EntryAnswers == of the question for entry i, which is refused
@@ -19,6 +20,7 @@ use mathlib.Core.List.{List, [], _∷_}
 use lib.ListN.{length, getD, take, drop, replicate}
 use lib.Dec.{T}
 use Rattle.meaning.specs.declared.EntryRating.{EntryRating}
+use Rattle.meaning.specs.Field.{Field, prime}
 use Rattle.meaning.specs.Polynomial.{Polynomial, degree, isMonicOver, NotAProduct}
 use Rattle.meaning.specs.Sequence.{periodic, LeastPower}
 use Rattle.meaning.specs.Result.{Result, refused, answered}
@@ -29,8 +31,10 @@ use Rattle.meaning.specs.Answers.{toldEntry}
 use Rattle.meaning.specs.Calls.{EntryCall, CatalogueCall}
 use Rattle.meaning.specs.Exports.{EntryTold, EntryExported}
 use Rattle.theorems.specs.Answering.{Answered, OneOf, Tells, Condition, Decided}
-use Rattle.theorems.specs.Ratings.{GF}
 use Rattle.theorems.specs.OtherLanguages.{StatusTold, ExactlyOne}
+
+abbrev pub GF2 : Field
+GF2 = prime 2
 
 abbrev pub searchNumbers : List ℕ
 searchNumbers = 7 ∷ 8 ∷ 16 ∷ 19 ∷ []
@@ -42,9 +46,9 @@ Entry n = OneOf n catalogue
 abbrev pub searchConditions : List ℕ → ℕ → List Condition
 searchConditions ts work =
     (7, T (countOutOfRange (length ts)))
-    ∷ (8, T (termOutOfField (GF 2) ts))
+    ∷ (8, T (termOutOfField GF2 ts))
     ∷ (16, (work < 8192))
-    ∷ (19, ((n : ℕ) → Entry n → NoPower (GF 2) (entryPolynomial n) ts))
+    ∷ (19, ((n : ℕ) → Entry n → NoPower GF2 (entryPolynomial n) ts))
     ∷ []
 
 -- DEMAND 1. The work bytes are as they were after 7, 8 and 16; after 19 and after an answer their first 8,192
@@ -84,16 +88,16 @@ EntryAnswers = (i : ℕ) → AskingEntry i
 -- other i it is 0, which is no entry.
 
 pub record CatalogueRight : Type 0 where
-  pub entries : (n : ℕ) → Entry n ↔ ((2 ≤ n) × (n < 2048) × NotAProduct (GF 2) (entryPolynomial n))
+  pub entries : (n : ℕ) → Entry n ↔ ((2 ≤ n) × (n < 2048) × NotAProduct GF2 (entryPolynomial n))
   pub of-entry : (n : ℕ) → Entry n
-      → T (isMonicOver (GF 2) (entryPolynomial n))
+      → T (isMonicOver GF2 (entryPolynomial n))
       × (1 ≤ degree (entryPolynomial n))
       × (degree (entryPolynomial n) ≤ 10)
   pub polynomials : (f : Polynomial)
-      → T (isMonicOver (GF 2) f)
+      → T (isMonicOver GF2 f)
       → 1 ≤ degree f
       → degree f ≤ 10
-      → NotAProduct (GF 2) f ↔ ((n : ℕ) × Entry n × (entryPolynomial n ≡ f))
+      → NotAProduct GF2 f ↔ ((n : ℕ) × Entry n × (entryPolynomial n ≡ f))
   pub one-number : (n m : ℕ) → Entry n → Entry m → entryPolynomial n ≡ entryPolynomial m → n ≡ m
   pub count : length catalogue ≡ 226
   pub rising : (i : ℕ) → suc i < length catalogue → getD catalogue i 0 < getD catalogue (suc i) 0
@@ -108,13 +112,13 @@ CataloguePromise = CatalogueRight
 
 pub record EntryAnswered (ts : List ℕ) (a : EntryFigures) : Type 0 where
   pub entry : Entry (a .entry)
-  pub least : LeastPower (GF 2) (entryPolynomial (a .entry)) (periodic ts) (a .power)
-  pub first : (n : ℕ) → Entry n → n < a .entry → NoPower (GF 2) (entryPolynomial n) ts
+  pub least : LeastPower GF2 (entryPolynomial (a .entry)) (periodic ts) (a .power)
+  pub first : (n : ℕ) → Entry n → n < a .entry → NoPower GF2 (entryPolynomial n) ts
 
 -- 19 means that no entry has a power. Zeros, from 1 to 4,096 of them, give x, which is 2, and the power 0.
 pub record EntryRight (ts : List ℕ) (work : ℕ) (told : Result EntryFigures) : Type 0 where
   pub found : (a : EntryFigures) → told ≡ answered a → EntryAnswered ts a
-  pub nineteen : told ≡ refused 19 → (n : ℕ) → Entry n → NoPower (GF 2) (entryPolynomial n) ts
+  pub nineteen : told ≡ refused 19 → (n : ℕ) → Entry n → NoPower GF2 (entryPolynomial n) ts
   pub zeros : (n : ℕ) → ts ≡ replicate n 0 → 1 ≤ n → n ≤ 4096 → 8192 ≤ work
       → told ≡ answered (record { entry = 2; power = 0 })
 

@@ -12,6 +12,7 @@ use mathlib.Core.Bool.{false}
 use mathlib.Core.List.{List, [], _∷_, map}
 use lib.ListN.{length}
 use lib.Dec.{T}
+use Rattle.meaning.specs.declared.FieldName.{FieldName}
 use Rattle.meaning.specs.declared.PowerRating.{PowerRating}
 use Rattle.meaning.specs.declared.SetRating.{SetRating}
 use Rattle.meaning.specs.declared.FreeRating.{FreeRating}
@@ -28,53 +29,53 @@ use Rattle.meaning.specs.Calls.{PeriodCall, SetCall, FreeCall}
 use Rattle.theorems.specs.Ratings.{GF, Returns}
 
 -- Whatever meets the contract of the call on these terms, with accepted lent bytes, rates them and returns g.
-abbrev pub SetReturns : ℕ → List Polynomial → List ℕ → List ℕ → Polynomial → Type 0
-SetReturns p fs vs ts g =
+abbrev pub SetReturns : FieldName → List Polynomial → List ℕ → List ℕ → Polynomial → Type 0
+SetReturns name fs vs ts g =
     (answer work : List ℕ)
     → T (acceptedLent (length answer) (length work))
     → (r : SetRating) (answer′ work′ : List ℕ)
-    → SetCall p fs vs ts answer work r answer′ work′
+    → SetCall name fs vs ts answer work r answer′ work′
     → (a : SetTold) × (toldSet (r .outcome) ≡ answered a) × Returns g (a .degree) answer′
 
-abbrev pub PeriodReturns : ℕ → Polynomial → List ℕ → Polynomial → Type 0
-PeriodReturns p f ts g =
+abbrev pub PeriodReturns : FieldName → Polynomial → List ℕ → Polynomial → Type 0
+PeriodReturns name f ts g =
     (answer work : List ℕ)
     → T (acceptedLent (length answer) (length work))
     → (r : PowerRating) (answer′ work′ : List ℕ)
-    → PeriodCall p f ts answer work r answer′ work′
+    → PeriodCall name f ts answer work r answer′ work′
     → (a : PowerFigures) × (toldPower r ≡ answered a) × Returns g (a .degree) answer′
 
-abbrev pub FreeReturns : ℕ → List ℕ → Polynomial → Type 0
-FreeReturns p ts g =
+abbrev pub FreeReturns : FieldName → List ℕ → Polynomial → Type 0
+FreeReturns name ts g =
     (answer work : List ℕ)
     → T (acceptedLent (length answer) (length work))
     → (r : FreeRating) (answer′ work′ : List ℕ)
-    → FreeCall p ts answer work r answer′ work′
+    → FreeCall name ts answer work r answer′ work′
     → (a : FreeFigures) × (toldFree r ≡ answered a) × Returns g (a .degree) answer′
 
 -- One polynomial g, the minimal polynomial of s from its first term: the set way, which is the way for
 -- portions with one factor or more, returns it on every stretch of m terms from place k, m from the total
 -- degree to 4,096; with one factor the period way on every period of n terms, n up to 4,096; the free way on
 -- every stretch of at least twice its degree, of 1 to 4,096 terms.
-pub record CutAnywhere (p : ℕ) (fs : List Polynomial) (vs : List ℕ) (s : Sequence) : Type 0 where
+pub record CutAnywhere (name : FieldName) (fs : List Polynomial) (vs : List ℕ) (s : Sequence) : Type 0 where
   pub g : Polynomial
-  pub minimal : MinimalPolynomial (GF p) g s
-  pub set-way : (k m : ℕ) → totalDegree (named fs vs) ≤ m → m ≤ 4096 → SetReturns p fs vs (cut s k m) g
+  pub minimal : MinimalPolynomial (GF name) g s
+  pub set-way : (k m : ℕ) → totalDegree (named fs vs) ≤ m → m ≤ 4096 → SetReturns name fs vs (cut s k m) g
   pub period-way : (f : Polynomial)
       → fs ≡ f ∷ []
       → (k n : ℕ)
       → Period s n
       → n ≤ 4096
-      → PeriodReturns p f (cut s k n) g
-  pub free-way : (k m : ℕ) → 2 * degree g ≤ m → 1 ≤ m → m ≤ 4096 → FreeReturns p (cut s k m) g
+      → PeriodReturns name f (cut s k n) g
+  pub free-way : (k m : ℕ) → 2 * degree g ≤ m → 1 ≤ m → m ≤ 4096 → FreeReturns name (cut s k m) g
 
 -- So it is for every sequence of the field that the product of accepted factors annihilates, none of them x
 -- or a multiple of x. The factors are as they are given, with any leading coefficient but 0.
 abbrev pub CutAnywherePromise : Type 0
 CutAnywherePromise =
-    (p : ℕ) (fs : List Polynomial) (vs : List ℕ) (s : Sequence)
-    → T (acceptedFactors p fs vs)
-    → holdsForSome isX (map (monicMultiple (GF p)) fs) ≡ false
-    → InField (GF p) s
-    → AnnihilatesEndless (GF p) (product (GF p) (named fs vs)) s
-    → CutAnywhere p fs vs s
+    (name : FieldName) (fs : List Polynomial) (vs : List ℕ) (s : Sequence)
+    → T (acceptedFactors name fs vs)
+    → holdsForSome isX (map (monicMultiple (GF name)) fs) ≡ false
+    → InField (GF name) s
+    → AnnihilatesEndless (GF name) (product (GF name) (named fs vs)) s
+    → CutAnywhere name fs vs s

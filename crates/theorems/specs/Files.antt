@@ -1,5 +1,6 @@
 -- Route files, the reader and the program, as statements about their contracts. The signs are those of
--- Promises; rs are the records of a file, and its field, terms and factors are those that they hold.
+-- Promises; rs are the records of a file, and its field, terms and factors are those that they hold:
+-- `fieldIn rs` is the name of its field.
 --
 --   polynomialsIn rs, uppersIn rs == the factors of the file, as polynomials, and their upper powers
 --   PeriodFile, SetFile, FreeFile == what an answer for a file in mode 1, 2 or 3 means: that of the mode's
@@ -27,7 +28,7 @@ use Rattle.meaning.specs.Period.{NoPower}
 use Rattle.meaning.specs.Free.{FreeFigures}
 use Rattle.meaning.specs.Route.{RouteRecord, Mode, periodMode, setMode, freeMode, modeOf, byteOf, bodies}
 use Rattle.meaning.specs.Route.{records, boxOf, lookUp, bodyLengths}
-use Rattle.meaning.specs.File.{WrittenFactor, fileFactor, polynomialOf, termsOf}
+use Rattle.meaning.specs.File.{WrittenFactor, fileFactor, polynomialOf, termsOf, fieldIn}
 use Rattle.meaning.specs.Print.{text, decimal, joined, line, header}
 use Rattle.meaning.specs.Answers.{SetTold, FileTold, withPowers, withOne, withSome, toldFile, toldRecord}
 use Rattle.meaning.specs.Answers.{padded}
@@ -60,14 +61,15 @@ pub record PeriodFile (rs : List RouteRecord) (a : FileTold) (eight answer′ : 
   pub figures : PowerFigures
   pub tells : a ≡ withPowers (figures .degree) (figures .repeat) 1
   pub places : eight ≡ padded (figures .power ∷ [])
-  pub rated : PeriodAnswered (byteOf 2 rs) factor (termsOf rs) figures answer′
+  pub rated : PeriodAnswered (GF (fieldIn rs)) factor (termsOf rs) figures answer′
 
 -- Mode 2: the promise of the set way, with the factors and upper powers of the file in its order. The
 -- denominator is the number of terms, and so it is in mode 3. The repeat length is not told.
 pub record SetFile (rs : List RouteRecord) (a : FileTold) (eight answer′ : List ℕ) : Type 0 where
   pub figures : SetTold
   pub tells : a ≡ withPowers (figures .degree) (length (termsOf rs)) (figures .count)
-  pub rated : SetAnswered (byteOf 2 rs) (polynomialsIn rs) (uppersIn rs) (termsOf rs) figures eight answer′
+  pub rated :
+      SetAnswered (GF (fieldIn rs)) (polynomialsIn rs) (uppersIn rs) (termsOf rs) figures eight answer′
 
 -- Mode 3: the promise of the free way, with the word `one` or `some`, and no powers.
 abbrev pub freeTold : FreeFigures → ℕ → FileTold
@@ -77,7 +79,7 @@ pub record FreeFile (rs : List RouteRecord) (a : FileTold) (eight answer′ : Li
   pub figures : FreeFigures
   pub tells : a ≡ freeTold figures (length (termsOf rs))
   pub places : eight ≡ padded []
-  pub rated : FreeAnswered (byteOf 2 rs) (termsOf rs) figures answer′
+  pub rated : FreeAnswered (GF (fieldIn rs)) (termsOf rs) figures answer′
 
 abbrev pub RatedBy : Mode → List RouteRecord → FileTold → List ℕ → List ℕ → Type 0
 RatedBy periodMode = PeriodFile
@@ -87,9 +89,9 @@ RatedBy freeMode = FreeFile
 -- 17 means what it means in the mode's way; the free way does not give it.
 abbrev pub SeventeenBy : Mode → List RouteRecord → Type 0
 SeventeenBy periodMode rs =
-    (f : Polynomial) × (polynomialsIn rs ≡ f ∷ []) × NoPower (GF (byteOf 2 rs)) f (termsOf rs)
+    (f : Polynomial) × (polynomialsIn rs ≡ f ∷ []) × NoPower (GF (fieldIn rs)) f (termsOf rs)
 SeventeenBy setMode rs =
-    NoneBegins (byteOf 2 rs) (product (GF (byteOf 2 rs)) (named (polynomialsIn rs) (uppersIn rs)))
+    NoneBegins (GF (fieldIn rs)) (product (GF (fieldIn rs)) (named (polynomialsIn rs) (uppersIn rs)))
     (termsOf rs)
 SeventeenBy freeMode rs = ⊥
 

@@ -21,18 +21,18 @@
 --   answer, answer′  == lent bytes as a call begins, and as it returns; so with work, buffer and lent numbers
 --   f ∷ []           == the list of f alone; (f, v): f with its upper power v
 --
--- p is the prime and `GF p` its field; f a factor, which stands for its monic multiple, `monicMultiple (GF p)
--- f`; fs and vs the factors and their upper powers, `map` of that over fs the list of their monic multiples,
--- `named fs vs` each with its own, and `product` of that the product of the factors to their upper powers; ts
--- the terms given; s an endless sequence; g a polynomial; r what a call returns, and `told…` of it what it
--- tells.
+-- `name` is the name of a field and `GF name` that field (`NameWords`); F any field; f a factor, which stands
+-- for its monic multiple, `monicMultiple (GF name) f`; fs and vs the factors and their upper powers, `map` of
+-- that over fs the list of their monic multiples, `named fs vs` each with its own, and `product` of that the
+-- product of the factors to their upper powers; ts the terms given; s an endless sequence; g a polynomial; r
+-- what a call returns, and `told…` of it what it tells.
 use Rattle.theorems.specs.Answering.{PeriodAnswers, SetAnswers, FreeAnswers}
 use Rattle.theorems.specs.Answering.{ContinueAnswers, IrreducibleAnswers, PrimeAnswers, FileAnswers}
 use Rattle.theorems.specs.Answering.{RecordAnswers, ProgramAnswers, NeverZero}
 use Rattle.theorems.specs.Ratings.{PeriodPromise, SetPromise, FreePromise}
 use Rattle.theorems.specs.Ratings.{ContinuePromise, IrreduciblePromise, PrimePromise}
 use Rattle.theorems.specs.Ratings.{MultiplePromise, MultiplesPromise, PrimeWords, IrreducibleWords}
-use Rattle.theorems.specs.Ratings.{ConditionWords}
+use Rattle.theorems.specs.Ratings.{NameWords, ConditionWords}
 use Rattle.theorems.specs.CutAnywhere.{CutAnywherePromise}
 use Rattle.theorems.specs.Files.{FilePromise, RecordPromise, ProgramAsCall, ProgramPromise}
 use Rattle.theorems.specs.Density.{DensityPromise}
@@ -66,6 +66,7 @@ pub record Promises : Type 0 where
   pub primes : PrimePromise
   pub multiple : MultiplePromise
   pub multiples : MultiplesPromise
+  pub name-words : NameWords
   pub prime-words : PrimeWords
   pub irreducible-words : IrreducibleWords
   pub condition-words : ConditionWords

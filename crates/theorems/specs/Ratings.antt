@@ -3,6 +3,10 @@
 -- with any leading coefficient but 0; what is returned is said of its monic multiple, for which it stands,
 -- and MultiplePromise says that the two annihilate the same.
 --
+-- A call is given the name of a field, and `GF name` is that field. The records are about any field F, and
+-- the promises about `GF name`.
+--
+--   GF name          == the field with this name; NamesField name == it is the name of a field, of any size
 --   Returns g told answer′ == the call returns g: it tells the degree of g, and the answer bytes begin with g
 --   …Answered        == what an answer of the way means: its figures, and the list in the answer bytes; of a
 --                       set with a single factor SingleAnswered says more
@@ -12,6 +16,7 @@
 --   NoneBegins       == no sequence that a polynomial annihilates begins with the terms
 --   MultiplePromise  == a factor and its monic multiple annihilate the same sequences; so do the products of
 --                       their powers (MultiplesPromise)
+--   NameWords        == what a name stands for, and its number
 --   PrimeWords, IrreducibleWords == the tests for primes and irreducible polynomials are the words of the
 --                                   request
 --   ConditionWords   == the tests of the conditions are the words of the numbered list
@@ -22,6 +27,7 @@ use mathlib.Core.Bool.{Bool, true, false}
 use mathlib.Core.List.{List, [], _∷_, _++_, map}
 use lib.ListN.{length, getD, take}
 use lib.Dec.{T}
+use Rattle.meaning.specs.declared.FieldName.{FieldName}
 use Rattle.meaning.specs.declared.PowerRating.{PowerRating}
 use Rattle.meaning.specs.declared.SetRating.{SetRating}
 use Rattle.meaning.specs.declared.FreeRating.{FreeRating}
@@ -34,10 +40,11 @@ use Rattle.meaning.specs.Sequence.{Sequence, periodic, cut, LeastPeriod, Contin
 use Rattle.meaning.specs.Sequence.{AnnihilatesEndless, MinimalPolynomial, LeastPower}
 use Rattle.meaning.specs.Result.{Result, refused, answered}
 use Rattle.meaning.specs.Search.{holdsForSome}
-use Rattle.meaning.specs.Conditions.{named, totalDegree, notPrime, countOutOfRange, placeOutOfRange}
+use Rattle.meaning.specs.Conditions.{named, totalDegree, countOutOfRange, placeOutOfRange}
 use Rattle.meaning.specs.Conditions.{termOutOfField, factorCountOutOfRange, degreeOutOfRange}
 use Rattle.meaning.specs.Conditions.{continuationDegreeOutOfRange}
 use Rattle.meaning.specs.Conditions.{coefficientOutOfRange, fewerTermsThan, startUnlikeDegree, lentTooShort}
+use Rattle.meaning.specs.FieldNames.{namedField, notField, fieldNumber}
 use Rattle.meaning.specs.RepeatLength.{RepeatMeaning}
 use Rattle.meaning.specs.Power.{PowerFigures}
 use Rattle.meaning.specs.Period.{NoPower}
@@ -46,8 +53,13 @@ use Rattle.meaning.specs.Free.{FreeFigures, IsLeastDegree, Fits, Precedes}
 use Rattle.meaning.specs.Answers.{SetTold, toldPower, toldSet, toldFree, toldFilling, toldIrreducible, padded}
 use Rattle.meaning.specs.Calls.{PrimeCall, IrreducibleCall, PeriodCall, SetCall, FreeCall, ContinueCall}
 
-abbrev pub GF : ℕ → Field
-GF p = prime p
+abbrev pub GF : FieldName → Field
+GF name = namedField name
+
+-- The name is that of a field, however large: of GF(p), p is a prime number. No name of GF(2^n) is, as yet.
+abbrev pub NamesField : FieldName → Type 0
+NamesField (FieldName.Prime p) = T (isPrime p)
+NamesField (FieldName.Binary n low) = ⊥
 
 -- THE POLYNOMIAL THAT A CALL RETURNS
 
@@ -67,49 +79,49 @@ pub record Returns (g : Polynomial) (told : ℕ) (answer′ : List ℕ) : Type 0
 -- of a portion says it says too (`repeat-meaning`), and it is never 0 (`repeat-positive`): a period has a
 -- least period, at most its number of terms, and x does not divide its polynomial. (In every way the degree
 -- is at most 4,096, so that the list has its place in the 4,097 answer bytes: `small`.)
-pub record PeriodAnswered (p : ℕ) (f : Polynomial) (ts : List ℕ) (a : PowerFigures) (answer′ : List ℕ)
+pub record PeriodAnswered (F : Field) (f : Polynomial) (ts : List ℕ) (a : PowerFigures) (answer′ : List ℕ)
     : Type 0 where
   pub small : a .degree ≤ 4096
-  pub least : LeastPower (GF p) f (periodic ts) (a .power)
-  pub minimal : MinimalPolynomial (GF p) (listIn answer′ (a .degree)) (periodic ts)
-  pub returns : Returns (power (GF p) f (a .power)) (a .degree) answer′
+  pub least : LeastPower F f (periodic ts) (a .power)
+  pub minimal : MinimalPolynomial F (listIn answer′ (a .degree)) (periodic ts)
+  pub returns : Returns (power F f (a .power)) (a .degree) answer′
   pub repeat : LeastPeriod (periodic ts) (a .repeat)
   pub repeat-meaning : RepeatMeaning (listIn answer′ (a .degree)) (periodic ts) (a .repeat)
   pub repeat-positive : 0 < a .repeat
 
 -- 17 means that no power of f, however large, annihilates it.
-pub record PeriodRight (p : ℕ) (f : Polynomial) (ts : List ℕ) (told : Result PowerFigures) (answer′ : List ℕ)
-    : Type 0 where
-  pub rated : (a : PowerFigures) → told ≡ answered a → PeriodAnswered p f ts a answer′
-  pub seventeen : told ≡ refused 17 → NoPower (GF p) f ts
+pub record PeriodRight (F : Field) (f : Polynomial) (ts : List ℕ) (told : Result PowerFigures)
+    (answer′ : List ℕ) : Type 0 where
+  pub rated : (a : PowerFigures) → told ≡ answered a → PeriodAnswered F f ts a answer′
+  pub seventeen : told ≡ refused 17 → NoPower F f ts
 
 abbrev pub PeriodPromise : Type 0
 PeriodPromise =
-    (p : ℕ) (f : Polynomial) (ts answer work : List ℕ) (r : PowerRating) (answer′ work′ : List ℕ)
-    → PeriodCall p f ts answer work r answer′ work′
-    → PeriodRight p (monicMultiple (GF p) f) ts (toldPower r) answer′
+    (name : FieldName) (f : Polynomial) (ts answer work : List ℕ) (r : PowerRating) (answer′ work′ : List ℕ)
+    → PeriodCall name f ts answer work r answer′ work′
+    → PeriodRight (GF name) (monicMultiple (GF name) f) ts (toldPower r) answer′
 
 -- No sequence that g annihilates begins with the terms.
-abbrev pub NoneBegins : ℕ → Polynomial → List ℕ → Type 0
-NoneBegins p g ts = (s : Sequence) → AnnihilatesEndless (GF p) g s → cut s 0 (length ts) ≡ ts → ⊥
+abbrev pub NoneBegins : Field → Polynomial → List ℕ → Type 0
+NoneBegins F g ts = (s : Sequence) → AnnihilatesEndless F g s → cut s 0 (length ts) ≡ ts → ⊥
 
 -- The first D terms, D the total degree of the factors l with their upper powers, have exactly one
 -- continuation that the product of l annihilates (`onward`): it is over the field, begins with these terms
 -- and is annihilated; and there is no other.
-pub record OneContinuation (p : ℕ) (l : List (Polynomial × ℕ)) (ts : List ℕ) : Type 0 where
-  pub continues : Continues (GF p) (product (GF p) l) (take (totalDegree l) ts) (onward (GF p) l ts)
+pub record OneContinuation (F : Field) (l : List (Polynomial × ℕ)) (ts : List ℕ) : Type 0 where
+  pub continues : Continues F (product F l) (take (totalDegree l) ts) (onward F l ts)
   pub only : (s : Sequence)
-      → Continues (GF p) (product (GF p) l) (take (totalDegree l) ts) s
+      → Continues F (product F l) (take (totalDegree l) ts) s
       → (k : ℕ)
-      → s k ≡ onward (GF p) l ts k
+      → s k ≡ onward F l ts k
 
 -- A single factor f with the upper power v: its power r is the least that annihilates the continuation by
 -- f^v, and at most v, and the polynomial returned is f^r.
-pub record SingleAnswered (p : ℕ) (f : Polynomial) (v : ℕ) (ts : List ℕ) (r : ℕ) (a : SetTold)
+pub record SingleAnswered (F : Field) (f : Polynomial) (v : ℕ) (ts : List ℕ) (r : ℕ) (a : SetTold)
     (answer′ : List ℕ) : Type 0 where
   pub atMost : r ≤ v
-  pub least : PortionMeaning (GF p) f v ts r
-  pub returns : Returns (power (GF p) f r) (a .degree) answer′
+  pub least : PortionMeaning F f v ts r
+  pub returns : Returns (power F f r) (a .degree) answer′
 
 -- The set way, for portions with one to eight factors, x among them or not: the first terms have exactly one
 -- continuation that the product of the factors to their upper powers annihilates, and all the terms agree
@@ -118,93 +130,94 @@ pub record SingleAnswered (p : ℕ) (f : Polynomial) (v : ℕ) (ts : List ℕ) (
 -- length is the least period of the continuation, at most 65,536; it is 0 only where x divides the polynomial
 -- returned, and then there is no period, or where the least period is longer. With a single factor
 -- SingleAnswered holds too.
-pub record SetAnswered (p : ℕ) (fs : List Polynomial) (vs ts : List ℕ) (a : SetTold) (eight answer′ : List ℕ)
-    : Type 0 where
+pub record SetAnswered (F : Field) (fs : List Polynomial) (vs ts : List ℕ) (a : SetTold)
+    (eight answer′ : List ℕ) : Type 0 where
   pub powers : List ℕ
   pub count-told : a .count ≡ length powers
   pub places : eight ≡ padded powers
   pub small : a .degree ≤ 4096
-  pub continuation : OneContinuation p (named fs vs) ts
-  pub agrees : Agrees (GF p) (named fs vs) ts
+  pub continuation : OneContinuation F (named fs vs) ts
+  pub agrees : Agrees F (named fs vs) ts
   pub atMost : (i : ℕ) → i < length fs → getD powers i 0 ≤ getD vs i 0
-  pub meaning : SetMeaning (GF p) (named fs vs) ts powers
-  pub minimal : MinimalPolynomial (GF p) (listIn answer′ (a .degree)) (onward (GF p) (named fs vs) ts)
-  pub returns : Returns (product (GF p) (named fs powers)) (a .degree) answer′
-  pub repeat : RepeatMeaning (listIn answer′ (a .degree)) (onward (GF p) (named fs vs) ts) (a .repeat)
+  pub meaning : SetMeaning F (named fs vs) ts powers
+  pub minimal : MinimalPolynomial F (listIn answer′ (a .degree)) (onward F (named fs vs) ts)
+  pub returns : Returns (product F (named fs powers)) (a .degree) answer′
+  pub repeat : RepeatMeaning (listIn answer′ (a .degree)) (onward F (named fs vs) ts) (a .repeat)
   pub single : (f : Polynomial) (v : ℕ)
       → named fs vs ≡ (f, v) ∷ []
-      → (r : ℕ) × (powers ≡ r ∷ []) × SingleAnswered p f v ts r a answer′
+      → (r : ℕ) × (powers ≡ r ∷ []) × SingleAnswered F f v ts r a answer′
 
 -- 17 means that the terms have no continuation that the product annihilates, with a single factor f^v.
-pub record SetRight (p : ℕ) (fs : List Polynomial) (vs ts : List ℕ) (told : Result SetTold)
+pub record SetRight (F : Field) (fs : List Polynomial) (vs ts : List ℕ) (told : Result SetTold)
     (eight answer′ : List ℕ) : Type 0 where
-  pub rated : (a : SetTold) → told ≡ answered a → SetAnswered p fs vs ts a eight answer′
-  pub seventeen : told ≡ refused 17 → NoneBegins p (product (GF p) (named fs vs)) ts
+  pub rated : (a : SetTold) → told ≡ answered a → SetAnswered F fs vs ts a eight answer′
+  pub seventeen : told ≡ refused 17 → NoneBegins F (product F (named fs vs)) ts
   pub single-seventeen : (f : Polynomial) (v : ℕ)
       → named fs vs ≡ (f, v) ∷ []
       → told ≡ refused 17
-      → NoneBegins p (power (GF p) f v) ts
+      → NoneBegins F (power F f v) ts
 
 abbrev pub SetPromise : Type 0
 SetPromise =
-    (p : ℕ) (fs : List Polynomial) (vs ts answer work : List ℕ) (r : SetRating) (answer′ work′ : List ℕ)
-    → SetCall p fs vs ts answer work r answer′ work′
-    → SetRight p (map (monicMultiple (GF p)) fs) vs ts (toldSet (r .outcome)) (r .powers) answer′
+    (name : FieldName) (fs : List Polynomial) (vs ts answer work : List ℕ) (r : SetRating)
+    (answer′ work′ : List ℕ)
+    → SetCall name fs vs ts answer work r answer′ work′
+    → SetRight (GF name) (map (monicMultiple (GF name)) fs) vs ts (toldSet (r .outcome)) (r .powers) answer′
 
 -- The free way: the degree is the least of a polynomial that annihilates the terms, and the polynomial
 -- returned is the first of that degree: every other one that annihilates them comes later, which means that
 -- at the highest place where the two differ the returned one has the smaller number. Under the word `one`
 -- (`unique`), which stands where twice the degree is at most the number of terms, there is no other.
-pub record FreeAnswered (p : ℕ) (ts : List ℕ) (a : FreeFigures) (answer′ : List ℕ) : Type 0 where
+pub record FreeAnswered (F : Field) (ts : List ℕ) (a : FreeFigures) (answer′ : List ℕ) : Type 0 where
   pub small : a .degree ≤ 4096
-  pub least : IsLeastDegree (GF p) ts (a .degree)
-  pub fits : Fits (GF p) ts (a .degree) (listIn answer′ (a .degree))
+  pub least : IsLeastDegree F ts (a .degree)
+  pub fits : Fits F ts (a .degree) (listIn answer′ (a .degree))
   pub word : (a .unique ≡ true) ↔ (2 * a .degree ≤ length ts)
   pub only : a .unique ≡ true
       → (h : Polynomial)
-      → Fits (GF p) ts (a .degree) h
+      → Fits F ts (a .degree) h
       → h ≡ listIn answer′ (a .degree)
   pub first : (h : Polynomial)
-      → Fits (GF p) ts (a .degree) h
+      → Fits F ts (a .degree) h
       → h ≢ listIn answer′ (a .degree)
       → Precedes (listIn answer′ (a .degree)) h
 
 abbrev pub FreePromise : Type 0
 FreePromise =
-    (p : ℕ) (ts answer work : List ℕ) (r : FreeRating) (answer′ work′ : List ℕ)
-    → FreeCall p ts answer work r answer′ work′
+    (name : FieldName) (ts answer work : List ℕ) (r : FreeRating) (answer′ work′ : List ℕ)
+    → FreeCall name ts answer work r answer′ work′
     → (a : FreeFigures)
     → toldFree r ≡ answered a
-    → FreeAnswered p ts a answer′
+    → FreeAnswered (GF name) ts a answer′
 
 -- The continuation: from the place on the buffer holds the sequence that begins with the starting terms and
 -- that g annihilates; it is the only one. A refusal leaves the buffer as it was.
-pub record ContinueFilled (p : ℕ) (g : Polynomial) (start buffer : List ℕ) (place : ℕ) (buffer′ : List ℕ)
+pub record ContinueFilled (F : Field) (g : Polynomial) (start buffer : List ℕ) (place : ℕ) (buffer′ : List ℕ)
     : Type 0 where
   pub sequence : Sequence
-  pub continues : Continues (GF p) g start sequence
-  pub only : (s : Sequence) → Continues (GF p) g start s → (k : ℕ) → s k ≡ sequence k
+  pub continues : Continues F g start sequence
+  pub only : (s : Sequence) → Continues F g start s → (k : ℕ) → s k ≡ sequence k
   pub bytes : buffer′ ≡ take place buffer ++ cut sequence 0 (length buffer - place)
 
-pub record ContinueRight (p : ℕ) (g : Polynomial) (start buffer : List ℕ) (place : ℕ)
+pub record ContinueRight (F : Field) (g : Polynomial) (start buffer : List ℕ) (place : ℕ)
     (told : Result (Unit {0})) (buffer′ : List ℕ) : Type 0 where
-  pub filled : told ≡ answered tt → ContinueFilled p g start buffer place buffer′
+  pub filled : told ≡ answered tt → ContinueFilled F g start buffer place buffer′
   pub untouched : (n : ℕ) → told ≡ refused n → buffer′ ≡ buffer
 
 abbrev pub ContinuePromise : Type 0
 ContinuePromise =
-    (p : ℕ) (g : Polynomial) (start buffer : List ℕ) (place : ℕ) (r : Filling) (buffer′ : List ℕ)
-    → ContinueCall p g start buffer place r buffer′
-    → ContinueRight p (monicMultiple (GF p) g) start buffer place (toldFilling r) buffer′
+    (name : FieldName) (g : Polynomial) (start buffer : List ℕ) (place : ℕ) (r : Filling) (buffer′ : List ℕ)
+    → ContinueCall name g start buffer place r buffer′
+    → ContinueRight (GF name) (monicMultiple (GF name) g) start buffer place (toldFilling r) buffer′
 
 -- The two questions
 abbrev pub IrreduciblePromise : Type 0
 IrreduciblePromise =
-    (p : ℕ) (f : Polynomial) (r : Irreducibility)
-    → IrreducibleCall p f r
+    (name : FieldName) (f : Polynomial) (r : Irreducibility)
+    → IrreducibleCall name f r
     → (said : Bool)
     → toldIrreducible r ≡ answered said
-    → T said ↔ NotAProduct (GF p) f
+    → T said ↔ NotAProduct (GF name) f
 
 abbrev pub PrimePromise : Type 0
 PrimePromise = (n : ℕ) (r : Bool) → PrimeCall n r → T r ↔ (PrimeNumber n × (n ≤ 251))
@@ -214,48 +227,55 @@ PrimePromise = (n : ℕ) (r : Bool) → PrimeCall n r → T r ↔ (PrimeNumber n
 -- The monic multiple of f: it is monic, f is its leading coefficient times it, it has the degree of f, and
 -- f^e annihilates exactly what its e-th power does, whatever e is; so a least power of the one is that of the
 -- other. A monic f is its own.
-pub record MonicMultiple (p : ℕ) (f g : Polynomial) : Type 0 where
-  pub monic : T (isMonicOver (GF p) g)
-  pub multiple : scale (GF p) (leading f) g ≡ f
+pub record MonicMultiple (F : Field) (f g : Polynomial) : Type 0 where
+  pub monic : T (isMonicOver F g)
+  pub multiple : scale F (leading f) g ≡ f
   pub same-degree : degree g ≡ degree f
   pub annihilates : (e : ℕ) (s : Sequence)
-      → AnnihilatesEndless (GF p) (power (GF p) f e) s ↔ AnnihilatesEndless (GF p) (power (GF p) g e) s
-  pub least : (s : Sequence) (r : ℕ) → LeastPower (GF p) f s r ↔ LeastPower (GF p) g s r
+      → AnnihilatesEndless F (power F f e) s ↔ AnnihilatesEndless F (power F g e) s
+  pub least : (s : Sequence) (r : ℕ) → LeastPower F f s r ↔ LeastPower F g s r
   pub itself : leading f ≡ 1 → g ≡ f
 
 abbrev pub MultiplePromise : Type 0
 MultiplePromise =
-    (p : ℕ) (f : Polynomial)
-    → T (isPrime p)
-    → T (areElements (GF p) f)
+    (name : FieldName) (f : Polynomial)
+    → NamesField name
+    → T (areElements (GF name) f)
     → leading f ≢ 0
-    → MonicMultiple p f (monicMultiple (GF p) f)
+    → MonicMultiple (GF name) f (monicMultiple (GF name) f)
 
--- The product of the powers of factors that 6 and 11 let pass annihilates exactly what the product of the
--- same powers of their monic multiples does, and has the same total degree.
-pub record MonicMultiples (p : ℕ) (fs gs : List Polynomial) (vs : List ℕ) : Type 0 where
+-- The product of the powers of factors that 11 lets pass annihilates exactly what the product of the same
+-- powers of their monic multiples does, and has the same total degree.
+pub record MonicMultiples (F : Field) (fs gs : List Polynomial) (vs : List ℕ) : Type 0 where
   pub same-total : totalDegree (named gs vs) ≡ totalDegree (named fs vs)
   pub annihilates : (s : Sequence)
-      → AnnihilatesEndless (GF p) (product (GF p) (named fs vs)) s
-      ↔ AnnihilatesEndless (GF p) (product (GF p) (named gs vs)) s
+      → AnnihilatesEndless F (product F (named fs vs)) s
+      ↔ AnnihilatesEndless F (product F (named gs vs)) s
 
 abbrev pub MultiplesPromise : Type 0
 MultiplesPromise =
-    (p : ℕ) (fs : List Polynomial) (vs : List ℕ)
-    → T (isPrime p)
-    → holdsForSome (coefficientOutOfRange (GF p)) fs ≡ false
-    → MonicMultiples p fs (map (monicMultiple (GF p)) fs) vs
+    (name : FieldName) (fs : List Polynomial) (vs : List ℕ)
+    → NamesField name
+    → holdsForSome (coefficientOutOfRange (GF name)) fs ≡ false
+    → MonicMultiples (GF name) fs (map (monicMultiple (GF name)) fs) vs
 
 -- THE WORDS OF THE REQUEST
+
+-- What a name stands for: that of a prime p for the field of the p residues modulo p, and 6 is the number by
+-- which it is refused. A name that is not refused is that of a field.
+pub record NameWords : Type 0 where
+  pub prime-field : (p : ℕ) → namedField (FieldName.Prime p) ≡ prime p
+  pub prime-number : (p : ℕ) → fieldNumber (FieldName.Prime p) ≡ 6
+  pub admitted : (name : FieldName) → notField name ≡ false → NamesField name
 
 abbrev pub PrimeWords : Type 0
 PrimeWords = (n : ℕ) → T (isPrime n) ↔ PrimeNumber n
 
--- The conditions of the numbered list, in words: 6; 7, of a count and of a place; 8; 9; 10, of a degree and
--- for a continuation; 11; 15, of terms and for a continuation; 16. (12 is `IrreducibleWords`, of monic
--- lists.)
+-- The conditions of the numbered list, in words: 6, of the name of a prime; 7, of a count and of a place; 8;
+-- 9; 10, of a degree and for a continuation; 11; 15, of terms and for a continuation; 16. (12 is
+-- `IrreducibleWords`, of monic lists.)
 pub record ConditionWords : Type 0 where
-  pub six : (p : ℕ) → T (notPrime p) ↔ ((PrimeNumber p × (p ≤ 251)) → ⊥)
+  pub six : (p : ℕ) → T (notField (FieldName.Prime p)) ↔ ((PrimeNumber p × (p ≤ 251)) → ⊥)
   pub seven : (n : ℕ) → T (countOutOfRange n) ↔ ((n ≡ 0) ⊎ (4096 < n))
   pub seven-place : (size place : ℕ)
       → T (placeOutOfRange size place) ↔ ((size < place) ⊎ (size - place ≡ 0) ⊎ (4096 < size - place))
@@ -275,8 +295,8 @@ pub record ConditionWords : Type 0 where
 
 abbrev pub IrreducibleWords : Type 0
 IrreducibleWords =
-    (p : ℕ) (f : Polynomial)
-    → T (isPrime p)
-    → T (isMonicOver (GF p) f)
+    (name : FieldName) (f : Polynomial)
+    → NamesField name
+    → T (isMonicOver (GF name) f)
     → 1 ≤ degree f
-    → T (irreducible (GF p) f) ↔ NotAProduct (GF p) f
+    → T (irreducible (GF name) f) ↔ NotAProduct (GF name) f

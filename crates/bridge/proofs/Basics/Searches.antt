@@ -18,6 +18,7 @@
 --   least-found, least-missing == the converses
 --   together-range == `together` of the answers of a range has each of the answers, in order
 --   settle-answered, answered-settle, settle-refused == what a settled table says of its conditions
+--   in-answered, in-refused == what an answer or a refusal in the field of a name says of the name
 --   map-answered, map-refused == what `mapResult` says of a result
 --   never-answered, refused-same, answered-same == a refusal is no answer, and each is by one number or value
 --
@@ -36,9 +37,13 @@ use mathlib.Core.Option.{Option, none, some, Option·some-injective, Option·non
 use lib.ListN.{length, getD, drop, length-map, List·getD-map}
 use lib.Seq.{drop-cons}
 use lib.Dec.{T}
+use Rattle.meaning.specs.declared.FieldName.{FieldName}
 use Rattle.meaning.specs.Search.{range, holdsForAll, holdsForSome, least, mapOption, bind, isNone, together}
 use Rattle.meaning.specs.Search.{firstThat, selected}
+use Rattle.meaning.specs.Field.{Field}
 use Rattle.meaning.specs.Result.{Check, Result, refused, answered, firstOf, settle, valueOf, mapResult}
+use Rattle.meaning.specs.FieldNames.{namedField, notField, fieldNumber, inField}
+use Rattle.meaning.proofs.Tables.{in-field, no-field}
 use Rattle.meaning.proofs.Tables.{firstOf-skip, firstOf-stop, settle-none, least-zero, firstThat-here}
 use Rattle.meaning.proofs.Tables.{selected-here}
 use Rattle.meaning.proofs.Passes.{Passes, firstOf-passes, firstOf-decides, holds, before}
@@ -713,6 +718,28 @@ refused-same e = cc
 
 pub answered-same : {A : Type 0} {a b : A} → answered a ≡ answered b → a ≡ b
 answered-same e = cc
+
+-- The answer in the field that a name stands for
+module _ {A : Type 0} (name : FieldName) (answer : Field → Result A) where
+  pub in-answered : {a : A} → inField name answer ≡ answered a
+      → (notField name ≡ false) × (answer (namedField name) ≡ answered a)
+  in-answered {a} e = go (notField name) refl
+    where
+      go : (b : Bool) → notField name ≡ b → (notField name ≡ false) × (answer (namedField name) ≡ answered a)
+      go true h = never-answered (sym (no-field name answer h) ∙ e)
+      go false h = (h, sym (in-field name answer h) ∙ e)
+
+  -- a refusal is that of the name, or one in the field
+  pub in-refused : {n : ℕ} → inField name answer ≡ refused n
+      → ((notField name ≡ true) × (n ≡ fieldNumber name))
+      ⊎ ((notField name ≡ false) × (answer (namedField name) ≡ refused n))
+  in-refused {n} e = go (notField name) refl
+    where
+      go : (b : Bool) → notField name ≡ b
+          → ((notField name ≡ true) × (n ≡ fieldNumber name))
+          ⊎ ((notField name ≡ false) × (answer (namedField name) ≡ refused n))
+      go true h = inl (h, refused-same (sym e ∙ no-field name answer h))
+      go false h = inr (h, sym (in-field name answer h) ∙ e)
 
 pub map-answered :
     {A B : Type 0} (f : A → B) (r : Result A) {b : B}

@@ -17,29 +17,29 @@ use mathlib.Core.List.{List, [], _∷_, map}
 use mathlib.Core.Option.{Option, none, some}
 use lib.Dec.{eqb, eqb→eq}
 use lib.ListN.{length, getD, take, length-append, length-map}
-use Rattle.meaning.specs.Field.{prime}
+use Rattle.meaning.specs.Field.{Field}
 use Rattle.meaning.specs.Polynomial.{Polynomial, power, product}
 use Rattle.meaning.specs.Result.{Result, refused, answered, Rated, mapResult}
 use Rattle.meaning.specs.Conditions.{named}
+use Rattle.meaning.specs.FieldNames.{inField}
 use Rattle.meaning.specs.Power.{PowerFigures, powerRating}
 use Rattle.meaning.specs.Repeat.{shortestPeriod}
 use Rattle.meaning.specs.Period.{periodPower, periodTable, periodAnswer}
 use Rattle.meaning.specs.Portion.{SetFigures, factorsOf, setPowers, setRating, setTable, setAnswer}
-use Rattle.meaning.specs.Free.{FreeFigures, Fits, rateFree}
+use Rattle.meaning.specs.Free.{FreeFigures, Fits, freeIn}
 use Rattle.meaning.specs.Route.{RouteRecord, Mode, periodMode, setMode, freeMode, modeOf, byteOf, bodies}
 use Rattle.meaning.specs.Route.{suits, modeUnsuited, records, factorUpper}
 use Rattle.meaning.specs.File.{WrittenFactor, fileFactor, polynomialOf, termsOf, powers, FileFigures}
 use Rattle.meaning.specs.File.{fileAnswer, ofPeriod, ofSet, ofFree, freeLabel, rateMode, rateRecords}
-use Rattle.meaning.specs.File.{rateFile}
+use Rattle.meaning.specs.File.{fieldIn, rateFile}
 use Rattle.bridge.proofs.Basics.Searches.{settle-answered, map-answered, some-bind, some-mapOption}
 use Rattle.bridge.proofs.Basics.Searches.{not-false}
-use Rattle.bridge.proofs.Basics.Searches.{T-and, never-answered}
-use Rattle.bridge.proofs.Basics.Interpretation.{inRange-isField}
+use Rattle.bridge.proofs.Basics.Searches.{T-and, never-answered, in-answered}
+use Rattle.bridge.proofs.Basics.Interpretation.{IsField, named-isField}
 use Rattle.bridge.proofs.Lists.Polynomials.{degree-length, monic-nonempty}
 use Rattle.bridge.proofs.Lists.Products.{power-nonempty, product-nonempty, Nonempties, factorsOf-named}
 use Rattle.bridge.proofs.Lists.Products.{factorAt-factorsOf, length-factorsOf, length-named}
 use Rattle.bridge.proofs.Ways.Fitting.{free-rated}
-use Rattle.bridge.proofs.Ways.Accepted.{prime-accepted}
 use Rattle.bridge.proofs.Files.Records.{records-suited}
 
 abbrev Whole : Rated FileFigures → Type 0
@@ -56,33 +56,32 @@ first-nonempty (f ∷ fs) l = polynomial-nonempty f
 
 -- THE WAYS
 pub period-size :
-    (p : ℕ) (ten eleven : Bool) (f : Polynomial) (ts : List ℕ) (answer work : ℕ)
+    {F : Field} (I : IsField F) (ten eleven : Bool) (f : Polynomial) (ts : List ℕ) (answer work : ℕ)
     → 0 < length f
     → {b : Rated PowerFigures}
-    → periodAnswer p ten eleven f ts answer work ≡ answered b
+    → periodAnswer F ten eleven f ts answer work ≡ answered b
     → length (b .polynomial) ≡ suc (b .figures .degree)
 unfolding periodAnswer periodTable powerRating
-period-size p ten eleven f ts answer work l e =
-    let (h, v) = settle-answered _ (periodTable p ten eleven f ts answer work) e in
-    let (r, _, u) = some-bind (periodPower (prime p) f ts) (powerRating (prime p) f ts) v in
+period-size {F} I ten eleven f ts answer work l e =
+    let (h, v) = settle-answered _ (periodTable F ten eleven f ts answer work) e in
+    let (r, _, u) = some-bind (periodPower F f ts) (powerRating F f ts) v in
     let (_, _, q) = some-mapOption _ (shortestPeriod ts) u in
-    let I = inRange-isField p (prime-accepted p (h .fieldExists)) in
     subst (λ b. length (b .polynomial) ≡ suc (b .figures .degree)) q
-    (degree-length (power (prime p) f r) (power-nonempty I f r l))
+    (degree-length (power F f r) (power-nonempty I f r l))
 
 pub set-size :
-    (p : ℕ) (ten eleven : Bool) (l : List (Polynomial × ℕ)) (ts : List ℕ) (answer work : ℕ)
+    {F : Field} (I : IsField F) (ten eleven : Bool) (l : List (Polynomial × ℕ)) (ts : List ℕ)
+    (answer work : ℕ)
     → Nonempties l
     → {b : Rated SetFigures}
-    → setAnswer p ten eleven l ts answer work ≡ answered b
+    → setAnswer F ten eleven l ts answer work ≡ answered b
     → length (b .polynomial) ≡ suc (b .figures .degree)
 unfolding setAnswer setTable setRating
-set-size p ten eleven l ts answer work n e =
-    let (h, v) = settle-answered _ (setTable p ten eleven l ts answer work) e in
-    let (rs, _, q) = some-mapOption (setRating (prime p) l ts) (setPowers (prime p) l ts) v in
-    let I = inRange-isField p (prime-accepted p (h .fieldExists)) in
+set-size {F} I ten eleven l ts answer work n e =
+    let (h, v) = settle-answered _ (setTable F ten eleven l ts answer work) e in
+    let (rs, _, q) = some-mapOption (setRating F l ts) (setPowers F l ts) v in
     subst (λ b. length (b .polynomial) ≡ suc (b .figures .degree)) q
-    (degree-length (product (prime p) (named (factorsOf l) rs))
+    (degree-length (product F (named (factorsOf l) rs))
     (product-nonempty I (named (factorsOf l) rs) (named-nonempty rs)))
   where
     named-nonempty : (rs : List ℕ) → Nonempties (named (factorsOf l) rs)
@@ -93,15 +92,15 @@ set-size p ten eleven l ts answer work n e =
         ∙ factorAt-factorsOf (named (factorsOf l) rs) i)
         (n i (omega (arith, length-named (factorsOf l) rs, length-factorsOf l)))
 
-fits-size : (p : ℕ) {ts : List ℕ} {L : ℕ} {g : Polynomial} → Fits (prime p) ts L g → length g ≡ suc L
-fits-size p {g = g} x = degree-length g (monic-nonempty (prime p) g (x .monic)) ∙ ap suc (x .ofDegree)
+fits-size : {F : Field} {ts : List ℕ} {L : ℕ} {g : Polynomial} → Fits F ts L g → length g ≡ suc L
+fits-size {F} {g = g} x = degree-length g (monic-nonempty F g (x .monic)) ∙ ap suc (x .ofDegree)
 
 -- the polynomial of the free way fits
 pub free-size :
-    (p : ℕ) (ts : List ℕ) (answer work : ℕ) {b : Rated FreeFigures}
-    → rateFree p ts answer work ≡ answered b
+    {F : Field} (I : IsField F) (ts : List ℕ) (answer work : ℕ) {b : Rated FreeFigures}
+    → freeIn F ts answer work ≡ answered b
     → length (b .polynomial) ≡ suc (b .figures .degree)
-free-size p ts answer work e = let (_, _, _, x) = free-rated p ts answer work e in fits-size p (x .fits)
+free-size I ts answer work e = let (_, _, _, x) = free-rated I ts answer work e in fits-size (x .fits)
 
 -- THE MODES
 pub period-map :
@@ -148,23 +147,23 @@ pairs-nonempty (f ∷ fs) zero l = polynomial-nonempty f
 pairs-nonempty (f ∷ fs) (suc i) l = pairs-nonempty fs i (omega arith)
 
 mode-size :
-    (m : Mode) (p : ℕ) (fs : List WrittenFactor) (ts : List ℕ) (answer work : ℕ)
+    (m : Mode) {F : Field} (I : IsField F) (fs : List WrittenFactor) (ts : List ℕ) (answer work : ℕ)
     → (m ≡ periodMode → 1 ≤ length fs)
     → {a : Rated FileFigures}
-    → rateMode m p fs ts answer work ≡ answered a
+    → rateMode m F fs ts answer work ≡ answered a
     → Whole a
 unfolding rateMode fileAnswer
-mode-size periodMode p fs ts answer work one e =
+mode-size periodMode I fs ts answer work one e =
     whole-of _ _ (period-map _)
     (λ b q.
-    period-size p _ _ (getD (map polynomialOf fs) 0 []) ts answer work (first-nonempty fs (one refl)) q)
+    period-size I _ _ (getD (map polynomialOf fs) 0 []) ts answer work (first-nonempty fs (one refl)) q)
     e
-mode-size setMode p fs ts answer work one e =
+mode-size setMode I fs ts answer work one e =
     whole-of _ _ (set-map (length ts) _)
-    (λ b q. set-size p _ _ (map (λ f. (polynomialOf f, f .upper)) fs) ts answer work (pairs-nonempty fs) q)
+    (λ b q. set-size I _ _ (map (λ f. (polynomialOf f, f .upper)) fs) ts answer work (pairs-nonempty fs) q)
     e
-mode-size freeMode p fs ts answer work one e =
-    whole-of _ _ (free-map (length ts) _) (λ b q. free-size p ts answer work q) e
+mode-size freeMode I fs ts answer work one e =
+    whole-of _ _ (free-map (length ts) _) (λ b q. free-size I ts answer work q) e
 
 -- THE FILE
 -- an accepted file in the period mode has one factor
@@ -185,7 +184,7 @@ pub known-mode :
     (rs : List RouteRecord) (answer work : ℕ) {m : Mode}
     → modeOf (byteOf 3 rs) ≡ some m
     → rateRecords rs answer work
-    ≡ rateMode m (byteOf 2 rs) (map fileFactor (bodies 4 rs)) (termsOf rs) answer work
+    ≡ inField (fieldIn rs) (λ F. rateMode m F (map fileFactor (bodies 4 rs)) (termsOf rs) answer work)
 unfolding rateRecords
 known-mode rs answer work e = rw (e, rateRecords)
 
@@ -226,11 +225,15 @@ file-size file answer work {a} e = by-records (records file) refl
     by-mode rs r none u =
         never-answered (sym (accepted-file file answer work r ∙ unknown-mode rs answer work u) ∙ e)
     by-mode rs r (some m) u =
-        mode-size m (byteOf 2 rs) (map fileFactor (bodies 4 rs)) (termsOf rs) answer work
+        let (exists, rated) =
+        in-answered (fieldIn rs) _ (sym (accepted-file file answer work r ∙ known-mode rs answer work u) ∙ e)
+        in
+        mode-size m (named-isField (fieldIn rs) exists) (map fileFactor (bodies 4 rs)) (termsOf rs) answer
+        work
         (λ s.
         let one = exactly-one rs (u ∙ ap some s) (records-suited file r) in
         omega (arith, one, length-map (bodies 4 rs) fileFactor))
-        (sym (accepted-file file answer work r ∙ known-mode rs answer work u) ∙ e)
+        rated
 
     by-records : (x : Result (List RouteRecord)) → records file ≡ x → Whole a
     by-records (refused n) r = never-answered (sym (refused-file file answer work r) ∙ e)

@@ -17,11 +17,11 @@ use lib.ListN.{length, getD, take, length-drop, length-map}
 use lib.Seq.{length-take-le}
 use borrow.Author.Tests.{ltb-false, eqb-true}
 use Rattle.meaning.specs.Search.{holdsForSome}
-use Rattle.meaning.specs.Field.{Field, prime, areElements}
+use Rattle.meaning.specs.Field.{Field, areElements}
 use Rattle.meaning.specs.Polynomial.{Polynomial, isMonic, isMonicOver, monicMultiple}
 use Rattle.meaning.specs.Conditions.{named, degreeOutOfRange, factorDegreeOutOfRange, notMonic}
-use Rattle.meaning.specs.Period.{periodAnswer, ratePeriod}
-use Rattle.meaning.specs.Portion.{setAnswer, rateSet}
+use Rattle.meaning.specs.Period.{periodAnswer, periodIn}
+use Rattle.meaning.specs.Portion.{setAnswer, setIn}
 use Rattle.meaning.specs.Route.{RouteRecord, lookUp, bodyLengths, bodies}
 use Rattle.meaning.specs.File.{WrittenFactor, fileFactor, polynomialOf, fileDegreeOutOfRange}
 use Rattle.meaning.specs.File.{fileCoefficientOutOfRange}
@@ -129,59 +129,59 @@ module _ (F : Field) where
       (polynomials-eleven I fs m)
 
 -- A FILE IS RATED AS ITS LISTS ARE
-module _ (p : ℕ) (fs : List WrittenFactor) (full : AllFull fs) (I : IsField (prime p))
-    (ten : holdsForSome (fileDegreeOutOfRange (prime p)) fs ≡ false)
-    (eleven : holdsForSome (fileCoefficientOutOfRange (prime p)) fs ≡ false)
+module _ {F : Field} (I : IsField F) (fs : List WrittenFactor) (full : AllFull fs)
+    (ten : holdsForSome (fileDegreeOutOfRange F) fs ≡ false)
+    (eleven : holdsForSome (fileCoefficientOutOfRange F) fs ≡ false)
     (ts : List ℕ) (answer work : ℕ) where
-  list-ten : holdsForSome (factorDegreeOutOfRange (prime p)) (map polynomialOf fs) ≡ false
-  list-ten = polynomials-ten (prime p) fs full ten
+  list-ten : holdsForSome (factorDegreeOutOfRange F) (map polynomialOf fs) ≡ false
+  list-ten = polynomials-ten F fs full ten
 
-  list-eleven : holdsForSome (notMonic (prime p)) (map polynomialOf fs) ≡ false
-  list-eleven = polynomials-eleven (prime p) I fs eleven
+  list-eleven : holdsForSome (notMonic F) (map polynomialOf fs) ≡ false
+  list-eleven = polynomials-eleven F I fs eleven
 
   -- they are monic, and so their own multiples
-  pub lists-themselves : map (monicMultiple (prime p)) (map polynomialOf fs) ≡ map polynomialOf fs
+  pub lists-themselves : map (monicMultiple F) (map polynomialOf fs) ≡ map polynomialOf fs
   lists-themselves = multiples-self I (map polynomialOf fs) list-eleven
 
   pub first-itself :
       1 ≤ length fs
-      → monicMultiple (prime p) (getD (map polynomialOf fs) 0 []) ≡ getD (map polynomialOf fs) 0 []
+      → monicMultiple F (getD (map polynomialOf fs) 0 []) ≡ getD (map polynomialOf fs) 0 []
   first-itself low =
       let n : 0 < length (map polynomialOf fs) = rw length-map low in
       let g = getD (map polynomialOf fs) 0 [] in
       multiple-self I g
-      (accepted-monic (prime p) g (none-at (notMonic (prime p)) [] (map polynomialOf fs) 0 list-eleven n))
+      (accepted-monic F g (none-at (notMonic F) [] (map polynomialOf fs) 0 list-eleven n))
 
   pub period-lists :
       1 ≤ length fs
-      → periodAnswer p (holdsForSome (fileDegreeOutOfRange (prime p)) fs)
-      (holdsForSome (fileCoefficientOutOfRange (prime p)) fs) (getD (map polynomialOf fs) 0 []) ts answer work
-      ≡ ratePeriod p (getD (map polynomialOf fs) 0 []) ts answer work
-  unfolding ratePeriod
+      → periodAnswer F (holdsForSome (fileDegreeOutOfRange F) fs)
+      (holdsForSome (fileCoefficientOutOfRange F) fs) (getD (map polynomialOf fs) 0 []) ts answer work
+      ≡ periodIn F (getD (map polynomialOf fs) 0 []) ts answer work
+  unfolding periodIn
   period-lists low =
       let n : 0 < length (map polynomialOf fs) = rw length-map low in
       let g = getD (map polynomialOf fs) 0 [] in
-      let monic = none-at (notMonic (prime p)) [] (map polynomialOf fs) 0 list-eleven n in
+      let monic = none-at (notMonic F) [] (map polynomialOf fs) 0 list-eleven n in
       rw (
         ten,
         eleven,
-        none-at (factorDegreeOutOfRange (prime p)) [] (map polynomialOf fs) 0 list-ten n,
-        monic-coefficients (prime p) g monic,
+        none-at (factorDegreeOutOfRange F) [] (map polynomialOf fs) 0 list-ten n,
+        monic-coefficients F g monic,
         first-itself low,
       )
 
   pub set-lists :
-      setAnswer p (holdsForSome (fileDegreeOutOfRange (prime p)) fs)
-      (holdsForSome (fileCoefficientOutOfRange (prime p)) fs) (map (λ f. (polynomialOf f, f .upper)) fs) ts
+      setAnswer F (holdsForSome (fileDegreeOutOfRange F) fs)
+      (holdsForSome (fileCoefficientOutOfRange F) fs) (map (λ f. (polynomialOf f, f .upper)) fs) ts
       answer work
-      ≡ rateSet p (map polynomialOf fs) (map (λ f. f .upper) fs) ts answer work
-  unfolding rateSet
+      ≡ setIn F (map polynomialOf fs) (map (λ f. f .upper) fs) ts answer work
+  unfolding setIn
   set-lists =
       rw (
         ten,
         eleven,
         list-ten,
-        monics-coefficients (prime p) (map polynomialOf fs) list-eleven,
+        monics-coefficients F (map polynomialOf fs) list-eleven,
         lists-themselves,
         named-map,
       )

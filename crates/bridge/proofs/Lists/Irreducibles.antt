@@ -30,15 +30,17 @@ use native.Mathlib.Decide.{decLe}
 use native.Mathlib.Omega.{arith}
 use lib.ListN.{length, getD, length-map, List·getD-map}
 use lib.Dec.{T, eqb, T-not, eqb-refl, eqb→eq}
+use Rattle.meaning.specs.declared.FieldName.{FieldName}
 use Rattle.meaning.specs.Search.{range, holdsForSome}
-use Rattle.meaning.specs.Field.{Field, areElements, prime, primeInRange}
+use Rattle.meaning.specs.Field.{Field, areElements}
 use Rattle.meaning.specs.Polynomial.{Polynomial, degree, isMonicOver, plus, scale, times, monics, same}
 use Rattle.meaning.specs.Polynomial.{hasFactorOf, leading, irreducible, NotAProduct, monicMultiple}
 use Rattle.meaning.specs.Power.{isX}
-use Rattle.meaning.specs.Conditions.{factorDegreeOutOfRange, degreeOutOfRange, notPrime, notMonic}
+use Rattle.meaning.specs.Conditions.{factorDegreeOutOfRange, degreeOutOfRange, notMonic}
 use Rattle.meaning.specs.Conditions.{coefficientOutOfRange, isAsked, isReducible, twoEqual}
+use Rattle.meaning.specs.FieldNames.{namedField}
 use Rattle.meaning.specs.Portion.{factorsOf, factorTable, acceptedFactors}
-use Rattle.meaning.proofs.Passes.{accepted-passes}
+use Rattle.meaning.proofs.Passes.{accepted-field, accepted-passes}
 use Rattle.algebra.proofs.Rings.Ring.{Ring, zero-add}
 use Rattle.algebra.proofs.Polynomials.Polynomial.{X, constant, constant-polynomial-hom}
 use Rattle.algebra.proofs.Polynomials.Irreducible.{Reducible, Irreducible, irreducible-degrees}
@@ -47,7 +49,7 @@ use Rattle.algebra.proofs.Rings.PowerProduct.{CoprimeAtoms}
 use Rattle.bridge.proofs.Basics.Searches.{T-same, T-decided, false-T, not-false, some-range}
 use Rattle.bridge.proofs.Basics.Searches.{range-some, none-member, none-at, getD-member}
 use Rattle.bridge.proofs.Basics.Interpretation.{IsField, size-positive, mul-below, number-add-zero}
-use Rattle.bridge.proofs.Basics.Interpretation.{number-zero-mul, inRange-isField}
+use Rattle.bridge.proofs.Basics.Interpretation.{number-zero-mul, named-isField}
 use Rattle.bridge.proofs.Lists.Multiples.{multiples-ten, multiples-eleven}
 use Rattle.bridge.proofs.Lists.Polynomials.{polyRing, poly, poly-times, monic-poly, monic-list}
 use Rattle.bridge.proofs.Lists.Polynomials.{monic-equal, times-monic, degree-times, monic-nonempty}
@@ -59,7 +61,6 @@ use Rattle.bridge.proofs.Lists.Polynomials.{monic-last, elements-uncons
 use Rattle.bridge.proofs.Lists.Products.{times-comm, accepted-monic, MonicFactors, factorAt-factorsOf}
 use Rattle.bridge.proofs.Lists.Products.{polys, length-factorsOf}
 use Rattle.bridge.proofs.Lists.Monics.{some-monics, monics-some}
-use Rattle.bridge.proofs.Ways.Accepted.{prime-accepted}
 
 module _ (F : Field) where
   pub record Factorisation (f : Polynomial) : Type 0 where
@@ -485,45 +486,42 @@ unfolding factorDegreeOutOfRange
 accepted-degree F [] l h = absurd (not-suc-le-zero l)
 accepted-degree F (c ∷ f) l h = degree-passed F (degree (c ∷ f)) h
 
--- 12 of a factor that 6, 10 and 11 let pass, and of one that one of them turns down
-module _ (p : ℕ) (f : Polynomial) where
+-- 12 of a factor that 10 and 11 let pass
+module _ (F : Field) (f : Polynomial) where
   pub reducible-asked :
-      notPrime p ≡ false
-      → factorDegreeOutOfRange (prime p) f ≡ false
-      → notMonic (prime p) f ≡ false
-      → isReducible p f ≡ not (irreducible (prime p) f)
+      factorDegreeOutOfRange F f ≡ false
+      → notMonic F f ≡ false
+      → isReducible F f ≡ not (irreducible F f)
   unfolding isReducible isAsked
-  reducible-asked six ten eleven = rw (six, ten, eleven, isReducible, isAsked)
+  reducible-asked ten eleven = rw (ten, eleven, isReducible, isAsked)
 
   pub accepted-irreducible :
-      notPrime p ≡ false
-      → factorDegreeOutOfRange (prime p) f ≡ false
-      → notMonic (prime p) f ≡ false
-      → isReducible p f ≡ false
-      → T (irreducible (prime p) f)
-  accepted-irreducible six ten eleven twelve =
-      not-false (irreducible (prime p) f) (sym (reducible-asked six ten eleven) ∙ twelve)
+      factorDegreeOutOfRange F f ≡ false
+      → notMonic F f ≡ false
+      → isReducible F f ≡ false
+      → T (irreducible F f)
+  accepted-irreducible ten eleven twelve =
+      not-false (irreducible F f) (sym (reducible-asked ten eleven) ∙ twelve)
 
 pub accepted-factors :
-    (p : ℕ) (fs : List Polynomial)
-    → notPrime p ≡ false
-    → holdsForSome (factorDegreeOutOfRange (prime p)) fs ≡ false
-    → holdsForSome (notMonic (prime p)) fs ≡ false
-    → holdsForSome (isReducible p) fs ≡ false
+    (F : Field) (fs : List Polynomial)
+    → holdsForSome (factorDegreeOutOfRange F) fs ≡ false
+    → holdsForSome (notMonic F) fs ≡ false
+    → holdsForSome (isReducible F) fs ≡ false
     → twoEqual fs ≡ false
-    → Factors (prime p) fs
-accepted-factors p fs six ten eleven twelve thirteen =
+    → Factors F fs
+accepted-factors F fs ten eleven twelve thirteen =
     record {
       monic = monic-at;
       positive =
           λ i l.
-          accepted-degree (prime p) (getD fs i []) (monic-nonempty (prime p) (getD fs i []) (monic-at i l))
-          (passed (factorDegreeOutOfRange (prime p)) ten i l);
+          accepted-degree F (getD fs i []) (monic-nonempty F (getD fs i []) (monic-at i l))
+          (passed (factorDegreeOutOfRange F) ten i l);
       irreducibles =
           λ i l.
-          accepted-irreducible p (getD fs i []) six (passed (factorDegreeOutOfRange (prime p)) ten i l)
-          (passed (notMonic (prime p)) eleven i l)
-          (passed (isReducible p) twelve i l);
+          accepted-irreducible F (getD fs i []) (passed (factorDegreeOutOfRange F) ten i l)
+          (passed (notMonic F) eleven i l)
+          (passed (isReducible F) twelve i l);
       different = twoEqual-different fs thirteen;
     }
   where
@@ -535,21 +533,19 @@ accepted-factors p fs six ten eleven twelve thirteen =
         → t (getD fs i []) ≡ false
     passed t e i l = none-at t [] fs i e l
 
-    monic-at : (i : ℕ) → i < length fs → T (isMonicOver (prime p) (getD fs i []))
-    monic-at i l = accepted-monic (prime p) (getD fs i []) (passed (notMonic (prime p)) eleven i l)
+    monic-at : (i : ℕ) → i < length fs → T (isMonicOver F (getD fs i []))
+    monic-at i l = accepted-monic F (getD fs i []) (passed (notMonic F) eleven i l)
 
--- factors whose multiples 12 and 13 let pass, where 6, 10 and 11 let the factors pass
+-- factors whose multiples 12 and 13 let pass, where 10 and 11 let the factors pass
 pub multiples-factors :
-    (p : ℕ) (fs : List Polynomial)
-    → notPrime p ≡ false
-    → holdsForSome (factorDegreeOutOfRange (prime p)) fs ≡ false
-    → holdsForSome (coefficientOutOfRange (prime p)) fs ≡ false
-    → holdsForSome (isReducible p) (map (monicMultiple (prime p)) fs) ≡ false
-    → twoEqual (map (monicMultiple (prime p)) fs) ≡ false
-    → Factors (prime p) (map (monicMultiple (prime p)) fs)
-multiples-factors p fs six ten eleven twelve thirteen =
-    let I = inRange-isField p (prime-accepted p six) in
-    accepted-factors p (map (monicMultiple (prime p)) fs) six (multiples-ten I fs eleven ten)
+    {F : Field} (I : IsField F) (fs : List Polynomial)
+    → holdsForSome (factorDegreeOutOfRange F) fs ≡ false
+    → holdsForSome (coefficientOutOfRange F) fs ≡ false
+    → holdsForSome (isReducible F) (map (monicMultiple F) fs) ≡ false
+    → twoEqual (map (monicMultiple F) fs) ≡ false
+    → Factors F (map (monicMultiple F) fs)
+multiples-factors {F} I fs ten eleven twelve thirteen =
+    accepted-factors F (map (monicMultiple F) fs) (multiples-ten I fs eleven ten)
     (multiples-eleven I fs eleven) twelve thirteen
 
 pub single-factor :
@@ -571,17 +567,17 @@ single-factor F f m l i =
     only P h (suc i) l = absurd (omega arith)
 
 -- the factors that `acceptedFactors` accepts
-module _ (p : ℕ) (fs : List Polynomial) (us : List ℕ) (accepted : T (acceptedFactors p fs us)) where
-  pub accepted-prime : T (primeInRange p)
-  unfolding factorTable
-  accepted-prime = prime-accepted p (accepted-passes p fs us accepted .fieldExists)
+module _ (name : FieldName) (fs : List Polynomial) (us : List ℕ) (accepted : T (acceptedFactors name fs us))
+  where
+    pub accepted-isField : IsField (namedField name)
+    accepted-isField = named-isField name (accepted-field name fs us accepted)
 
-  pub accepted-different : Factors (prime p) (map (monicMultiple (prime p)) fs)
-  unfolding factorTable
-  accepted-different =
-      let x = accepted-passes p fs us accepted in
-      multiples-factors p fs (x .fieldExists) (x .degreesInRange) (x .coefficientsInRange) (x .irreducible)
-      (x .different)
+    pub accepted-different : Factors (namedField name) (map (monicMultiple (namedField name)) fs)
+    unfolding factorTable
+    accepted-different =
+        let x = accepted-passes name fs us accepted in
+        multiples-factors accepted-isField fs (x .degreesInRange) (x .coefficientsInRange) (x .irreducible)
+        (x .different)
 
 module _ {F : Field} (I : IsField F) where
   pub factors-atoms :

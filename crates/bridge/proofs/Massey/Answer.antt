@@ -24,7 +24,7 @@ use lib.ListN.{length, getD, take, drop, take-append-drop, List·getD-eq-default
 use lib.Seq.{length-take-le}
 use lib.Dec.{T}
 use Rattle.meaning.specs.Search.{mapOption}
-use Rattle.meaning.specs.Field.{Field, prime, primeInRange, areElements}
+use Rattle.meaning.specs.Field.{Field, areElements}
 use Rattle.meaning.specs.Polynomial.{degree, isMonicOver, plus, scale}
 use Rattle.meaning.specs.Sequence.{actAt, known}
 use Rattle.meaning.specs.Free.{leastDegree, Fits, isUnique}
@@ -37,7 +37,7 @@ use Rattle.algebra.proofs.Sequences.Action.{act, act-add, act-one, act-x-power-
 use Rattle.algebra.proofs.Sequences.MasseyStep.{shift, State, start, step-same}
 use Rattle.algebra.proofs.Sequences.MasseyStep.{discrepancy as algebra-discrepancy}
 use Rattle.algebra.proofs.Sequences.MasseyStep.{step-kept as algebra-kept, step-changed as algebra-changed}
-use Rattle.bridge.proofs.Basics.Interpretation.{IsField, inRange-isField, element-add, element-mul}
+use Rattle.bridge.proofs.Basics.Interpretation.{IsField, element-add, element-mul}
 use Rattle.bridge.proofs.Basics.Interpretation.{element-negative, element-nonzero}
 use Rattle.bridge.proofs.Basics.Interpretation.{add-below, mul-below}
 use Rattle.bridge.proofs.Lists.Polynomials.{Poly, polyRing, poly, poly-nil, poly-one, poly-plus}
@@ -380,19 +380,16 @@ module _ {F : Field} (I : IsField F) (inverse : ℕ → ℕ) (v : Inverts F inve
   massey-least = least-leastDegree I (fit-least I ts (massey-right (length ts) .state .shortest))
 
 -- The figures of the free way
-abbrev pub InvertsPrimes : (Field → ℕ → ℕ) → Type 0
-InvertsPrimes inverse = (p : ℕ) → T (primeInRange p) → Inverts (prime p) (inverse (prime p))
-
-module _ (inverse : Field → ℕ → ℕ) (v : InvertsPrimes inverse) (p : ℕ) (ts : List ℕ) where
-  pub massey-reading :
-      T (primeInRange p)
-      → freeFigures (prime p) ts
-      ≡ some
-      (record {
-        degree = masseyDegree (prime p) (inverse (prime p)) ts;
-        unique = isUnique ts (masseyDegree (prime p) (inverse (prime p)) ts);
-      })
-  unfolding freeFigures mapOption
-  massey-reading q =
-      ap (mapOption (λ e. record { degree = e; unique = isUnique ts e }))
-      (massey-least (inRange-isField p q) (inverse (prime p)) (v p q) ts)
+pub massey-reading :
+    {F : Field} (I : IsField F) (inverse : ℕ → ℕ)
+    → Inverts F inverse
+    → (ts : List ℕ)
+    → freeFigures F ts
+    ≡ some
+    (record {
+      degree = masseyDegree F inverse ts;
+      unique = isUnique ts (masseyDegree F inverse ts);
+    })
+unfolding freeFigures mapOption
+massey-reading I inverse v ts =
+    ap (mapOption (λ e. record { degree = e; unique = isUnique ts e })) (massey-least I inverse v ts)

@@ -27,11 +27,11 @@ use native.Mathlib.Decide.{decLt}
 use native.Mathlib.Omega.{arith}
 use lib.ListN.{length, getD, List·getD-append, List·getD-eq-default}
 use lib.Dec.{T}
-use Rattle.meaning.specs.Field.{Field, prime, areElements, negative}
+use Rattle.meaning.specs.Field.{Field, areElements, negative}
 use Rattle.meaning.specs.Polynomial.{Polynomial, degree, isMonicOver}
 use Rattle.meaning.specs.Sequence.{known}
 use Rattle.meaning.specs.Result.{answered}
-use Rattle.meaning.specs.Free.{Fits, Precedes, isUnique, freeTable, rateFree}
+use Rattle.meaning.specs.Free.{Fits, Precedes, isUnique, freeTable, freeIn}
 use Rattle.meaning.proofs.Passes.{Passes}
 use Rattle.algebra.proofs.Rings.Ring.{Ring, sub-zero-of-eq, eq-of-sub-zero}
 use Rattle.algebra.proofs.Rings.Solver.{solve, _:=_, _:+_, _:*_, :-_}
@@ -41,7 +41,7 @@ use Rattle.algebra.proofs.Polynomials.Monic.{Monic, Degree}
 use Rattle.algebra.proofs.Sequences.Massey.{Fits as AlgebraFits}
 use Rattle.algebra.proofs.Sequences.MasseyStep.{State, below-shift}
 use Rattle.algebra.proofs.Sequences.FirstFit.{earlier-room, fits-window, fits-reduced}
-use Rattle.bridge.proofs.Basics.Interpretation.{IsField, inRange-isField, element-negative}
+use Rattle.bridge.proofs.Basics.Interpretation.{IsField, element-negative}
 use Rattle.bridge.proofs.Basics.Interpretation.{element-injective}
 use Rattle.bridge.proofs.Basics.Interpretation.{number-add-negative, number-mul-comm, number-one-mul}
 use Rattle.bridge.proofs.Basics.Interpretation.{number-mul-zero, number-add-zero, negative-below}
@@ -53,11 +53,11 @@ use Rattle.bridge.proofs.Lists.Polynomials.{leading-monic, monic-elemen
 use Rattle.bridge.proofs.Lists.Polynomials.{monic-poly, monic-equal}
 use Rattle.bridge.proofs.Sequences.Actions.{sequence}
 use Rattle.bridge.proofs.Ways.Fitting.{fits-algebra, algebra-fits, leastDegree-least, only-first}
-use Rattle.bridge.proofs.Ways.Fitting.{FirstFit, free-prime, free-answer}
+use Rattle.bridge.proofs.Ways.Fitting.{FirstFit, free-answer}
 use Rattle.bridge.proofs.Massey.Steps.{MasseyState, kept, length-kept}
 use Rattle.bridge.proofs.Massey.Steps.{kept-within, masseyAfter}
 use Rattle.bridge.proofs.Massey.Steps.{masseyDegree, massey-earlier}
-use Rattle.bridge.proofs.Massey.Answer.{Inverts, InvertsPrimes, x^, lead-kept, kept-elements}
+use Rattle.bridge.proofs.Massey.Answer.{Inverts, x^, lead-kept, kept-elements}
 use Rattle.bridge.proofs.Massey.Answer.{MasseyRight, massey-right, massey-elements, massey-fits}
 use Rattle.bridge.proofs.Massey.Answer.{massey-least}
 
@@ -333,22 +333,18 @@ module _ {F : Field} (I : IsField F) (inverse : ℕ → ℕ) (v : Inverts F inve
 
 -- The free way
 pub massey-answer :
-    (inverse : Field → ℕ → ℕ)
-    → InvertsPrimes inverse
-    → (p : ℕ) (ts : List ℕ) (answer work : ℕ)
-    → Passes (freeTable p ts answer work)
-    → rateFree p ts answer work
+    {F : Field} (I : IsField F) (inverse : ℕ → ℕ)
+    → Inverts F inverse
+    → (ts : List ℕ) (answer work : ℕ)
+    → Passes (freeTable F ts answer work)
+    → freeIn F ts answer work
     ≡ answered
     (record {
       figures = record {
-        degree = masseyDegree (prime p) (inverse (prime p)) ts;
-        unique = isUnique ts (masseyDegree (prime p) (inverse (prime p)) ts);
+        degree = masseyDegree F inverse ts;
+        unique = isUnique ts (masseyDegree F inverse ts);
       };
-      polynomial = masseyFirst (prime p) (inverse (prime p)) ts;
+      polynomial = masseyFirst F inverse ts;
     })
-massey-answer inverse v p ts answer work h =
-    let q = free-prime p ts answer work h in
-    let I = inRange-isField p q in
-    free-answer p ts answer work h
-    (massey-least I (inverse (prime p)) (v p q) ts)
-    (massey-first I (inverse (prime p)) (v p q) ts)
+massey-answer I inverse v ts answer work h =
+    free-answer I ts answer work h (massey-least I inverse v ts) (massey-first I inverse v ts)

@@ -15,41 +15,43 @@ use mathlib.Core.List.{List, [], _∷_, map}
 use mathlib.Core.Option.{Option, some}
 use lib.ListN.{length, length-map}
 use lib.Dec.{T, T-not, eqb, ltb, ltb→lt, lt→ltb, eqb→eq}
+use Rattle.meaning.specs.declared.FieldName.{FieldName}
 use Rattle.meaning.specs.Search.{bind, isNone, holdsForSome}
-use Rattle.meaning.specs.Field.{prime, primeInRange, areElements}
+use Rattle.meaning.specs.Field.{Field, areElements}
 use Rattle.meaning.specs.Polynomial.{Polynomial, degree, power, product, monicMultiple}
 use Rattle.meaning.specs.Sequence.{annihilatesKnown}
 use Rattle.meaning.specs.Result.{answered, Rated}
-use Rattle.meaning.specs.Conditions.{named, totalDegree, notPrime, countOutOfRange, termOutOfField}
+use Rattle.meaning.specs.Conditions.{named, totalDegree, countOutOfRange, termOutOfField}
 use Rattle.meaning.specs.Conditions.{isReducible}
 use Rattle.meaning.specs.Conditions.{factorCountOutOfRange, factorDegreeOutOfRange, twoEqual}
 use Rattle.meaning.specs.Conditions.{coefficientOutOfRange}
 use Rattle.meaning.specs.Conditions.{upperPowersOutOfRange, fewerTermsThan, lentTooShort, acceptedLent}
+use Rattle.meaning.specs.FieldNames.{namedField}
 use Rattle.meaning.specs.Power.{PowerFigures, powerRating}
 use Rattle.meaning.specs.Repeat.{shortestPeriod}
-use Rattle.meaning.specs.Period.{periodPower, periodTable, periodAnswer, ratePeriod}
+use Rattle.meaning.specs.Period.{periodPower, periodTable, periodAnswer, periodIn, ratePeriod}
 use Rattle.meaning.specs.Portion.{setPowers, setRating, setTable, setAnswer}
-use Rattle.meaning.specs.Portion.{rateSet, factorTable, acceptedFactors}
+use Rattle.meaning.specs.Portion.{setIn, rateSet, factorTable, acceptedFactors}
 use Rattle.meaning.specs.Free.{freeTable}
-use Rattle.meaning.proofs.Tables.{of-one}
-use Rattle.meaning.proofs.Passes.{Passes, _&_, nothing, accepted-passes}
+use Rattle.meaning.proofs.Tables.{in-field, of-one}
+use Rattle.meaning.proofs.Passes.{Passes, _&_, nothing, accepted-field, accepted-passes}
 use Rattle.bridge.proofs.Basics.Searches.{T-false, T-not-false, answered-settle, bind-some}
 use Rattle.bridge.proofs.Basics.Searches.{mapOption-some}
 use Rattle.bridge.proofs.Basics.Searches.{false-T, not-false, or-false, some-bind, some-mapOption}
-use Rattle.bridge.proofs.Basics.Interpretation.{inRange-isField}
+use Rattle.bridge.proofs.Basics.Interpretation.{named-isField}
 use Rattle.bridge.proofs.Lists.Products.{factorsOf-named, length-named}
 use Rattle.bridge.proofs.Lists.Multiples.{multiples-uppers}
 
 -- terms that 7 and 8 do not turn down
-pub record AcceptedTerms (p : ℕ) (ts : List ℕ) : Type 0 where
+pub record AcceptedTerms (F : Field) (ts : List ℕ) : Type 0 where
   pub atLeastOne : 1 ≤ length ts
   pub notMany : length ts ≤ 4096
-  pub inField : T (areElements (prime p) ts)
+  pub inField : T (areElements F ts)
 
 -- 7 and 8 pass accepted terms
-pub count-passes : (p : ℕ) (ts : List ℕ) → AcceptedTerms p ts → countOutOfRange (length ts) ≡ false
+pub count-passes : (F : Field) (ts : List ℕ) → AcceptedTerms F ts → countOutOfRange (length ts) ≡ false
 unfolding countOutOfRange
-count-passes p ts t =
+count-passes F ts t =
     neither (eqb (length ts) 0) (ltb 4096 (length ts))
     (λ z. omega (arith, eqb→eq (length ts) 0 z, t .atLeastOne))
     (λ z. omega (arith, ltb→lt 4096 (length ts) z, t .notMany))
@@ -59,9 +61,9 @@ count-passes p ts t =
     neither false true h k = absurd (k tt)
     neither false false h k = refl
 
-pub terms-pass : (p : ℕ) (ts : List ℕ) → AcceptedTerms p ts → termOutOfField (prime p) ts ≡ false
+pub terms-pass : (F : Field) (ts : List ℕ) → AcceptedTerms F ts → termOutOfField F ts ≡ false
 unfolding termOutOfField
-terms-pass p ts t = T-not-false (areElements (prime p) ts) (t .inField)
+terms-pass F ts t = T-not-false (areElements F ts) (t .inField)
 
 -- 15 passes enough terms, 16 accepted lent bytes, 17 annihilated terms
 pub enough-pass : (d : ℕ) (ts : List ℕ) → d ≤ length ts → fewerTermsThan d ts ≡ false
@@ -73,10 +75,10 @@ unfolding acceptedLent
 lent-pass answer work h = T-false (T-not (lentTooShort answer work) h)
 
 pub annihilated-pass :
-    (p : ℕ) (g : Polynomial) (ts : List ℕ)
-    → T (annihilatesKnown (prime p) g ts)
-    → not (annihilatesKnown (prime p) g ts) ≡ false
-annihilated-pass p g ts h = T-not-false (annihilatesKnown (prime p) g ts) h
+    (F : Field) (g : Polynomial) (ts : List ℕ)
+    → T (annihilatesKnown F g ts)
+    → not (annihilatesKnown F g ts) ≡ false
+annihilated-pass F g ts h = T-not-false (annihilatesKnown F g ts) h
 
 -- What it says that a condition does not hold
 pub count-accepted : (n : ℕ) → countOutOfRange n ≡ false → (1 ≤ n) × (n ≤ 4096)
@@ -88,13 +90,9 @@ count-accepted n h =
     (omega arith, omega arith)
 
 pub terms-accepted :
-    (p : ℕ) (ts : List ℕ) → termOutOfField (prime p) ts ≡ false → T (areElements (prime p) ts)
+    (F : Field) (ts : List ℕ) → termOutOfField F ts ≡ false → T (areElements F ts)
 unfolding termOutOfField
-terms-accepted p ts h = not-false (areElements (prime p) ts) h
-
-pub prime-accepted : (p : ℕ) → notPrime p ≡ false → T (primeInRange p)
-unfolding notPrime
-prime-accepted p h = not-false (primeInRange p) h
+terms-accepted F ts h = not-false (areElements F ts) h
 
 pub enough-accepted : (d : ℕ) (ts : List ℕ) → fewerTermsThan d ts ≡ false → d ≤ length ts
 unfolding fewerTermsThan
@@ -119,128 +117,134 @@ total-accepted l h =
 
 -- THE FREE WAY
 pub accepts-free :
-    (p : ℕ) (ts : List ℕ) (answer work : ℕ)
-    → T (primeInRange p)
-    → AcceptedTerms p ts
+    (F : Field) (ts : List ℕ) (answer work : ℕ)
+    → AcceptedTerms F ts
     → T (acceptedLent answer work)
-    → Passes (freeTable p ts answer work)
-unfolding freeTable notPrime
-accepts-free p ts answer work h t lent =
-    T-not-false (primeInRange p) h
-    & count-passes p ts t
-    & terms-pass p ts t
+    → Passes (freeTable F ts answer work)
+unfolding freeTable
+accepts-free F ts answer work t lent =
+    count-passes F ts t
+    & terms-pass F ts t
     & lent-pass answer work lent
     & nothing
 
 -- the monic multiples of the factors, with their upper powers
-abbrev pub multiplesNamed : ℕ → List Polynomial → List ℕ → List (Polynomial × ℕ)
-multiplesNamed p fs vs = named (map (monicMultiple (prime p)) fs) vs
+abbrev pub multiplesNamed : Field → List Polynomial → List ℕ → List (Polynomial × ℕ)
+multiplesNamed F fs vs = named (map (monicMultiple F) fs) vs
 
 -- THE SET WAY
 module _
-    (p : ℕ) (fs : List Polynomial) (vs ts : List ℕ) (answer work : ℕ)
-    (factors : T (acceptedFactors p fs vs)) (t : AcceptedTerms p ts)
+    (name : FieldName) (fs : List Polynomial) (vs ts : List ℕ) (answer work : ℕ)
+    (factors : T (acceptedFactors name fs vs)) (t : AcceptedTerms (namedField name) ts)
     (lent : T (acceptedLent answer work))
-    (enough : totalDegree (multiplesNamed p fs vs) ≤ length ts)
-    (annihilated : T (annihilatesKnown (prime p) (product (prime p) (multiplesNamed p fs vs)) ts))
+    (enough : totalDegree (multiplesNamed (namedField name) fs vs) ≤ length ts)
+    (annihilated :
+    T
+    (annihilatesKnown (namedField name) (product (namedField name) (multiplesNamed (namedField name) fs vs))
+    ts))
   where
+    abbrev F : Field
+    F = namedField name
+
     abbrev gs : List Polynomial
-    gs = map (monicMultiple (prime p)) fs
+    gs = map (monicMultiple F) fs
 
     set-passes :
         Passes
-        (setTable p
-        (holdsForSome (factorDegreeOutOfRange (prime p)) fs)
-        (holdsForSome (coefficientOutOfRange (prime p)) fs)
+        (setTable F
+        (holdsForSome (factorDegreeOutOfRange F) fs)
+        (holdsForSome (coefficientOutOfRange F) fs)
         (named gs vs)
         ts
         answer
         work)
     unfolding setTable factorTable
     set-passes =
-        let x = accepted-passes p fs vs factors in
-        x .fieldExists
-        & count-passes p ts t
-        & terms-pass p ts t
-        & ap factorCountOutOfRange (length-named gs vs ∙ length-map fs (monicMultiple (prime p)))
+        let x = accepted-passes name fs vs factors in
+        count-passes F ts t
+        & terms-pass F ts t
+        & ap factorCountOutOfRange (length-named gs vs ∙ length-map fs (monicMultiple F))
         ∙ x .factorCount
         & x .degreesInRange
         & x .coefficientsInRange
-        & ap (holdsForSome (isReducible p)) (factorsOf-named gs vs) ∙ x .irreducible
+        & ap (holdsForSome (isReducible F)) (factorsOf-named gs vs) ∙ x .irreducible
         & ap twoEqual (factorsOf-named gs vs) ∙ x .different
-        & multiples-uppers (inRange-isField p (prime-accepted p (x .fieldExists))) fs vs
+        & multiples-uppers (named-isField name (accepted-field name fs vs factors)) fs vs
         (x .coefficientsInRange)
         ∙ x .uppersInRange
         & enough-pass (totalDegree (named gs vs)) ts enough
         & lent-pass answer work lent
-        & annihilated-pass p (product (prime p) (named gs vs)) ts annihilated
+        & annihilated-pass F (product F (named gs vs)) ts annihilated
         & nothing
 
     pub set-answer :
         {rs : List ℕ}
-        → setPowers (prime p) (named gs vs) ts ≡ some rs
-        → rateSet p fs vs ts answer work ≡ answered (setRating (prime p) (named gs vs) ts rs)
-    unfolding rateSet setAnswer
-    set-answer e = answered-settle _ _ set-passes (mapOption-some (setRating (prime p) (named gs vs) ts) e)
+        → setPowers F (named gs vs) ts ≡ some rs
+        → rateSet name fs vs ts answer work ≡ answered (setRating F (named gs vs) ts rs)
+    unfolding rateSet setIn setAnswer
+    set-answer e =
+        in-field name _ (accepted-field name fs vs factors)
+        ∙ answered-settle _ _ set-passes (mapOption-some (setRating F (named gs vs) ts) e)
 
 -- THE PERIOD WAY
 -- the answer with a power, where the repeat length is known
-unfoldable pub rating-of : (p : ℕ) (f : Polynomial) (r n : ℕ) → Rated PowerFigures
-rating-of p f r n =
+unfoldable pub rating-of : (F : Field) (f : Polynomial) (r n : ℕ) → Rated PowerFigures
+rating-of F f r n =
     record {
-      figures = record { power = r; degree = degree (power (prime p) f r); repeat = n };
-      polynomial = power (prime p) f r;
+      figures = record { power = r; degree = degree (power F f r); repeat = n };
+      polynomial = power F f r;
     }
 
 pub rating-degree :
-    (p : ℕ) (f : Polynomial) (r n : ℕ) → degree (power (prime p) f r) ≡ rating-of p f r n .figures .degree
+    (F : Field) (f : Polynomial) (r n : ℕ) → degree (power F f r) ≡ rating-of F f r n .figures .degree
 unfolding rating-of
-rating-degree p f r n = refl
+rating-degree F f r n = refl
 
 pub rating-polynomial :
-    (p : ℕ) (f : Polynomial) (r n : ℕ) → rating-of p f r n .polynomial ≡ power (prime p) f r
+    (F : Field) (f : Polynomial) (r n : ℕ) → rating-of F f r n .polynomial ≡ power F f r
 unfolding rating-of
-rating-polynomial p f r n = refl
+rating-polynomial F f r n = refl
 
 pub power-rated :
-    (p : ℕ) (f : Polynomial) (ts : List ℕ) (r n : ℕ)
+    (F : Field) (f : Polynomial) (ts : List ℕ) (r n : ℕ)
     → shortestPeriod ts ≡ some n
-    → powerRating (prime p) f ts r ≡ some (rating-of p f r n)
+    → powerRating F f ts r ≡ some (rating-of F f r n)
 unfolding powerRating rating-of
-power-rated p f ts r n e = mapOption-some _ e
+power-rated F f ts r n e = mapOption-some _ e
 
 -- the power and the repeat length of an answer with a power
 pub rated-power :
-    (p : ℕ) (f : Polynomial) (ts : List ℕ) (o : Option ℕ) {a : Rated PowerFigures}
-    → bind o (powerRating (prime p) f ts) ≡ some a
-    → (r n : ℕ) × (o ≡ some r) × (shortestPeriod ts ≡ some n) × (rating-of p f r n ≡ a)
+    (F : Field) (f : Polynomial) (ts : List ℕ) (o : Option ℕ) {a : Rated PowerFigures}
+    → bind o (powerRating F f ts) ≡ some a
+    → (r n : ℕ) × (o ≡ some r) × (shortestPeriod ts ≡ some n) × (rating-of F f r n ≡ a)
 unfolding powerRating rating-of
-rated-power p f ts o e =
-    let (r, y, z) = some-bind o (powerRating (prime p) f ts) e in
+rated-power F f ts o e =
+    let (r, y, z) = some-bind o (powerRating F f ts) e in
     let (n, s, t) = some-mapOption _ (shortestPeriod ts) z in
     (r, n, y, s, t)
 
 pub period-answer :
-    (p : ℕ) (f : Polynomial) (ts : List ℕ) (answer work r n : ℕ) (vs : List ℕ)
-    → T (acceptedFactors p (f ∷ []) vs)
-    → AcceptedTerms p ts
+    (name : FieldName) (f : Polynomial) (ts : List ℕ) (answer work r n : ℕ) (vs : List ℕ)
+    → T (acceptedFactors name (f ∷ []) vs)
+    → AcceptedTerms (namedField name) ts
     → T (acceptedLent answer work)
-    → let g = monicMultiple (prime p) f in
-    periodPower (prime p) g ts ≡ some r
+    → let g = monicMultiple (namedField name) f in
+    periodPower (namedField name) g ts ≡ some r
     → shortestPeriod ts ≡ some n
-    → ratePeriod p f ts answer work ≡ answered (rating-of p g r n)
-unfolding ratePeriod periodAnswer periodTable factorTable isNone
-period-answer p f ts answer work r n vs h t lent found repeat =
-    let x = accepted-passes p (f ∷ []) vs h in
-    let g = monicMultiple (prime p) f in
-    answered-settle _ _
-    (x .fieldExists
-    & count-passes p ts t
-    & terms-pass p ts t
+    → ratePeriod name f ts answer work ≡ answered (rating-of (namedField name) g r n)
+unfolding ratePeriod periodIn periodAnswer periodTable factorTable isNone
+period-answer name f ts answer work r n vs h t lent found repeat =
+    let F = namedField name in
+    let x = accepted-passes name (f ∷ []) vs h in
+    let g = monicMultiple F f in
+    in-field name _ (accepted-field name (f ∷ []) vs h)
+    ∙ answered-settle _ _
+    (count-passes F ts t
+    & terms-pass F ts t
     & of-one _ f (x .degreesInRange)
     & of-one _ f (x .coefficientsInRange)
     & of-one _ g (x .irreducible)
     & lent-pass answer work lent
     & ap isNone found
     & nothing)
-    (bind-some (powerRating (prime p) g ts) found ∙ power-rated p g ts r n repeat)
+    (bind-some (powerRating F g ts) found ∙ power-rated F g ts r n repeat)

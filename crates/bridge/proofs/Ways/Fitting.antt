@@ -34,13 +34,13 @@ use native.Mathlib.Decide.{decLt, ℕ-discrete}
 use native.Mathlib.Omega.{arith}
 use lib.ListN.{length, getD}
 use lib.Dec.{T, leb→le, le→leb}
-use Rattle.meaning.specs.Field.{Field, prime, primeInRange, areElements}
+use Rattle.meaning.specs.Field.{Field, areElements}
 use Rattle.meaning.specs.Polynomial.{Polynomial, degree, isMonicOver, monics}
 use Rattle.meaning.specs.Sequence.{Sequence, known, annihilatesKnown, cut, AnnihilatesEndless}
 use Rattle.meaning.specs.Sequence.{MinimalPolynomial}
 use Rattle.meaning.specs.Result.{Result, answered, Rated}
 use Rattle.meaning.specs.Free.{fitsDegree, leastDegree, Fits, IsLeastDegree, isUnique, FreeFigures}
-use Rattle.meaning.specs.Free.{Precedes, freePolynomial, freeRating, freeTable, rateFree}
+use Rattle.meaning.specs.Free.{Precedes, freePolynomial, freeRating, freeTable, freeIn}
 use Rattle.meaning.proofs.Passes.{Passes}
 use Rattle.algebra.proofs.Polynomials.Polynomial.{coefficient}
 use Rattle.algebra.proofs.Sequences.Action.{Agree}
@@ -51,7 +51,7 @@ use Rattle.bridge.proofs.Basics.Searches.{T-true, true-T}
 use Rattle.bridge.proofs.Basics.Searches.{least-some, least-found, least-exists, bind-some, some-bind}
 use Rattle.bridge.proofs.Basics.Searches.{mapOption-some, some-mapOption, answered-settle}
 use Rattle.bridge.proofs.Basics.Searches.{settle-answered}
-use Rattle.bridge.proofs.Basics.Interpretation.{IsField, inRange-isField, element-nonzero}
+use Rattle.bridge.proofs.Basics.Interpretation.{IsField, element-nonzero}
 use Rattle.bridge.proofs.Lists.Polynomials.{Poly, poly, coefficient-poly, getD-below, monic-list}
 use Rattle.bridge.proofs.Lists.Polynomials.{monic-equal}
 use Rattle.bridge.proofs.Lists.Monics.{monicAt, monicAt-monic, degree-monicAt, some-monics}
@@ -61,7 +61,6 @@ use Rattle.bridge.proofs.Ways.Precedence.{monics-sorted, first-found, f
 use Rattle.bridge.proofs.Sequences.Actions.{sequence, known-fits, fits-known, places-known, length-cut}
 use Rattle.bridge.proofs.Sequences.Actions.{known-cut, endless-kills, endless-known}
 use Rattle.bridge.proofs.Sequences.Minimal.{minimal-algebra}
-use Rattle.bridge.proofs.Ways.Accepted.{prime-accepted}
 
 -- A list that fits, as a polynomial
 module _ {F : Field} (I : IsField F) where
@@ -283,41 +282,37 @@ module _ {F : Field} (I : IsField F) where
       (x .annihilates)
 
 -- The answer of the free way
-module _ (p : ℕ) (ts : List ℕ) (answer work : ℕ) where
-  pub free-prime : Passes (freeTable p ts answer work) → T (primeInRange p)
-  unfolding freeTable
-  free-prime h = prime-accepted p (h .fieldExists)
-
+module _ {F : Field} (I : IsField F) (ts : List ℕ) (answer work : ℕ) where
   pub free-answer :
       {L : ℕ} {g : Polynomial}
-      → Passes (freeTable p ts answer work)
-      → leastDegree (prime p) ts ≡ some L
-      → FirstFit (prime p) ts L g
-      → rateFree p ts answer work
+      → Passes (freeTable F ts answer work)
+      → leastDegree F ts ≡ some L
+      → FirstFit F ts L g
+      → freeIn F ts answer work
       ≡ answered (record { figures = record { degree = L; unique = isUnique ts L }; polynomial = g })
-  unfolding rateFree freeRating
+  unfolding freeIn freeRating
   free-answer h e x =
-      answered-settle _ (freeTable p ts answer work) h
-      (bind-some (freeRating (prime p) ts) e
-      ∙ mapOption-some _ (first-polynomial (inRange-isField p (free-prime h)) x))
+      answered-settle _ (freeTable F ts answer work) h
+      (bind-some (freeRating F ts) e
+      ∙ mapOption-some _ (first-polynomial I x))
 
   pub free-rated :
       {b : Rated FreeFigures}
-      → rateFree p ts answer work ≡ answered b
-      → Passes (freeTable p ts answer work)
-      × (leastDegree (prime p) ts ≡ some (b .figures .degree))
+      → freeIn F ts answer work ≡ answered b
+      → Passes (freeTable F ts answer work)
+      × (leastDegree F ts ≡ some (b .figures .degree))
       × (b .figures .unique ≡ isUnique ts (b .figures .degree))
-      × FirstFit (prime p) ts (b .figures .degree) (b .polynomial)
-  unfolding rateFree freeRating
+      × FirstFit F ts (b .figures .degree) (b .polynomial)
+  unfolding freeIn freeRating
   free-rated e =
-      let (h, v) = settle-answered _ (freeTable p ts answer work) e in
-      let (L, l, u) = some-bind (leastDegree (prime p) ts) (freeRating (prime p) ts) v in
-      let (g, o, q) = some-mapOption _ (freePolynomial (prime p) ts L) u in
-      let x = polynomial-first (inRange-isField p (free-prime h)) o in (
+      let (h, v) = settle-answered _ (freeTable F ts answer work) e in
+      let (L, l, u) = some-bind (leastDegree F ts) (freeRating F ts) v in
+      let (g, o, q) = some-mapOption _ (freePolynomial F ts L) u in
+      let x = polynomial-first I o in (
         h,
-        subst (λ b. leastDegree (prime p) ts ≡ some (b .figures .degree)) q l,
+        subst (λ b. leastDegree F ts ≡ some (b .figures .degree)) q l,
         subst (λ b. b .figures .unique ≡ isUnique ts (b .figures .degree)) q refl,
-        subst (λ b. FirstFit (prime p) ts (b .figures .degree) (b .polynomial)) q x,
+        subst (λ b. FirstFit F ts (b .figures .degree) (b .polynomial)) q x,
       )
 
 -- Stretches of an endless sequence
@@ -356,27 +351,24 @@ module _ {F : Field} (I : IsField F) where
 
 -- the answer of the free way on such a stretch
 pub stretch-answer :
-    (p : ℕ) (f g : Polynomial) (s : Sequence)
-    → AnnihilatesEndless (prime p) f s
-    → T (areElements (prime p) f)
+    {F : Field} (I : IsField F) (f g : Polynomial) (s : Sequence)
+    → AnnihilatesEndless F f s
+    → T (areElements F f)
     → getD f 0 0 ≢ 0
-    → MinimalPolynomial (prime p) g s
+    → MinimalPolynomial F g s
     → (k m : ℕ)
     → 2 * degree g ≤ m
     → (answer work : ℕ)
-    → Passes (freeTable p (cut s k m) answer work)
-    → rateFree p (cut s k m) answer work
+    → Passes (freeTable F (cut s k m) answer work)
+    → freeIn F (cut s k m) answer work
     ≡ answered (record { figures = record { degree = degree g; unique = true }; polynomial = g })
-stretch-answer p f g s h o z x k m l answer work a =
-    free-answer p (cut s k m) answer work a (least-leastDegree I least)
+stretch-answer {F} I f g s h o z x k m l answer work a =
+    free-answer I (cut s k m) answer work a (least-leastDegree I least)
     (only-first I least (omega (arith, length-cut s k m))
-    (stretch-fits (prime p) g s k m (x .monic) (x .annihilates)))
+    (stretch-fits F g s k m (x .monic) (x .annihilates)))
     ∙ ap rating unique
   where
-    I : IsField (prime p)
-    I = inRange-isField p (free-prime p (cut s k m) answer work a)
-
-    least : IsLeastDegree (prime p) (cut s k m) (degree g)
+    least : IsLeastDegree F (cut s k m) (degree g)
     least = stretch-least I f g s h o z x k m l
 
     unique : isUnique (cut s k m) (degree g) ≡ true

@@ -3,6 +3,7 @@
 use Prim.Native.Nat.{ℕ}
 use mathlib.Core.Path.{_≡_, refl, sym, ap, _∙_}
 use mathlib.Core.List.{List}
+use Rattle.meaning.specs.declared.FieldName.{FieldName}
 use Rattle.meaning.specs.declared.Refusal.{Refusal}
 use Rattle.meaning.specs.declared.Filling.{Filling}
 use Rattle.meaning.specs.Answers.{numberOf, toldFilling}
@@ -11,12 +12,12 @@ use Rattle.meaning.specs.Calls.{ContinueCall}
 use Rattle.meaning.specs.Exports.{statusOf, Filled}
 use Rattle.exports.proofs.Status.{status-map}
 
-module _ {p : ℕ} {g start buffer : List ℕ} {place : ℕ} {a : Filling} {buffer′ : List ℕ}
-    (call : ContinueCall p g start buffer place a buffer′) where
+module _ {name : FieldName} {g start buffer : List ℕ} {place : ℕ} {a : Filling} {buffer′ : List ℕ}
+    (call : ContinueCall name g start buffer place a buffer′) where
   filled : {b : Filling} {k : ℕ}
       → a ≡ b
       → k ≡ statusOf (toldFilling b)
-      → Filled (continueSequence p g start place buffer) buffer k buffer′
+      → Filled (continueSequence name g start place buffer) buffer k buffer′
   filled q i =
       record {
         told =
@@ -27,13 +28,13 @@ module _ {p : ℕ} {g start buffer : List ℕ} {place : ℕ} {a : Filling} {buff
         lent = call .bufferBytes;
       }
 
-  pub told-filled : a ≡ Filling.Filled → Filled (continueSequence p g start place buffer) buffer 0 buffer′
+  pub told-filled : a ≡ Filling.Filled → Filled (continueSequence name g start place buffer) buffer 0 buffer′
   unfolding toldFilling statusOf
   told-filled q = filled q refl
 
   pub told-unfilled : {x : Refusal} {k : ℕ}
       → a ≡ Filling.Refused x
       → k ≡ numberOf x
-      → Filled (continueSequence p g start place buffer) buffer k buffer′
+      → Filled (continueSequence name g start place buffer) buffer k buffer′
   unfolding toldFilling statusOf
   told-unfilled q i = filled q i

@@ -4,6 +4,7 @@ use Prim.Native.Nat.{ℕ}
 use mathlib.Core.Path.{_≡_, refl, sym, ap, subst, _∙_}
 use mathlib.Core.List.{List}
 use lib.ListN.{length}
+use Rattle.meaning.specs.declared.FieldName.{FieldName}
 use Rattle.meaning.specs.declared.Refusal.{Refusal}
 use Rattle.meaning.specs.declared.PowerRating.{PowerRating}
 use Rattle.meaning.specs.Result.{Result}
@@ -13,12 +14,12 @@ use Rattle.meaning.specs.Answers.{numberOf, toldPower}
 use Rattle.meaning.specs.Calls.{PeriodCall}
 use Rattle.meaning.specs.Exports.{statusOf, numberAfter, PowerTold, PowerExported}
 
-module _ {p : ℕ} {f ts answer work : List ℕ} {a : PowerRating} {answer′ work′ : List ℕ}
-    (call : PeriodCall p f ts answer work a answer′ work′) {power degree repeat : ℕ} where
+module _ {name : FieldName} {f ts answer work : List ℕ} {a : PowerRating} {answer′ work′ : List ℕ}
+    (call : PeriodCall name f ts answer work a answer′ work′) {power degree repeat : ℕ} where
   exported : {b : PowerRating} {k power′ degree′ repeat′ : ℕ}
       → a ≡ b
       → PowerTold (toldPower b) power degree repeat k power′ degree′ repeat′
-      → PowerExported (ratePeriod p f ts (length answer) (length work)) answer work power degree repeat k
+      → PowerExported (ratePeriod name f ts (length answer) (length work)) answer work power degree repeat k
       answer′ work′ power′ degree′ repeat′
   exported {k = k} {power′} {degree′} {repeat′} q t =
       record {
@@ -30,7 +31,7 @@ module _ {p : ℕ} {f ts answer work : List ℕ} {a : PowerRating} {answer′ wo
 
   pub period-told : {r d b : ℕ}
       → a ≡ PowerRating.Rated r d b
-      → PowerExported (ratePeriod p f ts (length answer) (length work)) answer work power degree repeat 0
+      → PowerExported (ratePeriod name f ts (length answer) (length work)) answer work power degree repeat 0
       answer′ work′ r d b
   unfolding toldPower statusOf numberAfter
   period-told q =
@@ -39,7 +40,7 @@ module _ {p : ℕ} {f ts answer work : List ℕ} {a : PowerRating} {answer′ wo
   pub period-untold : {x : Refusal} {k : ℕ}
       → a ≡ PowerRating.Refused x
       → k ≡ numberOf x
-      → PowerExported (ratePeriod p f ts (length answer) (length work)) answer work power degree repeat k
+      → PowerExported (ratePeriod name f ts (length answer) (length work)) answer work power degree repeat k
       answer′ work′ power degree repeat
   unfolding toldPower statusOf numberAfter
   period-untold q i =

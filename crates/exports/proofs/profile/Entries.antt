@@ -12,11 +12,14 @@ use mathlib.Core.Bool.{true, false}
 use mathlib.Core.List.{List, [], _∷_, _++_}
 use native.Mathlib.Omega.{arith}
 use lib.ListN.{length, take, set, length-set}
+use Rattle.meaning.specs.declared.FieldName.{FieldName}
 use Rattle.meaning.specs.declared.Refusal.{Refusal}
 use Rattle.meaning.specs.declared.FreeRating.{FreeRating}
 use Rattle.meaning.specs.declared.Meter.{Meter}
 use Rattle.meaning.specs.declared.MeterStep.{MeterStep}
+use Rattle.meaning.specs.Field.{Field}
 use Rattle.meaning.specs.Result.{Result, refused, answered}
+use Rattle.meaning.specs.FieldNames.{namedField}
 use Rattle.meaning.specs.Free.{FreeFigures}
 use Rattle.meaning.specs.Meter.{termTable, takeTerm, meterReading, unlessRefused, profileEntry, readingEntry}
 use Rattle.meaning.specs.Answers.{numberOf, toldFree}
@@ -29,12 +32,12 @@ use Rattle.meter.proofs.Keeping.{holding-reading, holding-numbers}
 use Rattle.exports.specs.profile.Entries.{heldWith, entryOf, Ready, EntryWritten, TermEntered}
 
 -- A meter and lent bytes that are those of another are ready for the same
-pub ready-same : {p : ℕ} {held : List ℕ} {m m′ : Meter} {terms work terms′ work′ : List ℕ}
-    → Ready p held m terms work
+pub ready-same : {name : FieldName} {held : List ℕ} {m m′ : Meter} {terms work terms′ work′ : List ℕ}
+    → Ready name held m terms work
     → m′ ≡ m
     → terms′ ≡ terms
     → work′ ≡ work
-    → Ready p held m′ terms′ work′
+    → Ready name held m′ terms′ work′
 ready-same {held = held} x a b c =
     record {
       holding =
@@ -139,47 +142,50 @@ unfolding toldFree
 entry-missing q = record { entry = λ a t h. never-answered (sym (ap toldFree q) ∙ t) }
 
 -- The meter after a term
-module _ (p : ℕ) (held : List ℕ) {m : Meter} {t : ℕ} {terms work : List ℕ} {s : MeterStep}
-    {terms′ work′ : List ℕ} (x : Ready p held m terms work)
-    (c : TermTaken meterModel p held m t terms work s terms′ work′) where
+module _ (name : FieldName) (held : List ℕ) {m : Meter} {t : ℕ} {terms work : List ℕ} {s : MeterStep}
+    {terms′ work′ : List ℕ} (x : Ready name held m terms work)
+    (c : TermTaken meterModel name held m t terms work s terms′ work′) where
+  abbrev F : Field
+  F = namedField name
+
   after-term : (r : Result FreeFigures)
-      → takeTerm p held t ≡ r
-      → Ready p (unlessRefused r held (held ++ (t ∷ []))) (s .meter) terms′ work′
+      → takeTerm F held t ≡ r
+      → Ready name (unlessRefused r held (held ++ (t ∷ []))) (s .meter) terms′ work′
   unfolding unlessRefused takeTerm
   after-term (refused n) e =
-      ready-same x (c .meter ∙ ap (λ r. unlessRefused r m ((meterModel .meter) p (held ++ (t ∷ [])))) e)
+      ready-same x (c .meter ∙ ap (λ r. unlessRefused r m ((meterModel .meter) name (held ++ (t ∷ [])))) e)
       (c .termBytes ∙ ap (λ r. unlessRefused r terms (set terms (length held) t)) e)
-      (c .workBytes ∙ ap (λ r. unlessRefused r work ((meterModel .work) p (held ++ (t ∷ [])))) e)
+      (c .workBytes ∙ ap (λ r. unlessRefused r work ((meterModel .work) name (held ++ (t ∷ [])))) e)
   after-term (answered a) e =
       ready-same
       (record {
         holding =
-            holding-more meterModel p (x .holding) t (x .size)
-            (settle-answered _ (termTable p (length held) t) e .0);
+            holding-more meterModel name (x .holding) t (x .size)
+            (settle-answered _ (termTable F (length held) t) e .0);
         size = length-set terms (length held) t ∙ x .size;
       })
-      (c .meter ∙ ap (λ r. unlessRefused r m ((meterModel .meter) p (held ++ (t ∷ [])))) e)
+      (c .meter ∙ ap (λ r. unlessRefused r m ((meterModel .meter) name (held ++ (t ∷ [])))) e)
       (c .termBytes ∙ ap (λ r. unlessRefused r terms (set terms (length held) t)) e)
-      (c .workBytes ∙ ap (λ r. unlessRefused r work ((meterModel .work) p (held ++ (t ∷ [])))) e)
+      (c .workBytes ∙ ap (λ r. unlessRefused r work ((meterModel .work) name (held ++ (t ∷ [])))) e)
 
-  ready-with : Ready p (heldWith p held t) (s .meter) terms′ work′
+  ready-with : Ready name (heldWith F held t) (s .meter) terms′ work′
   unfolding heldWith
-  ready-with = after-term (takeTerm p held t) refl
+  ready-with = after-term (takeTerm F held t) refl
 
   -- what the meter then shows has a degree of two bytes
   term-entry : {status : ℕ} {shown : FreeRating} {bytes : List ℕ}
       → status ≡ statusOf (toldFree (s .reading))
       → ReadingCall meterModel (s .meter) shown
       → EntryWritten status shown bytes
-      → bytes ≡ entryOf p held t
+      → bytes ≡ entryOf F held t
   unfolding entryOf readingEntry
   term-entry {status} e r w =
       let h = ready-with .holding in
       let i = holding-reading h in
-      w .entry _ (r .reading p (heldWith p held t) terms′ work′ h ∙ i)
-      (omega (arith, holding-numbers h .1 .0, ap (λ m. m .held) (h .numbers), h .count))
+      w .entry _ (r .reading name (heldWith F held t) terms′ work′ h ∙ i)
+      (omega (arith, holding-numbers h .0, ap (λ m. m .held) (h .numbers), h .count))
       ∙ ap (λ x. readingEntry status x) (sym i)
-      ∙ ap (λ n. readingEntry n (meterReading p (heldWith p held t))) (e ∙ ap statusOf (c .reading))
+      ∙ ap (λ n. readingEntry n (meterReading F (heldWith F held t))) (e ∙ ap statusOf (c .reading))
 
 pub term-entered : {m : Meter} {t : ℕ} {terms work : List ℕ} {s : MeterStep} {terms′ work′ : List ℕ}
     {status : ℕ} {shown : FreeRating} {bytes : List ℕ}
@@ -190,6 +196,6 @@ pub term-entered : {m : Meter} {t : ℕ} {terms work : List ℕ} {s : MeterStep}
     → TermEntered m t terms work (s .meter) terms′ work′ bytes
 term-entered c e r w =
     record {
-      ready = λ p held x. ready-with p held x (c .taken p held (x .holding));
-      entry = λ p held x. term-entry p held x (c .taken p held (x .holding)) e r w;
+      ready = λ name held x. ready-with name held x (c .taken name held (x .holding));
+      entry = λ name held x. term-entry name held x (c .taken name held (x .holding)) e r w;
     }

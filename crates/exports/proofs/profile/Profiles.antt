@@ -15,10 +15,13 @@ use native.Mathlib.Decide.{decLt}
 use native.Mathlib.Omega.{arith}
 use lib.ListN.{length, getD, take, drop, length-append, length-take, length-drop, take-append-drop}
 use lib.Seq.{take-suc, take-all, take-at, drop-at, drop-drop}
+use Rattle.meaning.specs.declared.FieldName.{FieldName}
 use Rattle.meaning.specs.declared.Refusal.{Refusal}
 use Rattle.meaning.specs.declared.Meter.{Meter}
 use Rattle.meaning.specs.declared.MeterStart.{MeterStart}
+use Rattle.meaning.specs.Field.{Field}
 use Rattle.meaning.specs.Result.{Result, refused, answered, written}
+use Rattle.meaning.specs.FieldNames.{namedField}
 use Rattle.meaning.specs.Free.{FreeFigures}
 use Rattle.meaning.specs.Meter.{startMeter, termTable, takeTerm, meterReading, unlessRefused, profileEntry}
 use Rattle.meaning.specs.Meter.{readingEntry, profileOf}
@@ -33,61 +36,66 @@ use Rattle.exports.specs.profile.Entries.{ProfileWritten}
 use Rattle.exports.proofs.profile.Entries.{ready-same}
 
 -- One term, and then the others
-module _ (p : ℕ) (held : List ℕ) (t : ℕ) where
-  shows-told : (a : FreeFigures) → takeTerm p held t ≡ answered a
-      → meterReading p (held ++ (t ∷ [])) ≡ answered a
-  unfolding takeTerm
-  shows-told a e =
-      sym (reading-taken meterModel p held t (settle-answered _ (termTable p (length held) t) e .0)) ∙ e
+module _ (name : FieldName) where
+  abbrev F : Field
+  F = namedField name
 
-  first-entry : (ts : List ℕ) (r : Result FreeFigures)
-      → ((a : FreeFigures) → r ≡ answered a → meterReading p (held ++ (t ∷ [])) ≡ answered a)
-      → elim r [
-        | refused n ↦ readingEntry n (meterReading p held) ++ profileOf p held ts
-        | answered a ↦ profileEntry 0 a ++ profileOf p (held ++ (t ∷ [])) ts
-      ]
-      ≡ readingEntry (statusOf r) (meterReading p (unlessRefused r held (held ++ (t ∷ []))))
-      ++ profileOf p (unlessRefused r held (held ++ (t ∷ []))) ts
-  unfolding readingEntry statusOf unlessRefused
-  first-entry ts (refused n) h = refl
-  first-entry ts (answered a) h =
-      ap (λ x. readingEntry 0 x ++ profileOf p (held ++ (t ∷ [])) ts) (sym (h a refl))
+  module _ (held : List ℕ) (t : ℕ) where
+    shows-told : (a : FreeFigures) → takeTerm F held t ≡ answered a
+        → meterReading F (held ++ (t ∷ [])) ≡ answered a
+    unfolding takeTerm
+    shows-told a e =
+        sym (reading-taken meterModel name held t (settle-answered _ (termTable F (length held) t) e .0)) ∙ e
 
-  profile-cons : (ts : List ℕ)
-      → profileOf p held (t ∷ ts) ≡ entryOf p held t ++ profileOf p (heldWith p held t) ts
-  unfolding profileOf entryOf heldWith
-  profile-cons ts = first-entry ts (takeTerm p held t) shows-told
+    first-entry : (ts : List ℕ) (r : Result FreeFigures)
+        → ((a : FreeFigures) → r ≡ answered a → meterReading F (held ++ (t ∷ [])) ≡ answered a)
+        → elim r [
+          | refused n ↦ readingEntry n (meterReading F held) ++ profileOf F held ts
+          | answered a ↦ profileEntry 0 a ++ profileOf F (held ++ (t ∷ [])) ts
+        ]
+        ≡ readingEntry (statusOf r) (meterReading F (unlessRefused r held (held ++ (t ∷ []))))
+        ++ profileOf F (unlessRefused r held (held ++ (t ∷ []))) ts
+    unfolding readingEntry statusOf unlessRefused
+    first-entry ts (refused n) h = refl
+    first-entry ts (answered a) h =
+        ap (λ x. readingEntry 0 x ++ profileOf F (held ++ (t ∷ [])) ts) (sym (h a refl))
 
-module _ (p : ℕ) (t : ℕ) where
-  pub profile-more : (held ts : List ℕ)
-      → profileOf p held (ts ++ (t ∷ [])) ≡ profileOf p held ts ++ entryOf p (heldAfter p held ts) t
-  unfolding profileOf heldAfter
-  profile-more held [] = profile-cons p held t [] ∙ append-nil (entryOf p held t)
-  profile-more held (u ∷ ts) =
-      profile-cons p held u (ts ++ (t ∷ []))
-      ∙ ap (λ l. entryOf p held u ++ l) (profile-more (heldWith p held u) ts)
-      ∙ sym (append-assoc (entryOf p held u) _ _)
-      ∙ ap (λ l. l ++ entryOf p (heldAfter p held (u ∷ ts)) t) (sym (profile-cons p held u ts))
+    profile-cons : (ts : List ℕ)
+        → profileOf F held (t ∷ ts) ≡ entryOf F held t ++ profileOf F (heldWith F held t) ts
+    unfolding profileOf entryOf heldWith
+    profile-cons ts = first-entry ts (takeTerm F held t) shows-told
 
-  pub held-more : (held ts : List ℕ)
-      → heldAfter p held (ts ++ (t ∷ [])) ≡ heldWith p (heldAfter p held ts) t
-  unfolding heldAfter
-  held-more held [] = refl
-  held-more held (u ∷ ts) = held-more (heldWith p held u) ts
+  module _ (t : ℕ) where
+    pub profile-more : (held ts : List ℕ)
+        → profileOf F held (ts ++ (t ∷ [])) ≡ profileOf F held ts ++ entryOf F (heldAfter F held ts) t
+    unfolding profileOf heldAfter
+    profile-more held [] = profile-cons held t [] ∙ append-nil (entryOf F held t)
+    profile-more held (u ∷ ts) =
+        profile-cons held u (ts ++ (t ∷ []))
+        ∙ ap (λ l. entryOf F held u ++ l) (profile-more (heldWith F held u) ts)
+        ∙ sym (append-assoc (entryOf F held u) _ _)
+        ∙ ap (λ l. l ++ entryOf F (heldAfter F held (u ∷ ts)) t) (sym (profile-cons held u ts))
+
+    pub held-more : (held ts : List ℕ)
+        → heldAfter F held (ts ++ (t ∷ [])) ≡ heldWith F (heldAfter F held ts) t
+    unfolding heldAfter
+    held-more held [] = refl
+    held-more held (u ∷ ts) = held-more (heldWith F held u) ts
 
 -- All terms, one after another
 pub record Entered (m : Meter) (ts terms₀ work₀ profile₀ : List ℕ) (i : ℕ) (known : Meter)
     (terms work profile : List ℕ) : Type 0 where
   pub size : length profile ≡ length profile₀
-  pub ready : (p : ℕ) → Ready p [] m terms₀ work₀ → Ready p (heldAfter p [] (take i ts)) known terms work
-  pub front : (p : ℕ) → Ready p [] m terms₀ work₀
-      → take (4 * i) profile ≡ profileOf p [] (take i ts)
+  pub ready : (name : FieldName) → Ready name [] m terms₀ work₀
+      → Ready name (heldAfter (namedField name) [] (take i ts)) known terms work
+  pub front : (name : FieldName) → Ready name [] m terms₀ work₀
+      → take (4 * i) profile ≡ profileOf (namedField name) [] (take i ts)
   pub rest : drop (4 * i) profile ≡ drop (4 * i) profile₀
 
 module _ {m : Meter} (ts : List ℕ) {terms₀ work₀ profile₀ : List ℕ} where
   pub entered-none : Entered m ts terms₀ work₀ profile₀ 0 m terms₀ work₀ profile₀
   unfolding heldAfter profileOf
-  entered-none = record { size = refl; ready = λ p h. h; front = λ p h. refl; rest = refl }
+  entered-none = record { size = refl; ready = λ name h. h; front = λ name h. refl; rest = refl }
 
   module _ {i : ℕ} {known : Meter} {terms work profile : List ℕ}
       (x : Entered m ts terms₀ work₀ profile₀ i known terms work profile) where
@@ -122,15 +130,16 @@ module _ {m : Meter} (ts : List ℕ) {terms₀ work₀ profile₀ : List ℕ} wh
                   length-drop (4 * i) profile,
                   x .size,
                 );
-            ready = λ p h.
-                subst (λ held. Ready p held known′ terms′ work′)
-                (sym (ap (heldAfter p []) upto ∙ held-more p (getD ts i 0) [] (take i ts)))
-                (e .ready p _ (x .ready p h));
-            front = λ p h.
+            ready = λ name h.
+                subst (λ held. Ready name held known′ terms′ work′)
+                (sym (ap (heldAfter (namedField name) []) upto ∙ held-more name (getD ts i 0) [] (take i ts)))
+                (e .ready name _ (x .ready name h));
+            front = λ name h.
                 ap (take (4 * (i + 1))) regrouped
                 ∙ take-at (take (4 * i) profile ++ ys) r (4 * (i + 1)) place
-                ∙ ap₂ _++_ (x .front p h) (e .entry p _ (x .ready p h))
-                ∙ sym (ap (profileOf p []) upto ∙ profile-more p (getD ts i 0) [] (take i ts));
+                ∙ ap₂ _++_ (x .front name h) (e .entry name _ (x .ready name h))
+                ∙ sym
+                (ap (profileOf (namedField name) []) upto ∙ profile-more name (getD ts i 0) [] (take i ts));
             rest =
                 let j : 4 * i + 4 - 4 * i ≡ 4 = omega arith in
                 let k : 4 * i + 4 ≡ 4 * (i + 1) = omega arith in
@@ -153,45 +162,45 @@ module _ {m : Meter} (ts : List ℕ) {terms₀ work₀ profile₀ : List ℕ} wh
       unfolding written
       entered-all =
           record {
-            entries = λ p h.
-                let n : 4 * i ≡ length (profileOf p [] (take i ts))
-                = omega (arith, length-take (4 * i) profile, ap length (x .front p h), x .size) in
+            entries = λ name h.
+                let n : 4 * i ≡ length (profileOf (namedField name) [] (take i ts))
+                = omega (arith, length-take (4 * i) profile, ap length (x .front name h), x .size) in
                 sym (take-append-drop (4 * i) profile)
-                ∙ ap₂ _++_ (x .front p h) (x .rest ∙ ap (λ k. drop k profile₀) n)
-                ∙ ap (λ l. written (profileOf p [] l) profile₀) all-terms;
+                ∙ ap₂ _++_ (x .front name h) (x .rest ∙ ap (λ k. drop k profile₀) n)
+                ∙ ap (λ l. written (profileOf (namedField name) [] l) profile₀) all-terms;
           }
 
 -- The exported call
-abbrev profiled : ℕ → List ℕ → List ℕ → List ℕ
-profiled p ts profile = written (profileOf p [] (take (length profile / 4) ts)) profile
+abbrev profiled : FieldName → List ℕ → List ℕ → List ℕ
+profiled name ts profile = written (profileOf (namedField name) [] (take (length profile / 4) ts)) profile
 
-module _ {p : ℕ} {ts profile work work′ : List ℕ} {a : MeterStart}
-    (c : StartCall meterModel p work a work′) where
+module _ {name : FieldName} {ts profile work work′ : List ℕ} {a : MeterStart}
+    (c : StartCall meterModel name work a work′) where
   pub profile-refused : {x : Refusal} {k : ℕ}
       → a ≡ MeterStart.Refused x
       → k ≡ numberOf x
-      → ProfileExported p ts profile k profile
+      → ProfileExported name ts profile k profile
   unfolding toldStart statusOf unlessRefused
   profile-refused q i =
-      let e = map-refused _ (startMeter p) (sym (c .starting) ∙ ap toldStart q) in
+      let e = map-refused _ (startMeter name) (sym (c .starting) ∙ ap toldStart q) in
       record {
         told = i ∙ sym (ap statusOf e);
-        lent = sym (ap (λ r. unlessRefused r profile (profiled p ts profile)) e);
+        lent = sym (ap (λ r. unlessRefused r profile (profiled name ts profile)) e);
       }
 
   pub profile-told : {m : Meter} (terms : List ℕ) {profile′ : List ℕ}
       → length terms ≡ 4096
       → a ≡ MeterStart.Started m
       → ProfileWritten m ts terms work′ profile profile′
-      → ProfileExported p ts profile 0 profile′
+      → ProfileExported name ts profile 0 profile′
   unfolding toldStart statusOf unlessRefused
   profile-told terms n q w =
-      let (_, e, f) = map-answered _ (startMeter p) (sym (c .starting) ∙ ap toldStart q) in
-      let h = ready-same (record { holding = holding-none meterModel p terms e; size = n }) (sym f) refl
-      (c .workBytes ∙ ap (λ r. unlessRefused r work ((meterModel .work) p [])) e) in
+      let (_, e, f) = map-answered _ (startMeter name) (sym (c .starting) ∙ ap toldStart q) in
+      let h = ready-same (record { holding = holding-none meterModel name terms e; size = n }) (sym f) refl
+      (c .workBytes ∙ ap (λ r. unlessRefused r work ((meterModel .work) name [])) e) in
       record {
         told = sym (ap statusOf e);
         lent =
-            w .entries p h
-            ∙ sym (ap (λ r. unlessRefused r profile (profiled p ts profile)) e);
+            w .entries name h
+            ∙ sym (ap (λ r. unlessRefused r profile (profiled name ts profile)) e);
       }

@@ -1,14 +1,14 @@
--- The set way looks at no more than nine factors: it turns down nine like any greater number of them, by 6,
--- 7, 8 or 9.
+-- The set way looks at no more than nine factors: in every field it turns down nine like any greater number of
+-- them, by 7, 8 or 9.
 --
---   set-nine         == the answer with the first nine factors is that with all of them
---   call-same        == the contract goes by the answer alone
+--   set-nine         == in every field the answer with the first nine factors is that with all of them
+--   call-same        == the contract goes by the answer in every field alone
 --   call-nine        == so the contract with the first nine factors is that with all of them
 -- Assumes nothing.
 use Prim.Native.Nat.{ℕ, _<_}
 use native.Mathlib.Decide.{decLt}
 use native.Mathlib.Omega.{arith}
-use mathlib.Core.Path.{_≡_, refl, sym, ap, subst, _∙_}
+use mathlib.Core.Path.{_≡_, refl, sym, ap, subst, fun-ext, _∙_}
 use mathlib.Core.Bool.{Bool, true, false, _||_}
 use mathlib.Core.List.{List, [], _∷_, _++_, map}
 use mathlib.Core.Option.{Option}
@@ -16,12 +16,14 @@ use lib.ListN.{length, take, length-take, length-map}
 use lib.Seq.{take-all}
 use lib.Dec.{eqb, ltb}
 use borrow.Author.Tests.{lt-ltb}
+use Rattle.meaning.specs.declared.FieldName.{FieldName}
 use Rattle.meaning.specs.declared.SetRating.{SetRating}
-use Rattle.meaning.specs.Field.{prime}
+use Rattle.meaning.specs.Field.{Field}
 use Rattle.meaning.specs.Polynomial.{Polynomial, monicMultiple}
-use Rattle.meaning.specs.Conditions.{named, notPrime, countOutOfRange, termOutOfField, factorCountOutOfRange}
+use Rattle.meaning.specs.Conditions.{named, countOutOfRange, termOutOfField, factorCountOutOfRange}
 use Rattle.meaning.specs.Result.{Result, refused, Check, settle, Rated, figuresOf, mapResult}
-use Rattle.meaning.specs.Portion.{SetFigures, setTable, setAnswer, rateSet}
+use Rattle.meaning.specs.FieldNames.{inField}
+use Rattle.meaning.specs.Portion.{SetFigures, setTable, setAnswer, setIn, rateSet}
 use Rattle.meaning.specs.Answers.{setFiguresTold, setPadded}
 use Rattle.meaning.specs.Calls.{LentAfter, SetCall}
 use Rattle.bridge.proofs.Lists.Products.{length-named}
@@ -53,44 +55,47 @@ too-many n h = go (eqb n 0) (ltb 8 n) (lt-ltb 8 n h)
     go true c e = refl
     go false c e = e
 
-module _ (p : ℕ) (us ts : List ℕ) (answer work : ℕ) where
+-- In every field
+module _ (F : Field) (us ts : List ℕ) (answer work : ℕ) where
   -- as many as the factors
-  count : (fs : List Polynomial) → length (named (map (monicMultiple (prime p)) fs) us) ≡ length fs
-  count fs = length-named (map (monicMultiple (prime p)) fs) us ∙ length-map fs (monicMultiple (prime p))
+  count : (fs : List Polynomial) → length (named (map (monicMultiple F) fs) us) ≡ length fs
+  count fs = length-named (map (monicMultiple F) fs) us ∙ length-map fs (monicMultiple F)
 
   set-refuses-many :
       (fs gs : List Polynomial)
       → 8 < length fs
       → 8 < length gs
-      → rateSet p fs us ts answer work ≡ rateSet p gs us ts answer work
-  unfolding rateSet setAnswer setTable
+      → setIn F fs us ts answer work ≡ setIn F gs us ts answer work
+  unfolding setIn setAnswer setTable
   set-refuses-many fs gs h k =
       settle-alike _ _
-      ((6, λ _. notPrime p)
-      ∷ (7, λ _. countOutOfRange (length ts))
-      ∷ (8, λ _. termOutOfField (prime p) ts)
-      ∷ [])
-      (9, λ _. factorCountOutOfRange (length (named (map (monicMultiple (prime p)) fs) us)))
-      (9, λ _. factorCountOutOfRange (length (named (map (monicMultiple (prime p)) gs) us)))
+      ((7, λ _. countOutOfRange (length ts)) ∷ (8, λ _. termOutOfField F ts) ∷ [])
+      (9, λ _. factorCountOutOfRange (length (named (map (monicMultiple F) fs) us)))
+      (9, λ _. factorCountOutOfRange (length (named (map (monicMultiple F) gs) us)))
       _ _ refl
-      (too-many (length (named (map (monicMultiple (prime p)) fs) us)) (omega (arith, count fs)))
-      (too-many (length (named (map (monicMultiple (prime p)) gs) us)) (omega (arith, count gs)))
+      (too-many (length (named (map (monicMultiple F) fs) us)) (omega (arith, count fs)))
+      (too-many (length (named (map (monicMultiple F) gs) us)) (omega (arith, count gs)))
 
   pub set-nine : (fs : List Polynomial)
-      → rateSet p (take 9 fs) us ts answer work ≡ rateSet p fs us ts answer work
+      → setIn F (take 9 fs) us ts answer work ≡ setIn F fs us ts answer work
   set-nine fs = elim (decLt 9 (length fs)) [
     | yes h ↦
         set-refuses-many (take 9 fs) fs (omega (arith, length-take 9 fs)) (omega arith)
-    | no h ↦ ap (λ gs. rateSet p gs us ts answer work) (take-all 9 fs (omega arith))
+    | no h ↦ ap (λ gs. setIn F gs us ts answer work) (take-all 9 fs (omega arith))
   ]
 
--- Two calls with the same answer keep the same contract.
+-- Two calls with the same answer in every field keep the same contract.
 pub call-same :
-    {p : ℕ} {fs gs : List Polynomial} {us vs ts answer work answer′ work′ : List ℕ} {r : SetRating}
-    → rateSet p fs us ts (length answer) (length work) ≡ rateSet p gs vs ts (length answer) (length work)
-    → SetCall p fs us ts answer work r answer′ work′
-    → SetCall p gs vs ts answer work r answer′ work′
-call-same {answer = answer} {work} {answer′} {work′} e x =
+    {name : FieldName} {fs gs : List Polynomial} {us vs ts answer work answer′ work′ : List ℕ} {r : SetRating}
+    → ((F : Field) → setIn F fs us ts (length answer) (length work)
+    ≡ setIn F gs vs ts (length answer) (length work))
+    → SetCall name fs us ts answer work r answer′ work′
+    → SetCall name gs vs ts answer work r answer′ work′
+unfolding rateSet
+call-same {name} {fs} {gs} {us} {vs} {ts} {answer} {work} {answer′} {work′} h x =
+    let e : rateSet name fs us ts (length answer) (length work)
+    ≡ rateSet name gs vs ts (length answer) (length work)
+    = ap (inField name) (fun-ext h) in
     record {
       rating =
           x .rating ∙ ap (λ (a : Result (Rated SetFigures)). mapResult setFiguresTold (figuresOf a)) e;
@@ -99,7 +104,8 @@ call-same {answer = answer} {work} {answer′} {work′} e x =
     }
 
 pub call-nine :
-    {p : ℕ} (fs : List Polynomial) {us ts answer work answer′ work′ : List ℕ} {r : SetRating}
-    → SetCall p (take 9 fs) us ts answer work r answer′ work′
-    → SetCall p fs us ts answer work r answer′ work′
-call-nine {p} fs {us} {ts} {answer} {work} x = call-same (set-nine p us ts (length answer) (length work) fs) x
+    {name : FieldName} (fs : List Polynomial) {us ts answer work answer′ work′ : List ℕ} {r : SetRating}
+    → SetCall name (take 9 fs) us ts answer work r answer′ work′
+    → SetCall name fs us ts answer work r answer′ work′
+call-nine fs {us} {ts} {answer} {work} x =
+    call-same (λ F. set-nine F us ts (length answer) (length work) fs) x

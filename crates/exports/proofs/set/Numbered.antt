@@ -11,12 +11,13 @@ use native.Mathlib.Omega.{arith}
 use lib.ListN.{length, getD, take, drop, length-take, length-map}
 use lib.Seq.{ext-getD, getD-take}
 use denote.Ref.{RefT}
+use Rattle.meaning.specs.declared.FieldName.{FieldName}
 use Rattle.meaning.specs.declared.SetRating.{SetRating}
-use Rattle.meaning.specs.Polynomial.{Polynomial, monicMultiple}
 use Rattle.meaning.specs.Search.{holdsForSome}
-use Rattle.meaning.specs.Field.{prime}
+use Rattle.meaning.specs.Field.{Field}
+use Rattle.meaning.specs.Polynomial.{Polynomial, monicMultiple}
 use Rattle.meaning.specs.Conditions.{named, factorDegreeOutOfRange, coefficientOutOfRange}
-use Rattle.meaning.specs.Portion.{setAnswer, rateSet}
+use Rattle.meaning.specs.Portion.{setAnswer, setIn}
 use Rattle.meaning.specs.Calls.{SetCall}
 use Rattle.meaning.specs.FlatBytes.{split}
 use Rattle.meaning.specs.Slices.{listsOf}
@@ -48,15 +49,17 @@ named-same (f ∷ fs) (u ∷ us) (v ∷ vs) h =
     ap (λ w. (f, w) ∷ named fs us) (h 0 (omega arith))
     ∙ ap (λ l. (f, v) ∷ l) (named-same fs us vs (λ i k. h (suc i) (omega arith)))
 
-answer-same : (p : ℕ) (fs : List Polynomial) (us vs ts : List ℕ) (answer work : ℕ)
-    → named (map (monicMultiple (prime p)) fs) us ≡ named (map (monicMultiple (prime p)) fs) vs
-    → rateSet p fs us ts answer work ≡ rateSet p fs vs ts answer work
-unfolding rateSet
-answer-same p fs us vs ts answer work e =
+answer-same : (F : Field) (fs : List Polynomial) (us vs ts : List ℕ) (answer work : ℕ)
+    → named (map (monicMultiple F) fs) us ≡ named (map (monicMultiple F) fs) vs
+    → setIn F fs us ts answer work ≡ setIn F fs vs ts answer work
+unfolding setIn
+answer-same F fs us vs ts answer work e =
     ap
     (λ l.
-    setAnswer p (holdsForSome (factorDegreeOutOfRange (prime p)) fs)
-    (holdsForSome (coefficientOutOfRange (prime p)) fs) l
+    setAnswer F
+    (holdsForSome (factorDegreeOutOfRange F) fs)
+    (holdsForSome (coefficientOutOfRange F) fs)
+    l
     ts
     answer
     work)
@@ -64,21 +67,22 @@ answer-same p fs us vs ts answer work e =
 
 -- rs are nine slices that hold the parts by the first nine lengths
 pub numbered-call :
-    {p : ℕ} (b : List ℕ) {ls ms us vs ts answer work : List ℕ} {k : ℕ} {r : SetRating}
+    {name : FieldName} (b : List ℕ) {ls ms us vs ts answer work : List ℕ} {k : ℕ} {r : SetRating}
     {answer′ work′ : List ℕ}
     (rs : List (RefT (List ℕ)))
     → FirstNine ls ms
     → FirstNine us vs
     → k ≡ min (length ls) 9
     → listsOf rs ≡ split b ms
-    → SetCall p (listsOf (take (k - 0) (drop 0 rs))) vs ts answer work r answer′ work′
-    → SetCall p (split b ls) us ts answer work r answer′ work′
-numbered-call {p} b {ls} {ms} {us} {vs} {ts} {answer} {work} {k} {r} {answer′} {work′} rs f g e parts c =
+    → SetCall name (listsOf (take (k - 0) (drop 0 rs))) vs ts answer work r answer′ work′
+    → SetCall name (split b ls) us ts answer work r answer′ work′
+numbered-call {name} b {ls} {ms} {us} {vs} {ts} {answer} {work} {k} {r} {answer′} {work′} rs f g e parts c =
     let gs = take 9 (split b ls) in
     let fs : listsOf (take (k - 0) (drop 0 rs)) ≡ gs
     = parts-first b ms rs k parts ∙ ap (split b) (nine-lengths f e) ∙ split-take 9 b ls in
-    let q = named-same (map (monicMultiple (prime p)) gs) vs us
-    (λ i h. g .same i (omega (arith, length-map gs (monicMultiple (prime p)), length-take 9 (split b ls)))) in
+    let q : (F : Field) → named (map (monicMultiple F) gs) vs ≡ named (map (monicMultiple F) gs) us = λ F.
+    named-same (map (monicMultiple F) gs) vs us
+    (λ i h. g .same i (omega (arith, length-map gs (monicMultiple F), length-take 9 (split b ls)))) in
     call-nine (split b ls)
-    (call-same (answer-same p gs vs us ts (length answer) (length work) q)
-    (subst (λ gs. SetCall p gs vs ts answer work r answer′ work′) fs c))
+    (call-same (λ F. answer-same F gs vs us ts (length answer) (length work) (q F))
+    (subst (λ gs. SetCall name gs vs ts answer work r answer′ work′) fs c))

@@ -5,6 +5,7 @@ use mathlib.Core.Path.{_≡_, refl, sym, ap, _∙_}
 use mathlib.Core.List.{List, _++_}
 use native.Mathlib.Omega.{arith}
 use lib.ListN.{length, take, drop}
+use Rattle.meaning.specs.declared.FieldName.{FieldName}
 use Rattle.meaning.specs.declared.Refusal.{Refusal}
 use Rattle.meaning.specs.declared.SetOutcome.{SetOutcome}
 use Rattle.meaning.specs.declared.SetRating.{SetRating}
@@ -42,10 +43,10 @@ unfolding mapResult PowersAfter
 powers-untold (refused k) l e = refl
 powers-untold (answered a) l e = absurd (refused-answered (sym e))
 
-module _ {p : ℕ} {fs : List Polynomial} {us ts answer work : List ℕ} {a : SetRating} {answer′ work′ : List ℕ}
-    (call : SetCall p fs us ts answer work a answer′ work′) where
+module _ {name : FieldName} {fs : List Polynomial} {us ts answer work : List ℕ} {a : SetRating}
+    {answer′ work′ : List ℕ} (call : SetCall name fs us ts answer work a answer′ work′) where
   abbrev result : Result SetFigures
-  result = figuresOf (rateSet p fs us ts (length answer) (length work))
+  result = figuresOf (rateSet name fs us ts (length answer) (length work))
 
   told : {b : SetOutcome} → a .outcome ≡ b → toldSet b ≡ mapResult setFiguresTold result
   told q = ap toldSet (sym q) ∙ call .rating
@@ -56,7 +57,7 @@ module _ {p : ℕ} {fs : List Polynomial} {us ts answer work : List ℕ} {a : Se
       → degree′ ≡ numberAfter (λ t. t .degree) (toldSet b) degree
       → repeat′ ≡ numberAfter (λ t. t .repeat) (toldSet b) repeat
       → PowersAfter result powers powers′
-      → SetExported (rateSet p fs us ts (length answer) (length work)) answer work powers degree repeat k
+      → SetExported (rateSet name fs us ts (length answer) (length work)) answer work powers degree repeat k
       answer′ work′ powers′ degree′ repeat′
   unfolding figuresOf setFiguresTold
   exported {degree = degree} {repeat} q i j l s =
@@ -75,7 +76,7 @@ module _ {p : ℕ} {fs : List Polynomial} {us ts answer work : List ℕ} {a : Se
   pub set-told : (powers powers′ : List ℕ) {degree repeat d b n : ℕ}
       → a .outcome ≡ SetOutcome.Rated d b n
       → powers′ ≡ take (length powers) (bytesOfAll (a .powers)) ++ drop 64 powers
-      → SetExported (rateSet p fs us ts (length answer) (length work)) answer work powers degree repeat 0
+      → SetExported (rateSet name fs us ts (length answer) (length work)) answer work powers degree repeat 0
       answer′ work′ powers′ d b
   unfolding toldSet statusOf numberAfter
   set-told powers powers′ q e =
@@ -86,7 +87,7 @@ module _ {p : ℕ} {fs : List Polynomial} {us ts answer work : List ℕ} {a : Se
   pub set-untold : {powers : List ℕ} {degree repeat : ℕ} {x : Refusal} {k : ℕ}
       → a .outcome ≡ SetOutcome.Refused x
       → k ≡ numberOf x
-      → SetExported (rateSet p fs us ts (length answer) (length work)) answer work powers degree repeat k
+      → SetExported (rateSet name fs us ts (length answer) (length work)) answer work powers degree repeat k
       answer′ work′ powers degree repeat
   unfolding toldSet statusOf numberAfter
   set-untold {powers} q i = exported q i refl refl (powers-untold result powers (told q))

@@ -1,7 +1,8 @@
 -- `leaf_common` meets its contract.
 -- Assumes nothing.
-use Rattle.leaves.proofs.Orders.{where-yes, where-no, small-first, small-second, small-third}
+use Rattle.leaves.proofs.Orders.{small-first, small-second, small-third}
 use Rattle.leaves.proofs.Orders.{small-all}
+use Rattle.leaves.proofs.Suiting.{where-yes, where-no}
 use borrow.Author.Needs.{needs}
 use Rattle.leaves.proofs.leaf_common.Statement.{statement}
 use Rattle.leaves.proofs.leaf_common.Tie as tie

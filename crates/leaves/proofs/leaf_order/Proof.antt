@@ -1,48 +1,50 @@
 -- `leaf_order` meets its contract.
 -- Assumes nothing.
-use mathlib.Core.Path.{sym, ap, _∙_}
+use mathlib.Core.Path.{refl, subst}
+use mathlib.Core.Bool.{true}
 use denote.Ref.{now}
-use Rattle.bridge.proofs.Basics.Searches.{true-T}
-use Rattle.bridge.proofs.Sequences.Orders.{orderWithin}
-use Rattle.leaves.proofs.Orders.{where-yes, where-no, limit-beyond, limit-within, suited-prime}
-use Rattle.leaves.proofs.Orders.{suited-over}
 use borrow.Author.Needs.{needs}
+use Rattle.meaning.specs.declared.FieldName.{FieldName}
+use Rattle.arith.specs.Represented.{FieldMade, FieldNamed}
+use Rattle.leaves.specs.Orderly.{order}
+use Rattle.leaves.proofs.Suiting.{answer-declined, answer-named}
 use Rattle.leaves.proofs.leaf_order.Statement.{statement}
 use Rattle.leaves.proofs.leaf_order.Tie as tie
 
+-- the entry, from the place where the field is made
+abbrev entry : tie.After-field → tie.Start
+entry f = f .before .before .before .before
+
+made : (f : tie.After-field) → FieldNamed (FieldName.Prime (entry f .args .p)) (f .field .given .0 .0)
+unfolding FieldMade
+made f = subst (FieldMade _) (f .field .given .1) (f .before .before .of .ensures)
+
+of-requires : tie.Need-of-requires
+of-requires c κs = search needs
+
+enum-known-field : tie.Need-enum-known-field
+enum-known-field c = search needs
+
+order-in-requires : tie.Need-order-in-requires
+order-in-requires c κs = made (c .before) .wellFormed
+
+enum-told : tie.Need-enum-told
+enum-told c = search needs
+
 returns : tie.Need-returns
-returns c = where-no _ _ 0 (limit-beyond _ (c .if1 .taken))
-
-is-suited-requires : tie.Need-is-suited-requires
-is-suited-requires c κs = search needs
-
-of-prime-requires : tie.Need-of-prime-requires
-of-prime-requires c κs = suited-prime _ _ (true-T (sym (c .before .is-suited .ensures) ∙ c .if2 .taken))
-
-order-within-requires : tie.Need-order-within-requires
-order-within-requires c κs =
-    let t = c .before in
-    let o = c .of-prime .ensures in
-    (o .wellFormed, suited-over _ _ (true-T (sym (t .before .is-suited .ensures) ∙ t .if2 .taken)) o)
+returns c =
+    let f = c .before .before in
+    let a = entry f .args in
+    answer-named true _ (λ F. order F (now (a .f)) (a .limit)) 0 refl (made f) (c .order-in .ensures)
 
 returns-2 : tie.Need-returns-2
+unfolding FieldMade
 returns-2 c =
-    let t = c .before .before in
-    let a = t .before .before .before .before .args in
-    where-yes _ _ 0
-    (true-T (sym (limit-within _ (t .before .before .if1 .left))
-    ∙ sym (t .before .is-suited .ensures) ∙ t .if2 .taken))
-    (c .order-within .ensures
-    ∙ ap (λ F. orderWithin F (now (a .f)) (a .limit)) (c .before .of-prime .ensures .isField))
-
-returns-3 : tie.Need-returns-3
-returns-3 c =
-    where-no _ _ 0
-    (sym (c .if2 .left)
-    ∙ c .before .is-suited .ensures
-    ∙ limit-within _ (c .before .before .if1 .left))
+    let a = c .before .before .before .before .args in
+    answer-declined true _ (λ F. order F (now (a .f)) (a .limit)) 0
+    (subst (FieldMade _) (c .enum-told .given .1) (c .before .before .of .ensures))
 
 pub leaf-order-spec : {M : Type 1} → statement M
 leaf-order-spec =
     tie.close
-    (tie.spec returns is-suited-requires of-prime-requires order-within-requires returns-2 returns-3)
+    (tie.spec of-requires enum-known-field order-in-requires enum-told returns returns-2)

@@ -1,16 +1,20 @@
--- `start_meter` meets its contract: 6, or the start of the model. Assumes nothing.
+-- `start_meter` meets its contract: the refusal of the name, or the start of the model. Assumes nothing.
 use native.Mathlib.Omega.{arith}
 use borrow.Author.Needs.{needs}
-use mathlib.Core.Path.{sym, _∙_}
+use mathlib.Core.Path.{subst}
+use Rattle.arith.specs.Represented.{FieldMade}
 use Rattle.meter.proofs.Steps.{start-refused, start-taken}
 use Rattle.meter.proofs.start_meter.Statement.{statement}
 use Rattle.meter.proofs.start_meter.Tie as tie
 
-not-prime-requires : tie.Need-not-prime-requires
-not-prime-requires c κs = search needs
+of-requires : tie.Need-of-requires
+of-requires c κs = search needs
 
-returns : tie.Need-returns
-returns c = start-refused _ (sym (c .before .not-prime .ensures) ∙ c .if1 .taken)
+enum-known-r : tie.Need-enum-known-r
+enum-known-r c = search needs
+
+enum-told : tie.Need-enum-told
+enum-told c = search needs
 
 start-requires : tie.Need-start-requires
 start-requires c κs = search needs
@@ -18,12 +22,27 @@ start-requires c κs = search needs
 meter-of-requires : tie.Need-meter-of-requires
 meter-of-requires c κs = search needs
 
+returns : tie.Need-returns
+unfolding FieldMade
+returns c =
+    start-refused _ (subst (FieldMade _) (c .before .r .given .1) (c .before .before .before .of .ensures))
+
 returns-2 : tie.Need-returns-2
+unfolding FieldMade
 returns-2 c =
     let s = c .before in
-    let b = s .before .before in
-    start-taken _ (sym (b .before .not-prime .ensures) ∙ b .if1 .left) (s .start .ensures)
-    (omega (arith, s .start .kept .0)) (c .meter-of .ensures)
+    let v = s .before .before in
+    let made = subst (FieldMade _) (v .enum-told .given .1) (v .before .before .of .ensures) in
+    start-taken _ (made .exists) (s .start .ensures) (omega (arith, s .start .kept .0)) (c .meter-of .ensures)
 
 pub start-meter-spec : {M : Type 1} → statement M
-start-meter-spec = tie.close (tie.spec not-prime-requires returns start-requires meter-of-requires returns-2)
+start-meter-spec =
+    tie.close
+    (tie.spec
+    of-requires
+    enum-known-r
+    enum-told
+    start-requires
+    meter-of-requires
+    returns
+    returns-2)

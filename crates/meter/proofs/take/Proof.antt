@@ -13,10 +13,7 @@ use Rattle.meter.proofs.take.Tie as tie
 
 -- the function's entry, from the place after the numbers are read
 abbrev entry : tie.After-recurrence-of → tie.Start
-entry k = k .before .before .before .before
-
-of-prime-requires : tie.Need-of-prime-requires
-of-prime-requires c κs = c .before .before .pre .0 .isPrime refl
+entry k = k .before .before .before
 
 recurrence-of-requires : tie.Need-recurrence-of-requires
 recurrence-of-requires c κs = search needs
@@ -46,13 +43,13 @@ after-all-requires c κs =
     let s = set (now (a .terms)) (a .meter .held) (a .term) in
     let n = length-set (now (a .terms)) (a .meter .held) (a .term) in
     let e = length-part s 0 (a .meter .held + 1 - 0) (omega (arith, n, p)) in (
-      k .before .of-prime .ensures .wellFormed,
+      p .0,
       subst (Begun _ _) (sym (k .recurrence-of .ensures))
           (record {
             room = record { terms = omega (arith, e, p); bytes = omega (arith, p) };
             seen = omega (arith, e);
-            degree = p .0 .degree refl;
-            half = p .0 .half refl;
+            degree = p .1 .0 .degree refl;
+            half = p .1 .0 .half refl;
           }),
     )
 
@@ -70,16 +67,15 @@ returns c =
     let s = c .before .before .before in
     let k = s .before .before .before .before in
     let a = entry k .args in
-    let p = entry k .pre .1 in
-    term-stepped (a .meter) (a .term) (k .before .of-prime .ensures) (omega (arith, p)) (omega (arith, p))
-    (k .recurrence-of .ensures) (s .after-all .ensures .0 .1) (s .after-all .ensures .1)
-    (omega (arith, s .after-all .kept, p)) (c .meter-of .ensures)
+    let p = entry k .pre .1 .1 in
+    term-stepped _ (a .meter) (a .term) (omega (arith, p)) (omega (arith, p)) (k .recurrence-of .ensures)
+    (s .after-all .ensures .0 .1) (s .after-all .ensures .1) (omega (arith, s .after-all .kept, p))
+    (c .meter-of .ensures)
 
 pub take-spec : {M : Type 1} → statement M
 take-spec =
     tie.close
     (tie.spec
-    of-prime-requires
     recurrence-of-requires
     slice-write-terms
     add-after-all

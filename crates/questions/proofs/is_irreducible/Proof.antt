@@ -1,49 +1,32 @@
--- `is_irreducible` meets its contract: the verdict refuses, or the answer is that for the monic multiple.
+-- `is_irreducible` meets its contract: the name is refused, or the answer is that in its field.
 -- Assumes nothing.
 use borrow.Author.Needs.{needs}
-use Rattle.questions.proofs.Question.{question-refused, question-accepted, question-yes, question-no}
+use Rattle.arith.proofs.Door.{made-named}
+use Rattle.questions.proofs.Question.{call-refused, call-made}
 use Rattle.questions.proofs.is_irreducible.Statement.{statement}
 use Rattle.questions.proofs.is_irreducible.Tie as tie
 
-irreducible-verdict-requires : tie.Need-irreducible-verdict-requires
-irreducible-verdict-requires c κs = search needs
+of-requires : tie.Need-of-requires
+of-requires c κs = search needs
 
 enum-known-r : tie.Need-enum-known-r
 enum-known-r c = search needs
 
-enum-told : tie.Need-enum-told
-enum-told c = search needs
+enum-known-field : tie.Need-enum-known-field
+enum-known-field c = search needs
 
-multiple-irreducible-requires : tie.Need-multiple-irreducible-requires
-multiple-irreducible-requires c κs =
-    question-accepted _ _ (c .before .before .irreducible-verdict .ensures) (c .enum-told .given .1)
+ask-requires : tie.Need-ask-requires
+ask-requires c κs = made-named (c .before .before .before .of .ensures) (c .before .field .given .1)
+    .wellFormed
 
 returns : tie.Need-returns
-returns c =
-    question-refused _ _ (c .before .before .before .irreducible-verdict .ensures) (c .before .r .given .1)
+returns c = call-refused (c .before .before .before .of .ensures) _ (c .before .r .given .1)
 
 returns-2 : tie.Need-returns-2
 returns-2 c =
-    let a = c .before .before in
-    question-yes _ _ (a .before .before .irreducible-verdict .ensures) (a .enum-told .given .1)
-    (c .before .multiple-irreducible .ensures)
-    (c .if1 .taken)
-
-returns-3 : tie.Need-returns-3
-returns-3 c =
-    let a = c .before .before in
-    question-no _ _ (a .before .before .irreducible-verdict .ensures) (a .enum-told .given .1)
-    (c .before .multiple-irreducible .ensures)
-    (c .if1 .left)
+    let f = c .before in
+    call-made (f .before .before .before .of .ensures) _ (f .before .field .given .1) (c .ask .ensures)
 
 pub is-irreducible-spec : {M : Type 1} → statement M
 is-irreducible-spec =
-    tie.close
-    (tie.spec
-    irreducible-verdict-requires
-    enum-known-r
-    enum-told
-    multiple-irreducible-requires
-    returns
-    returns-2
-    returns-3)
+    tie.close (tie.spec of-requires enum-known-r enum-known-field ask-requires returns returns-2)

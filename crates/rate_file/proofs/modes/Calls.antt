@@ -13,11 +13,12 @@ use Rattle.meaning.specs.Result.{Result, refused, answered, mapResult, Rated, f
 use Rattle.meaning.specs.Result.{workAfter}
 use Rattle.meaning.specs.Power.{PowerFigures}
 use Rattle.meaning.specs.Portion.{SetFigures}
-use Rattle.meaning.specs.Free.{FreeFigures, rateFree}
+use Rattle.meaning.specs.Free.{FreeFigures}
 use Rattle.meaning.specs.File.{FileFigures, powers, fileAnswer, ofPeriod, ofSet, ofFree}
 use Rattle.meaning.specs.Answers.{toldPower, toldFree, setFiguresTold, setPadded, withPowers, labelTold}
 use Rattle.meaning.specs.Answers.{fileFiguresTold, labelPowers, filePadded}
-use Rattle.meaning.specs.Calls.{LentAfter, FreeCall}
+use Rattle.meaning.specs.Calls.{LentAfter}
+use Rattle.rate_free.specs.Ratings.{FreeRatedAs}
 use Rattle.refusals.proofs.Lent.{lent-refused}
 use Rattle.rate_period.specs.Ratings.{RatedAs}
 use Rattle.rate_set.specs.Ratings.{SetRatedAs}
@@ -78,13 +79,11 @@ period-rated {result = x} h t =
     record { tells = rw (figures-period x, ← h .rating) t; lent = lent-period x (h .lent) }
 
 module _ (m : ℕ) {sender : ℕ} {answer work : List ℕ} {r : FileRating} {answer′ work′ : List ℕ} where
-  pub free-rated : {p : ℕ} {ts : List ℕ} {q : FreeRating}
-      → FreeCall p ts answer work q answer′ work′
+  pub free-rated : {result : Result (Rated FreeFigures)} {q : FreeRating}
+      → FreeRatedAs result answer work q answer′ work′
       → Tells sender (mapResult (freeFigures m) (toldFree q)) r
-      → RatedFile sender (ofFree m (rateFree p ts (length answer) (length work))) answer work r answer′
-      work′
-  free-rated {p} {ts} h t =
-      let x = rateFree p ts (length answer) (length work) in
+      → RatedFile sender (ofFree m result) answer work r answer′ work′
+  free-rated {result = x} h t =
       record { tells = rw (figures-free m x, ← h .rating) t; lent = lent-free m x (h .lent) }
 
   pub set-rated : {result : Result (Rated SetFigures)} {s : SetRating}

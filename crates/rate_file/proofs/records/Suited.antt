@@ -9,14 +9,16 @@ use mathlib.Core.List.{List}
 use mathlib.Core.Option.{Option, none, some}
 use lib.ListN.{length}
 use borrow.Author.Tests.{ltb-false}
+use Rattle.meaning.specs.Field.{Field}
 use Rattle.meaning.specs.Result.{refused}
+use Rattle.meaning.specs.FieldNames.{inField}
 use Rattle.meaning.specs.Route.{RouteRecord, Mode, periodMode, setMode, freeMode, lookUp, modeOf, byteOf}
 use Rattle.meaning.specs.Route.{bodies, modeUnsuited}
-use Rattle.meaning.specs.File.{termsOf, rateMode, rateRecords}
-use Rattle.bridge.proofs.Files.FileRatings.{known-mode}
+use Rattle.meaning.specs.File.{termsOf, rateMode, fieldIn, rateRecords}
 use Rattle.route.specs.framing.Framing.{recordsFrom}
 use Rattle.route.proofs.payload.Modes.{unsuited-unknown, period-count, set-none, set-most}
 use Rattle.rate_file.specs.factors.Written.{factorsIn}
+use Rattle.rate_file.specs.records.Accepted.{ratedIn}
 
 -- the mode and the number of factors as they were read
 module _ (rs : List RouteRecord) (suited : modeUnsuited rs ≡ false) (mode count : ℕ)
@@ -45,17 +47,16 @@ module _ (rs : List RouteRecord) (suited : modeUnsuited rs ≡ false) (mode coun
           (low, ltb-false 8 count (set-most rs mode count mode-is count-is e low ∙ suited))
 
 -- the way of the mode
-module _ (file : List ℕ) (answer work : ℕ) {mode : ℕ}
+module _ (F : Field) (file : List ℕ) (answer work : ℕ) {mode : ℕ}
     (mode-is : mode ≡ byteOf 3 (recordsFrom file 0)) where
   abbrev By : Mode → Type 0
   By m =
-      rateRecords (recordsFrom file 0) answer work
-      ≡ rateMode m (byteOf 2 (recordsFrom file 0)) (factorsIn file) (termsOf (recordsFrom file 0)) answer
-      work
+      ratedIn F (recordsFrom file 0) answer work
+      ≡ rateMode m F (factorsIn file) (termsOf (recordsFrom file 0)) answer work
 
   rated-by : (m : Mode) → modeOf mode ≡ some m → By m
-  unfolding factorsIn
-  rated-by m e = known-mode (recordsFrom file 0) answer work (sym (ap modeOf mode-is) ∙ e)
+  unfolding factorsIn ratedIn
+  rated-by m e = rw (sym (ap modeOf mode-is) ∙ e, ratedIn)
 
   pub by-period : mode ≡ 1 → By periodMode
   unfolding modeOf lookUp
@@ -69,18 +70,28 @@ module _ (file : List ℕ) (answer work : ℕ) {mode : ℕ}
   unfolding modeOf lookUp
   by-free e = rated-by freeMode (rw e)
 
--- the refusal that p and the terms meet in any mode
-pub rated-refused : (file : List ℕ) (answer work : ℕ) {n : ℕ}
+-- the refusal that the terms meet in any mode
+pub rated-refused : (F : Field) (file : List ℕ) (answer work : ℕ) {n : ℕ}
     → modeUnsuited (recordsFrom file 0) ≡ false
     → ((m : Mode)
-    → rateMode m (byteOf 2 (recordsFrom file 0)) (factorsIn file) (termsOf (recordsFrom file 0)) answer
-    work
-    ≡ refused n)
-    → rateRecords (recordsFrom file 0) answer work ≡ refused n
+    → rateMode m F (factorsIn file) (termsOf (recordsFrom file 0)) answer work ≡ refused n)
+    → ratedIn F (recordsFrom file 0) answer work ≡ refused n
 unfolding modeUnsuited
-rated-refused file answer work {n} suited each = go (modeOf (byteOf 3 (recordsFrom file 0))) refl
+rated-refused F file answer work {n} suited each = go (modeOf (byteOf 3 (recordsFrom file 0))) refl
   where
     go : (o : Option Mode) → modeOf (byteOf 3 (recordsFrom file 0)) ≡ o
-        → rateRecords (recordsFrom file 0) answer work ≡ refused n
+        → ratedIn F (recordsFrom file 0) answer work ≡ refused n
     go none e = absurd (true≢false (rw (e, modeUnsuited) at suited))
-    go (some m) e = rated-by file answer work refl m e ∙ each m
+    go (some m) e = rated-by F file answer work refl m e ∙ each m
+
+-- the records of an accepted file are rated in the field that they name
+pub records-in : (rs : List RouteRecord) (answer work : ℕ)
+    → modeUnsuited rs ≡ false
+    → rateRecords rs answer work ≡ inField (fieldIn rs) (λ F. ratedIn F rs answer work)
+unfolding modeUnsuited rateRecords ratedIn
+records-in rs answer work suited = go (modeOf (byteOf 3 rs)) refl
+  where
+    go : (o : Option Mode) → modeOf (byteOf 3 rs) ≡ o
+        → rateRecords rs answer work ≡ inField (fieldIn rs) (λ F. ratedIn F rs answer work)
+    go none e = absurd (true≢false (rw (e, modeUnsuited) at suited))
+    go (some m) e = rw (e, rateRecords, ratedIn)

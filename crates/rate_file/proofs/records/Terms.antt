@@ -1,4 +1,4 @@
--- The terms of a file, cut after 4,097: 6, 7 and 8 are met as by all of them, and accepted terms are all of
+-- The terms of a file, cut after 4,097: 7 and 8 are met as by all of them, and accepted terms are all of
 -- them.
 -- Assumes nothing.
 use Prim.Native.Nat.{ℕ, _<_}
@@ -10,7 +10,8 @@ use mathlib.Core.List.{List, [], _∷_}
 use lib.ListN.{length, take, drop, length-take}
 use lib.Seq.{take-all}
 use borrow.Author.Tests.{lt-ltb, ne-eqb}
-use Rattle.meaning.specs.Conditions.{notPrime, countOutOfRange}
+use Rattle.meaning.specs.Field.{Field}
+use Rattle.meaning.specs.Conditions.{countOutOfRange}
 use Rattle.meaning.specs.Result.{firstOf}
 use Rattle.meaning.specs.File.{termsOf}
 use Rattle.bridge.proofs.Ways.Accepted.{count-accepted}
@@ -29,27 +30,27 @@ count-beyond : (n : ℕ) → 4096 < n → countOutOfRange n ≡ true
 unfolding countOutOfRange
 count-beyond n h = rw (ne-eqb n 0 (λ e. omega arith), lt-ltb 4096 n h)
 
--- 6 and 7 alone decide
-terms-beyond : (p : ℕ) (ts : List ℕ) → 4096 < length ts
-    → firstOf (termsTable p ts)
-    ≡ firstOf ((6, λ _. notPrime p) ∷ (7, λ _. true) ∷ [])
+-- 7 alone decides
+terms-beyond : (F : Field) (ts : List ℕ) → 4096 < length ts
+    → firstOf (termsTable F ts)
+    ≡ firstOf ((7, λ _. true) ∷ [])
 unfolding termsTable firstOf
-terms-beyond p ts h = rw (count-beyond (length ts) h)
+terms-beyond F ts h = rw (count-beyond (length ts) h)
 
-module _ (p : ℕ) (ts : List ℕ) where
-  pub cut-terms : firstOf (termsTable p (cutTerms ts)) ≡ firstOf (termsTable p ts)
+module _ (F : Field) (ts : List ℕ) where
+  pub cut-terms : firstOf (termsTable F (cutTerms ts)) ≡ firstOf (termsTable F ts)
   cut-terms = go (decLt 4096 (length ts))
     where
-      go : Dec (4096 < length ts) → firstOf (termsTable p (cutTerms ts)) ≡ firstOf (termsTable p ts)
+      go : Dec (4096 < length ts) → firstOf (termsTable F (cutTerms ts)) ≡ firstOf (termsTable F ts)
       go (yes h) =
-          terms-beyond p (cutTerms ts) (rw length-take (omega arith)) ∙ sym (terms-beyond p ts h)
-      go (no h) = ap (λ (l : List ℕ). firstOf (termsTable p l)) (take-all 4097 ts (omega arith))
+          terms-beyond F (cutTerms ts) (rw length-take (omega arith)) ∙ sym (terms-beyond F ts h)
+      go (no h) = ap (λ (l : List ℕ). firstOf (termsTable F l)) (take-all 4097 ts (omega arith))
 
-  pub cut-accepted : {v : Verdict} → numberIn v ≡ firstOf (termsTable p (cutTerms ts)) → v ≡ Verdict.Accepted
+  pub cut-accepted : {v : Verdict} → numberIn v ≡ firstOf (termsTable F (cutTerms ts)) → v ≡ Verdict.Accepted
       → cutTerms ts ≡ ts
   unfolding termsTable
   cut-accepted e q =
-      let n = count-accepted (length ts) (verdict-passes (termsTable p ts) (e ∙ cut-terms) q .countInRange) in
+      let n = count-accepted (length ts) (verdict-passes (termsTable F ts) (e ∙ cut-terms) q .countInRange) in
       take-all 4097 ts (omega arith)
 
 -- the terms as they were gathered in 4,097 bytes

@@ -4,11 +4,11 @@
 --   factorsIn file     == the factors of the file, as it writes them, in order
 --   polynomialsIn file == their polynomials
 --   noFactor           == what a place beyond the last factor reads as
---   writtenTable p fs  == the refusals 10 and 11 of factors as a file writes them
+--   writtenTable F fs  == the refusals 10 and 11 of factors as a file writes them
 use Prim.Native.Nat.{ℕ}
 use mathlib.Core.List.{List, [], _∷_, map}
 use Rattle.meaning.specs.Search.{holdsForSome}
-use Rattle.meaning.specs.Field.{prime}
+use Rattle.meaning.specs.Field.{Field}
 use Rattle.meaning.specs.Polynomial.{Polynomial}
 use Rattle.meaning.specs.Result.{Check}
 use Rattle.meaning.specs.Route.{bodies}
@@ -28,8 +28,8 @@ polynomialsIn file = map polynomialOf (factorsIn file)
 unfoldable pub noFactor : WrittenFactor
 noFactor = fileFactor []
 
-unfoldable pub writtenTable : ℕ → List WrittenFactor → List Check
-writtenTable p fs =
-    (10, λ _. holdsForSome (fileDegreeOutOfRange (prime p)) fs)
-    ∷ (11, λ _. holdsForSome (fileCoefficientOutOfRange (prime p)) fs)
+unfoldable pub writtenTable : Field → List WrittenFactor → List Check
+writtenTable F fs =
+    (10, λ _. holdsForSome (fileDegreeOutOfRange F) fs)
+    ∷ (11, λ _. holdsForSome (fileCoefficientOutOfRange F) fs)
     ∷ []

@@ -6,6 +6,8 @@ use lib.ListN.{length}
 use denote.Ref.{now}
 use Rattle.meaning.specs.Result.{firstOf}
 use Rattle.meaning.specs.Free.{freeTable}
+use Rattle.arith.specs.Represented.{fieldOf}
+use Rattle.arith.proofs.Represented.{field-isField}
 use Rattle.refusals.specs.Verdicts.{numberIn}
 use Rattle.rate_free.proofs.FreeAnswer.{FreeAccepted, checked-verdict, verdict-open, verdict-accepted}
 use Rattle.rate_free.proofs.FreeAnswer.{rating-refused, rating-answered}
@@ -19,16 +21,17 @@ verdict a = a .before .before
 abbrev entry : tie.After-lent-verdict → tie.Start
 entry v = v .before .before .before .before
 
--- 6, 7 and 8 let pass, and so the verdict on the lent bytes is that of the whole table
+-- 7 and 8 let pass, and so the verdict on the lent bytes is that of the whole table
 decided : (v : tie.After-lent-verdict)
     → let b = entry v .args in
     numberIn (v .lent-verdict .result)
-    ≡ firstOf (freeTable (b .p) (now (b .terms)) (length (now (b .answer))) (length (now (b .work))))
-decided v = checked-verdict _ _ _ _ (v .lent-verdict .result) (entry v .pre) (v .lent-verdict .ensures)
+    ≡ firstOf
+    (freeTable (fieldOf (b .field)) (now (b .terms)) (length (now (b .answer))) (length (now (b .work))))
+decided v = checked-verdict _ _ _ _ (v .lent-verdict .result) (entry v .pre .1) (v .lent-verdict .ensures)
 
 accepted : (a : tie.After-enum-told)
     → let b = entry (verdict a) .args in
-    FreeAccepted (b .p) (now (b .terms)) (length (now (b .answer))) (length (now (b .work)))
+    FreeAccepted (fieldOf (b .field)) (now (b .terms)) (length (now (b .answer))) (length (now (b .work)))
 accepted a = verdict-accepted _ _ _ _ (decided (verdict a)) (a .enum-told .given .1)
 
 lent-verdict-requires : tie.Need-lent-verdict-requires
@@ -40,14 +43,11 @@ enum-known-r c = search needs
 enum-told : tie.Need-enum-told
 enum-told c = search needs
 
-of-prime-requires : tie.Need-of-prime-requires
-of-prime-requires c κs = accepted c .isPrime
-
 shortest-recurrence-requires : tie.Need-shortest-recurrence-requires
 shortest-recurrence-requires c κs =
-    let f = c .before .before in
-    let h = accepted (f .before) in
-    (f .of-prime .ensures .wellFormed, (record { terms = h .count; bytes = h .workRoom }, h .answerRoom))
+    let a = c .before .before in
+    let h = accepted a in
+    (entry (verdict a) .pre .0, (record { terms = h .count; bytes = h .workRoom }, h .answerRoom))
 
 figures-requires : tie.Need-figures-requires
 figures-requires c κs = search needs
@@ -65,9 +65,8 @@ same-length-2 c = search needs
 returns-2 : tie.Need-returns-2
 returns-2 c =
     let s = c .before .before .before .before .before in
-    let f = s .before .before .before in
-    let a = f .before in
-    rating-answered (f .of-prime .ensures)
+    let a = s .before .before .before in
+    rating-answered (field-isField (entry (verdict a) .pre .0))
     (verdict-open _ _ _ _ (decided (verdict a)) (a .enum-told .given .1))
     (s .shortest-recurrence .ensures) (c .figures .ensures)
 
@@ -78,7 +77,6 @@ rate-checked-spec =
     lent-verdict-requires
     enum-known-r
     enum-told
-    of-prime-requires
     shortest-recurrence-requires
     figures-requires
     returns

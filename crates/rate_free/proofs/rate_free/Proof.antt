@@ -1,30 +1,27 @@
--- `rate_free` meets its contract: one of 6, 7 and 8 refuses, or the terms are rated.
+-- `rate_free` meets its contract: the name is refused, or the answer is that in its field.
 -- Assumes nothing.
-use mathlib.Core.Path.{sym, ap, _∙_}
 use borrow.Author.Needs.{needs}
-use Rattle.refusals.specs.Verdicts.{numberIn}
-use Rattle.rate_free.proofs.FreeAnswer.{terms-refused}
+use Rattle.arith.proofs.Door.{made-named}
+use Rattle.rate_free.proofs.FreeAnswer.{call-refused, call-made}
 use Rattle.rate_free.proofs.rate_free.Statement.{statement}
 use Rattle.rate_free.proofs.rate_free.Tie as tie
 
-terms-verdict-requires : tie.Need-terms-verdict-requires
-terms-verdict-requires c κs = search needs
+of-requires : tie.Need-of-requires
+of-requires c κs = search needs
 
 enum-known-r : tie.Need-enum-known-r
 enum-known-r c = search needs
 
-enum-told : tie.Need-enum-told
-enum-told c = search needs
+enum-known-field : tie.Need-enum-known-field
+enum-known-field c = search needs
 
-rate-checked-requires : tie.Need-rate-checked-requires
-unfolding numberIn
-rate-checked-requires c κs =
-    let a = c .before .before in
-    sym (a .before .before .terms-verdict .ensures) ∙ ap numberIn (a .enum-told .given .1)
+rate-in-requires : tie.Need-rate-in-requires
+rate-in-requires c κs =
+    let f = c .before .before in
+    made-named (f .before .before .before .of .ensures) (f .before .field .given .1) .wellFormed
 
 returns : tie.Need-returns
-returns c =
-    terms-refused _ _ _ _ (c .before .before .before .terms-verdict .ensures) (c .before .r .given .1)
+returns c = call-refused (c .before .before .before .of .ensures) _ _ _ (c .before .r .given .1)
 
 same-length : tie.Need-same-length
 same-length c = search needs
@@ -33,16 +30,20 @@ same-length-2 : tie.Need-same-length-2
 same-length-2 c = search needs
 
 returns-2 : tie.Need-returns-2
-returns-2 c = c .before .before .before .before .rate-checked .ensures
+returns-2 c =
+    let s = c .before .before .before .before in
+    let f = s .before .before .before in
+    call-made (f .before .before .before .of .ensures) _ _ _ (f .before .field .given .1)
+    (s .rate-in .ensures)
 
 pub rate-free-spec : {M : Type 1} → statement M
 rate-free-spec =
     tie.close
     (tie.spec
-    terms-verdict-requires
+    of-requires
     enum-known-r
-    enum-told
-    rate-checked-requires
+    enum-known-field
+    rate-in-requires
     returns
     same-length
     same-length-2

@@ -1,6 +1,7 @@
 -- `rate_checked` meets its contract: 12 or 16 refuses, or the answer is that of the power found.
 -- Assumes nothing.
 use borrow.Author.Needs.{needs}
+use Rattle.arith.proofs.Represented.{field-isField}
 use Rattle.rate_period.proofs.PeriodAnswer.{period-refused, period-lent, period-input}
 use Rattle.rate_period.proofs.PeriodAnswer.{period-answerable, period-rated}
 use Rattle.rate_period.proofs.rate_checked.Statement.{statement}
@@ -22,8 +23,8 @@ period-power-requires c κs =
     let s = v .before .before .before .before .before in
     let e = v .period-verdict .ensures in
     let q = a .enum-told .given .1 in (
-      s .pre .0 .wellFormed,
-      (period-lent _ _ _ _ _ (s .pre .1) e q .1, period-input _ _ _ _ _ (s .pre .1) e q (s .pre .0 .isField)),
+      s .pre .0,
+      (period-lent _ _ _ _ _ (s .pre .1) e q .1, period-input _ _ _ _ _ (s .pre .1) e q),
     )
 
 rated-requires : tie.Need-rated-requires
@@ -34,10 +35,10 @@ rated-requires c κs =
     let s = v .before .before .before .before .before in
     let e = v .period-verdict .ensures in
     let q = a .enum-told .given .1 in (
-      s .pre .0 .wellFormed,
+      s .pre .0,
       (
         period-lent _ _ _ _ _ (s .pre .1) e q .0,
-        period-answerable _ _ _ _ _ (s .pre .1) e q (s .pre .0 .isField) (w .period-power .ensures),
+        period-answerable _ _ _ _ _ (s .pre .1) e q (field-isField (s .pre .0)) (w .period-power .ensures),
       ),
     )
 
@@ -61,7 +62,6 @@ returns-2 c =
     let v = a .before .before in
     let s = v .before .before .before .before .before in
     period-rated _ _ _ _ _ (s .pre .1) (v .period-verdict .ensures) (a .enum-told .given .1)
-    (s .pre .0 .isField)
     (w .period-power .ensures)
     (g .rated .ensures)
 

@@ -29,7 +29,8 @@ total-degree-requires c κs = search needs
 
 set-verdict-requires : tie.Need-set-verdict-requires
 set-verdict-requires c κs =
-    (accepted-at (c .before .before .before .before .before .pre .1), c .total-degree .ensures)
+    let s = c .before .before .before .before .before in
+    (s .pre .0, (accepted-at (s .pre .1), c .total-degree .ensures))
 
 enum-known-r : tie.Need-enum-known-r
 enum-known-r c = search needs
@@ -47,11 +48,11 @@ set-powers-requires c κs =
     let s = start v in
     let e = v .set-verdict .ensures in
     let q = a .enum-told .given .1 in (
-      s .pre .0 .wellFormed,
+      s .pre .0,
       (
         set-lent _ _ _ _ _ _ (s .pre .1) e q .1,
         (
-          set-input _ _ _ _ _ _ (s .pre .1) e q (s .pre .0 .isField),
+          set-input _ _ _ _ _ _ (s .pre .1) e q,
           (v .before .total-degree .ensures, refl),
         ),
       ),
@@ -64,7 +65,7 @@ eight t =
     let a = accepted y in
     let s = start (verdict a) in
     set-powers-eight _ _ _ _ _ _ (s .pre .1) (verdict a .set-verdict .ensures) (a .enum-told .given .1)
-    (s .pre .0 .isField) (field-isField (s .pre .0 .wellFormed)) (y .set-powers .ensures) (t .if1 .taken)
+    (field-isField (s .pre .0)) (y .set-powers .ensures) (t .if1 .taken)
 
 slice-aggregate-write-product : tie.Need-slice-aggregate-write-product
 slice-aggregate-write-product c = eight (c .before .before)
@@ -78,11 +79,11 @@ write-product-requires c κs =
     let s = start v in
     let e = v .set-verdict .ensures in
     let q = a .enum-told .given .1 in (
-      s .pre .0 .wellFormed,
+      s .pre .0,
       (
         set-lent _ _ _ _ _ _ (s .pre .1) e q .0,
-        set-powers-input _ _ _ _ _ _ (s .pre .1) e q (s .pre .0 .isField)
-            (field-isField (s .pre .0 .wellFormed)) (y .set-powers .ensures) (t .if1 .taken),
+        set-powers-input _ _ _ _ _ _ (s .pre .1) e q
+            (field-isField (s .pre .0)) (y .set-powers .ensures) (t .if1 .taken),
       ),
     )
 
@@ -95,11 +96,13 @@ repeat-length-requires c κs =
     let y = searched t in
     let a = accepted y in
     let v = verdict a in
-    let s = start v in (
-      s .pre .0 .wellFormed,
-      set-powered _ _ _ _ _ _ (s .pre .1) (v .set-verdict .ensures) (a .enum-told .given .1)
-          (s .pre .0 .isField) (field-isField (s .pre .0 .wellFormed)) (y .set-powers .ensures)
-          (t .if1 .taken),
+    let s = start v in
+    let e = v .set-verdict .ensures in
+    let q = a .enum-told .given .1 in (
+      s .pre .0,
+      set-powered (s .pre .0) (s .pre .1) (set-input _ _ _ _ _ _ (s .pre .1) e q)
+          (set-powers-input _ _ _ _ _ _ (s .pre .1) e q (field-isField (s .pre .0)) (y .set-powers .ensures)
+          (t .if1 .taken)),
     )
 
 rated-requires : tie.Need-rated-requires
@@ -129,8 +132,8 @@ returns-2 c =
     let a = accepted y in
     let v = verdict a in
     let s = start v in
-    set-rated _ _ _ _ _ _ (s .pre .1) (v .set-verdict .ensures) (a .enum-told .given .1) (s .pre .0 .isField)
-    (field-isField (s .pre .0 .wellFormed)) (y .set-powers .ensures)
+    set-rated _ _ _ _ _ _ (s .pre .1) (v .set-verdict .ensures) (a .enum-told .given .1)
+    (field-isField (s .pre .0)) (y .set-powers .ensures)
     (t .if1 .taken)
     (sym (lists-length _))
     (w .write-product .ensures)
@@ -148,8 +151,7 @@ returns-3 c =
     let v = verdict a in
     let s = start v in
     set-seventeen _ _ _ _ _ _ (s .pre .1) (v .set-verdict .ensures) (a .enum-told .given .1)
-    (s .pre .0 .isField)
-    (field-isField (s .pre .0 .wellFormed)) (y .set-powers .ensures)
+    (field-isField (s .pre .0)) (y .set-powers .ensures)
     (t .if1 .left)
     (c .refused2 .ensures)
 

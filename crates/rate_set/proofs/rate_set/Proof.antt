@@ -1,116 +1,32 @@
--- `rate_set` meets its contract: what is given is refused, or the monic multiples are packed and rated.
+-- `rate_set` meets its contract: the name is refused, or the answer is that in its field.
 -- Assumes nothing.
-use Prim.Native.Nat.{ℕ, _-_}
-use mathlib.Core.Path.{_≡_, sym, ap, subst, _∙_}
-use mathlib.Core.Bool.{false}
-use mathlib.Core.List.{List, map}
-use lib.ListN.{length, take, drop, length-replicate}
-use denote.Ref.{now}
 use borrow.Author.Needs.{needs}
-use native.Mathlib.Omega.{arith}
-use Rattle.meaning.specs.Field.{Field, prime}
-use Rattle.meaning.specs.Polynomial.{Polynomial, monicMultiple}
-use Rattle.meaning.specs.Conditions.{named}
-use Rattle.meaning.specs.Portion.{setAnswer}
-use Rattle.meaning.specs.Slices.{listsOf}
-use Rattle.meaning.proofs.Slices.{lists-length}
-use Rattle.poly.proofs.parts.Splitting.{parts-first}
-use Rattle.rate_set.specs.Ratings.{Checked, SetRatedAs}
-use Rattle.rate_set.proofs.Given.{given-set-refused, given-set-prime, given-set-packable}
-use Rattle.rate_set.proofs.Given.{given-set-few, given-checked, given-set-rated}
+use Rattle.arith.proofs.Door.{made-named}
+use Rattle.rate_set.proofs.Given.{call-refused, call-made}
 use Rattle.rate_set.proofs.rate_set.Statement.{statement}
 use Rattle.rate_set.proofs.rate_set.Tie as tie
 
--- what the slices were made from
-abbrev packing : tie.After-nine-parts → tie.After-pack-multiples
-packing n = n .before .before .before .before
-
-abbrev field-made : tie.After-nine-parts → tie.After-of-prime
-field-made n = packing n .before .before
-
-abbrev accepted : tie.After-nine-parts → tie.After-enum-told
-accepted n = field-made n .before
-
-abbrev start : tie.After-nine-parts → tie.Start
-start n = accepted n .before .before .before .before .before .before .before
-
--- the slices hold the monic multiples
-multiples : (n : tie.After-nine-parts)
-    → listsOf (take (length (now (start n .args .factors)) - 0) (drop 0 (n .nine-parts .result)))
-    ≡ map (monicMultiple (prime (start n .args .p))) (listsOf (now (start n .args .factors)))
-multiples n =
-    let fs = now (start n .args .factors) in
-    parts-first _ _ (n .nine-parts .result) (length fs) (n .nine-parts .ensures)
-    ∙ packing n .pack-multiples .ensures
-    ∙ ap (λ (F : Field). map (monicMultiple F) (listsOf fs)) (field-made n .of-prime .ensures .isField)
-
-given-set-verdict-requires : tie.Need-given-set-verdict-requires
-given-set-verdict-requires c κs = search needs
+of-requires : tie.Need-of-requires
+of-requires c κs = search needs
 
 enum-known-r : tie.Need-enum-known-r
 enum-known-r c = search needs
 
+enum-known-field : tie.Need-enum-known-field
+enum-known-field c = search needs
+
 refused-requires : tie.Need-refused-requires
 refused-requires c κs = search needs
 
-enum-told : tie.Need-enum-told
-enum-told c = search needs
-
-of-prime-requires : tie.Need-of-prime-requires
-of-prime-requires c κs =
-    given-set-prime _ _ _ (c .before .before .given-set-verdict .ensures) (c .enum-told .given .1)
-
-slice-aggregate-pack-multiples : tie.Need-slice-aggregate-pack-multiples
-slice-aggregate-pack-multiples c = search needs
-
-pack-multiples-requires : tie.Need-pack-multiples-requires
-pack-multiples-requires c κs =
-    let o = c .before in
-    let a = o .before in (
-      o .of-prime .ensures .wellFormed,
-      given-set-packable _ _ _ (a .before .before .given-set-verdict .ensures) (a .enum-told .given .1)
-          (o .of-prime .ensures .isField) (length-replicate {A = ℕ} 264 0),
-    )
-
-slice-aggregate-nine-parts : tie.Need-slice-aggregate-nine-parts
-slice-aggregate-nine-parts c = search needs
-
-nine-parts-requires : tie.Need-nine-parts-requires
-nine-parts-requires c κs = search needs
-
-sub-rate-checked : tie.Need-sub-rate-checked
-sub-rate-checked c = search needs
-
-part-rate-checked-start : tie.Need-part-rate-checked-start
-part-rate-checked-start c = search needs
-
-part-rate-checked-end : tie.Need-part-rate-checked-end
-part-rate-checked-end c =
-    let n = c .before in
-    let a = accepted n in
-    let fs = now (start n .args .factors) in
-    omega (
-      arith,
-      given-set-few (start n .args .p) (listsOf fs) (now (start n .args .terms))
-          (a .before .before .given-set-verdict .ensures) (a .enum-told .given .1),
-      lists-length fs,
-    )
-
-rate-checked-requires : tie.Need-rate-checked-requires
-rate-checked-requires c κs =
-    let n = c .before .before .before .before in
-    let a = accepted n in
-    let s = start n in (
-      field-made n .of-prime .ensures,
-      subst (λ gs. Checked (s .args .p) gs (now (s .args .terms))) (sym (multiples n))
-          (given-checked _ _ _ (a .before .before .given-set-verdict .ensures) (a .enum-told .given .1)),
-    )
+rate-in-requires : tie.Need-rate-in-requires
+rate-in-requires c κs =
+    let f = c .before .before in
+    made-named (f .before .before .before .of .ensures) (f .before .field .given .1) .wellFormed
 
 returns : tie.Need-returns
 returns c =
     let r = c .before .before in
-    given-set-refused _ _ _ _ _ _ (r .before .before .given-set-verdict .ensures) (r .r .given .1)
-    (c .refused .ensures)
+    call-refused (r .before .before .of .ensures) _ _ _ _ _ (r .r .given .1) (c .refused .ensures)
 
 same-length : tie.Need-same-length
 same-length c = search needs
@@ -120,41 +36,20 @@ same-length-2 c = search needs
 
 returns-2 : tie.Need-returns-2
 returns-2 c =
-    let r = c .before .before .before .before in
-    let n = r .before .before .before .before .before in
-    let a = accepted n in
-    let s = start n in
-    given-set-rated _ _ _ _ _ _ (a .before .before .given-set-verdict .ensures) (a .enum-told .given .1)
-    (subst
-    (λ (gs : List Polynomial).
-    SetRatedAs
-    (setAnswer (s .args .p) false false (named gs (now (s .args .uppers))) (now (s .args .terms))
-    (length (now (s .args .answer))) (length (now (s .args .work))))
-    (now (s .args .answer))
-    (now (s .args .work))
-    (r .rate-checked .result)
-    (r .rate-checked .last .1 .1 .1 .1 .1 .0)
-    (r .rate-checked .last .1 .1 .1 .1 .1 .1 .0))
-    (multiples n)
-    (r .rate-checked .ensures))
+    let s = c .before .before .before .before in
+    let f = s .before .before .before in
+    call-made (f .before .before .before .of .ensures) _ _ _ _ _ (f .before .field .given .1)
+    (s .rate-in .ensures)
 
 pub rate-set-spec : {M : Type 1} → statement M
 rate-set-spec =
     tie.close
     (tie.spec
-    given-set-verdict-requires
+    of-requires
     enum-known-r
     refused-requires
-    enum-told
-    of-prime-requires
-    slice-aggregate-pack-multiples
-    pack-multiples-requires
-    slice-aggregate-nine-parts
-    nine-parts-requires
-    sub-rate-checked
-    part-rate-checked-start
-    part-rate-checked-end
-    rate-checked-requires
+    enum-known-field
+    rate-in-requires
     returns
     same-length
     same-length-2

@@ -6,13 +6,14 @@ use denote.Ref.{now}
 use borrow.Author.Needs.{needs}
 use Rattle.meaning.specs.Result.{Check}
 use Rattle.meaning.specs.Free.{freeTable}
+use Rattle.arith.specs.Represented.{fieldOf}
 use Rattle.refusals.specs.Verdicts.{termsTable, lentTable}
 use Rattle.refusals.proofs.Order.{refused-before, accepted-before}
 use Rattle.refusals.proofs.free_verdict.Statement.{statement}
 use Rattle.refusals.proofs.free_verdict.Tie as tie
 
 abbrev terms : tie.Start → List Check
-terms s = termsTable (s .args .p) (now (s .args .terms))
+terms s = termsTable (fieldOf (s .args .field)) (now (s .args .terms))
 
 abbrev rest : tie.Start → List Check
 rest s = lentTable (s .args .answer) (s .args .work)

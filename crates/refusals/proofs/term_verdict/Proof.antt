@@ -6,13 +6,14 @@ use borrow.Author.Needs.{needs}
 use Rattle.meaning.specs.Result.{Check}
 use Rattle.meaning.specs.Answers.{numberOf}
 use Rattle.meaning.specs.Meter.{termTable}
+use Rattle.arith.specs.Represented.{fieldOf}
 use Rattle.refusals.specs.Verdicts.{numberIn}
 use Rattle.refusals.proofs.Order.{Passed, first-here, first-skip, first-nowhere}
 use Rattle.refusals.proofs.term_verdict.Statement.{statement}
 use Rattle.refusals.proofs.term_verdict.Tie as tie
 
 abbrev table : tie.Start → List Check
-table s = termTable (s .args .p) (s .args .held) (s .args .term)
+table s = termTable (fieldOf (s .args .field)) (s .args .held) (s .args .term)
 
 abbrev at-1 : tie.Else1 → tie.Start
 at-1 c = c .before .before .before

@@ -6,20 +6,21 @@ use denote.Ref.{now}
 use borrow.Author.Needs.{needs}
 use Rattle.meaning.specs.Result.{Check}
 use Rattle.meaning.specs.Answers.{numberOf}
+use Rattle.arith.specs.Represented.{fieldOf}
 use Rattle.refusals.specs.Verdicts.{numberIn, termsTable}
 use Rattle.refusals.proofs.Order.{Passed, first-here, first-skip, first-nowhere}
 use Rattle.refusals.proofs.terms_verdict.Statement.{statement}
 use Rattle.refusals.proofs.terms_verdict.Tie as tie
 
 abbrev table : tie.Start → List Check
-table s = termsTable (s .args .p) (now (s .args .terms))
+table s = termsTable (fieldOf (s .args .field)) (now (s .args .terms))
 
 abbrev at-1 : tie.Else1 → tie.Start
 at-1 c = c .before .before .before
 
 passed-1 : (c : tie.Else1) → Passed 1 (table (at-1 c))
 unfolding termsTable
-passed-1 c = first-skip _ _ (c .before .not-prime .ensures) (c .if1 .left)
+passed-1 c = first-skip _ _ (c .before .count-out-of-range .ensures) (c .if1 .left)
 
 abbrev at-2 : tie.Else2 → tie.Start
 at-2 c = at-1 (c .before .before)
@@ -28,54 +29,34 @@ passed-2 : (c : tie.Else2) → Passed 2 (table (at-2 c))
 unfolding termsTable
 passed-2 c =
     passed-1 (c .before .before)
-    ∙ first-skip _ _ (c .before .count-out-of-range .ensures) (c .if2 .left)
-
-abbrev at-3 : tie.Else3 → tie.Start
-at-3 c = at-2 (c .before .before)
-
-passed-3 : (c : tie.Else3) → Passed 3 (table (at-3 c))
-unfolding termsTable
-passed-3 c =
-    passed-2 (c .before .before)
-    ∙ first-skip _ _ (c .before .term-out-of-field .ensures) (c .if3 .left)
-
-not-prime-requires : tie.Need-not-prime-requires
-not-prime-requires c κs = search needs
-
-returns : tie.Need-returns
-unfolding numberIn numberOf termsTable
-returns c = first-here _ _ (c .before .not-prime .ensures) (c .if1 .taken)
+    ∙ first-skip _ _ (c .before .term-out-of-field .ensures) (c .if2 .left)
 
 count-out-of-range-requires : tie.Need-count-out-of-range-requires
 count-out-of-range-requires c κs = search needs
 
-returns-2 : tie.Need-returns-2
+returns : tie.Need-returns
 unfolding numberIn numberOf termsTable
-returns-2 c =
-    first-here _ _ (c .before .count-out-of-range .ensures) (c .if2 .taken)
-    ∙ sym (passed-1 (c .before .before))
+returns c = first-here _ _ (c .before .count-out-of-range .ensures) (c .if1 .taken)
 
 term-out-of-field-requires : tie.Need-term-out-of-field-requires
 term-out-of-field-requires c κs = search needs
 
-returns-3 : tie.Need-returns-3
+returns-2 : tie.Need-returns-2
 unfolding numberIn numberOf termsTable
-returns-3 c =
-    first-here _ _ (c .before .term-out-of-field .ensures) (c .if3 .taken)
-    ∙ sym (passed-2 (c .before .before))
+returns-2 c =
+    first-here _ _ (c .before .term-out-of-field .ensures) (c .if2 .taken)
+    ∙ sym (passed-1 (c .before .before))
 
-returns-4 : tie.Need-returns-4
+returns-3 : tie.Need-returns-3
 unfolding numberIn termsTable
-returns-4 c = first-nowhere ∙ sym (passed-3 c)
+returns-3 c = first-nowhere ∙ sym (passed-2 c)
 
 pub terms-verdict-spec : {M : Type 1} → statement M
 terms-verdict-spec =
     tie.close
     (tie.spec
-    not-prime-requires
-    returns
     count-out-of-range-requires
-    returns-2
+    returns
     term-out-of-field-requires
-    returns-3
-    returns-4)
+    returns-2
+    returns-3)

@@ -1,12 +1,13 @@
 // The conditions over all factors of a set: those that are asked of each factor, by their names, and those on
 // all of them together with their upper powers. For any slices of any length, but for 12, which assumes that
-// 6, 10 and 11 let the factors pass; no lent byte is changed. A factor without an upper power has 0, and
+// 10 and 11 let the factors pass; no lent byte is changed. A factor without an upper power has 0, and
 // further upper powers belong to no factor.
 use crate::conditions::files::file_coefficient_out_of_range;
 use crate::conditions::files::file_degree_out_of_range;
 use crate::conditions::lists::coefficient_out_of_range;
 use crate::conditions::lists::factor_degree_out_of_range;
 use crate::conditions::lists::reducible;
+use arith::GaloisField;
 use poly::equality::same;
 use poly::factors::upper_at;
 ghost use mathlib.Core.Path.{_≡_};
@@ -16,6 +17,7 @@ ghost use Rattle.meaning.specs.Search.{holdsForSome};
 ghost use Rattle.meaning.specs.Polynomial.{same};
 ghost use Rattle.meaning.specs.Conditions.{named, isReducible, twoEqual, upperPowersOutOfRange};
 ghost use Rattle.meaning.specs.Slices.{listsOf};
+ghost use Rattle.arith.specs.Represented.{fieldOf, WellFormed};
 ghost use Rattle.poly.specs.factors.Degrees.{cappedDegree};
 ghost use Rattle.refusals.specs.conditions.factors.Factors.{holdsOf, AllAccepted};
 
@@ -33,25 +35,27 @@ pub enum FactorCondition {
 }
 
 // The condition holds of this factor.
-pub fn holds(condition: FactorCondition, p: u64, factor: &[u8]) -> bool
-    ensures { λ r. ⌜ r ≡ holdsOf condition p (now (factor .entry)) ⌝ }
+pub fn holds(condition: FactorCondition, field: GaloisField, factor: &[u8]) -> bool
+    requires { ⌜ WellFormed field ⌝ }
+    ensures { λ r. ⌜ r ≡ holdsOf condition (fieldOf field) (now (factor .entry)) ⌝ }
 {
     match condition {
-        FactorCondition::DegreeOutOfRange => factor_degree_out_of_range(p, factor),
-        FactorCondition::CoefficientOutOfRange => coefficient_out_of_range(p, factor),
-        FactorCondition::FileDegreeOutOfRange => file_degree_out_of_range(p, factor),
-        FactorCondition::FileCoefficientOutOfRange => file_coefficient_out_of_range(p, factor),
+        FactorCondition::DegreeOutOfRange => factor_degree_out_of_range(field, factor),
+        FactorCondition::CoefficientOutOfRange => coefficient_out_of_range(field, factor),
+        FactorCondition::FileDegreeOutOfRange => file_degree_out_of_range(field, factor),
+        FactorCondition::FileCoefficientOutOfRange => file_coefficient_out_of_range(field, factor),
     }
 }
 
 // The condition holds of some factor.
-pub fn holds_for_some(condition: FactorCondition, p: u64, factors: &[&[u8]]) -> bool
-    ensures { λ r. ⌜ r ≡ holdsForSome (holdsOf condition p) (listsOf (now (factors .entry))) ⌝ }
+pub fn holds_for_some(condition: FactorCondition, field: GaloisField, factors: &[&[u8]]) -> bool
+    requires { ⌜ WellFormed field ⌝ }
+    ensures { λ r. ⌜ r ≡ holdsForSome (holdsOf condition (fieldOf field)) (listsOf (now (factors .entry))) ⌝ }
 {
     let mut i = 0;
     // none before i: the factors from i on decide
     while i < factors.len() {
-        if holds(condition, p, factors[i]) {
+        if holds(condition, field, factors[i]) {
             return true;
         }
         i += 1;
@@ -59,15 +63,16 @@ pub fn holds_for_some(condition: FactorCondition, p: u64, factors: &[&[u8]]) -> 
     false
 }
 
-// 12: one of the monic factors, which 6, 10 and 11 let pass, is reducible.
-pub fn some_reducible(p: u64, factors: &[&[u8]]) -> bool
-    requires { ⌜ AllAccepted p (listsOf (now factors)) ⌝ }
-    ensures { λ r. ⌜ r ≡ holdsForSome (isReducible p) (listsOf (now (factors .entry))) ⌝ }
+// 12: one of the monic factors, which 10 and 11 let pass, is reducible.
+pub fn some_reducible(field: GaloisField, factors: &[&[u8]]) -> bool
+    requires { ⌜ WellFormed field ⌝ }
+    requires { ⌜ AllAccepted (fieldOf field) (listsOf (now factors)) ⌝ }
+    ensures { λ r. ⌜ r ≡ holdsForSome (isReducible (fieldOf field)) (listsOf (now (factors .entry))) ⌝ }
 {
     let mut i = 0;
     // none before i: the factors from i on decide
     while i < factors.len() {
-        if reducible(p, factors[i]) {
+        if reducible(field, factors[i]) {
             return true;
         }
         i += 1;

@@ -3,23 +3,26 @@
 use crate::conditions::lists::largest;
 use crate::conditions::lists::term_out_of_field;
 use crate::conditions::numbers::degree_out_of_range;
+use arith::GaloisField;
 ghost use mathlib.Core.Path.{_≡_};
-ghost use Rattle.meaning.specs.Field.{prime};
 ghost use Rattle.meaning.specs.File.{fileFactor, fileDegreeOutOfRange, fileCoefficientOutOfRange};
+ghost use Rattle.arith.specs.Represented.{fieldOf, WellFormed};
 
 // 10: the degree byte, which is 0 where there is none.
-pub fn file_degree_out_of_range(p: u64, body: &[u8]) -> bool
-    ensures { λ r. ⌜ r ≡ fileDegreeOutOfRange (prime p) (fileFactor (now (body .entry))) ⌝ }
+pub fn file_degree_out_of_range(field: GaloisField, body: &[u8]) -> bool
+    requires { ⌜ WellFormed field ⌝ }
+    ensures { λ r. ⌜ r ≡ fileDegreeOutOfRange (fieldOf field) (fileFactor (now (body .entry))) ⌝ }
 {
     if body.len() == 0 {
         return true;
     }
-    degree_out_of_range(p, body[0] as usize)
+    degree_out_of_range(field, body[0] as usize)
 }
 
-// 11: a coefficient below the degree is p or more, or one from the degree on is not 0.
-pub fn file_coefficient_out_of_range(p: u64, body: &[u8]) -> bool
-    ensures { λ r. ⌜ r ≡ fileCoefficientOutOfRange (prime p) (fileFactor (now (body .entry))) ⌝ }
+// 11: a coefficient below the degree is no element of the field, or one from the degree on is not 0.
+pub fn file_coefficient_out_of_range(field: GaloisField, body: &[u8]) -> bool
+    requires { ⌜ WellFormed field ⌝ }
+    ensures { λ r. ⌜ r ≡ fileCoefficientOutOfRange (fieldOf field) (fileFactor (now (body .entry))) ⌝ }
 {
     let n = body.len();
     if n <= 3 {
@@ -27,9 +30,9 @@ pub fn file_coefficient_out_of_range(p: u64, body: &[u8]) -> bool
     }
     let end = body[0] as usize + 3;
     if n <= end {
-        return term_out_of_field(p, &body[3..n]);
+        return term_out_of_field(field, &body[3..n]);
     }
-    if term_out_of_field(p, &body[3..end]) {
+    if term_out_of_field(field, &body[3..end]) {
         return true;
     }
     0 < largest(&body[end..n])

@@ -1,11 +1,12 @@
 // The conditions of the numbered list on one list of numbers: terms or coefficients.
 use crate::conditions::numbers::degree_out_of_range;
+use arith::GaloisField;
 use irreducible::is_irreducible;
 ghost use mathlib.Core.Path.{_≡_};
-ghost use Rattle.meaning.specs.Field.{prime};
 ghost use Rattle.meaning.specs.Conditions.{termOutOfField, factorDegreeOutOfRange};
 ghost use Rattle.meaning.specs.Conditions.{continuationDegreeOutOfRange, coefficientOutOfRange, notMonic};
 ghost use Rattle.meaning.specs.Conditions.{isReducible, fewerTermsThan, startUnlikeDegree};
+ghost use Rattle.arith.specs.Represented.{fieldOf, WellFormed};
 ghost use Rattle.irreducible.specs.Accepted.{Accepted};
 ghost use Rattle.refusals.specs.conditions.lists.Lists.{largest};
 
@@ -25,24 +26,26 @@ pub fn largest(l: &[u8]) -> u8
     m
 }
 
-// 8: a term is p or more.
-pub fn term_out_of_field(p: u64, terms: &[u8]) -> bool
-    ensures { λ r. ⌜ r ≡ termOutOfField (prime p) (now (terms .entry)) ⌝ }
+// 8: a term is no element of the field.
+pub fn term_out_of_field(field: GaloisField, terms: &[u8]) -> bool
+    requires { ⌜ WellFormed field ⌝ }
+    ensures { λ r. ⌜ r ≡ termOutOfField (fieldOf field) (now (terms .entry)) ⌝ }
 {
     if terms.len() == 0 {
         return false;
     }
-    p <= largest(terms) as u64
+    field.size() <= largest(terms) as u16
 }
 
 // 10, of a list, whose degree is one less than its length; an empty list passes.
-pub fn factor_degree_out_of_range(p: u64, factor: &[u8]) -> bool
-    ensures { λ r. ⌜ r ≡ factorDegreeOutOfRange (prime p) (now (factor .entry)) ⌝ }
+pub fn factor_degree_out_of_range(field: GaloisField, factor: &[u8]) -> bool
+    requires { ⌜ WellFormed field ⌝ }
+    ensures { λ r. ⌜ r ≡ factorDegreeOutOfRange (fieldOf field) (now (factor .entry)) ⌝ }
 {
     if factor.len() == 0 {
         return false;
     }
-    degree_out_of_range(p, factor.len() - 1)
+    degree_out_of_range(field, factor.len() - 1)
 }
 
 // 10, for a continuation: a degree above 4,096.
@@ -52,11 +55,12 @@ pub fn continuation_degree_out_of_range(polynomial: &[u8]) -> bool
     4097 < polynomial.len()
 }
 
-// 11, of a list: a coefficient is p or more, the leading one is 0, or the list is empty.
-pub fn coefficient_out_of_range(p: u64, factor: &[u8]) -> bool
-    ensures { λ r. ⌜ r ≡ coefficientOutOfRange (prime p) (now (factor .entry)) ⌝ }
+// 11, of a list: a coefficient is no element of the field, the leading one is 0, or the list is empty.
+pub fn coefficient_out_of_range(field: GaloisField, factor: &[u8]) -> bool
+    requires { ⌜ WellFormed field ⌝ }
+    ensures { λ r. ⌜ r ≡ coefficientOutOfRange (fieldOf field) (now (factor .entry)) ⌝ }
 {
-    if term_out_of_field(p, factor) {
+    if term_out_of_field(field, factor) {
         return true;
     }
     if factor.len() == 0 {
@@ -65,11 +69,12 @@ pub fn coefficient_out_of_range(p: u64, factor: &[u8]) -> bool
     factor[factor.len() - 1] == 0
 }
 
-// A coefficient is p or more, the leading one is not 1, or the list is empty: 12 is not asked.
-pub fn not_monic(p: u64, factor: &[u8]) -> bool
-    ensures { λ r. ⌜ r ≡ notMonic (prime p) (now (factor .entry)) ⌝ }
+// A coefficient is no element of the field, the leading one is not 1, or the list is empty: 12 is not asked.
+pub fn not_monic(field: GaloisField, factor: &[u8]) -> bool
+    requires { ⌜ WellFormed field ⌝ }
+    ensures { λ r. ⌜ r ≡ notMonic (fieldOf field) (now (factor .entry)) ⌝ }
 {
-    if term_out_of_field(p, factor) {
+    if term_out_of_field(field, factor) {
         return true;
     }
     if factor.len() == 0 {
@@ -78,12 +83,13 @@ pub fn not_monic(p: u64, factor: &[u8]) -> bool
     factor[factor.len() - 1] != 1
 }
 
-// 12, of a monic list that 6, 10 and 11 let pass: reducible.
-pub fn reducible(p: u64, factor: &[u8]) -> bool
-    requires { ⌜ Accepted p (now factor) ⌝ }
-    ensures { λ r. ⌜ r ≡ isReducible p (now (factor .entry)) ⌝ }
+// 12, of a monic list that 10 and 11 let pass: reducible.
+pub fn reducible(field: GaloisField, factor: &[u8]) -> bool
+    requires { ⌜ WellFormed field ⌝ }
+    requires { ⌜ Accepted (fieldOf field) (now factor) ⌝ }
+    ensures { λ r. ⌜ r ≡ isReducible (fieldOf field) (now (factor .entry)) ⌝ }
 {
-    !is_irreducible(p, factor)
+    !is_irreducible(field, factor)
 }
 
 // 15: fewer terms than the total degree d.

@@ -1,19 +1,12 @@
-// The conditions of the numbered list on numbers: the prime, counts, places, degrees and lengths.
-use arith::primes::prime_in_range;
+// The conditions of the numbered list on numbers: counts, places, degrees and lengths.
+use arith::GaloisField;
 ghost use mathlib.Core.Path.{_≡_};
 ghost use Prim.Native.Nat.{_^_};
 ghost use lib.Dec.{ltb};
-ghost use Rattle.meaning.specs.Field.{prime};
-ghost use Rattle.meaning.specs.Conditions.{notPrime, countOutOfRange, placeOutOfRange, factorCountOutOfRange};
+ghost use Rattle.meaning.specs.Conditions.{countOutOfRange, placeOutOfRange, factorCountOutOfRange};
 ghost use Rattle.meaning.specs.Conditions.{degreeOutOfRange, lentTooShort};
 ghost use Rattle.meaning.specs.Meter.{meterFull};
-
-// 6: p is not a prime from 2 to 251.
-pub fn not_prime(p: u64) -> bool
-    ensures { λ r. ⌜ r ≡ notPrime p ⌝ }
-{
-    !prime_in_range(p)
-}
+ghost use Rattle.arith.specs.Represented.{fieldOf, WellFormed};
 
 // 7: the terms, or the places to fill, number 0 or more than 4,096.
 pub fn count_out_of_range(n: usize) -> bool
@@ -47,18 +40,18 @@ pub fn factor_count_out_of_range(n: usize) -> bool
     n == 0 || 8 < n
 }
 
-// Whether the power p^e exceeds 65,536. Stops before the product can overflow.
-fn power_exceeds(p: u64, e: usize) -> bool
-    ensures { λ r. ⌜ r ≡ ltb 65536 (p ^ e) ⌝ }
+// Whether the power q^e exceeds 65,536. Stops before the product can overflow.
+fn power_exceeds(q: u64, e: usize) -> bool
+    ensures { λ r. ⌜ r ≡ ltb 65536 (q ^ e) ⌝ }
 {
-    if 65536 < p {
+    if 65536 < q {
         return 0 < e;
     }
     let mut power = 1u64;
     let mut i = 0;
-    // power = p^i, at most 65,536
+    // power = q^i, at most 65,536
     while i < e {
-        power = power * p;
+        power = power * q;
         if 65536 < power {
             return true;
         }
@@ -67,9 +60,10 @@ fn power_exceeds(p: u64, e: usize) -> bool
     false
 }
 
-// 10: the degree d of a factor is 0 or above 32, or p^(d div 2) exceeds 65,536.
-pub fn degree_out_of_range(p: u64, d: usize) -> bool
-    ensures { λ r. ⌜ r ≡ degreeOutOfRange (prime p) d ⌝ }
+// 10: the degree d of a factor is 0 or above 32, or q^(d div 2) exceeds 65,536, q the size of the field.
+pub fn degree_out_of_range(field: GaloisField, d: usize) -> bool
+    requires { ⌜ WellFormed field ⌝ }
+    ensures { λ r. ⌜ r ≡ degreeOutOfRange (fieldOf field) d ⌝ }
 {
     if d == 0 {
         return true;
@@ -77,7 +71,7 @@ pub fn degree_out_of_range(p: u64, d: usize) -> bool
     if 32 < d {
         return true;
     }
-    power_exceeds(p, d / 2)
+    power_exceeds(field.size() as u64, d / 2)
 }
 
 // 16: the lent answer has fewer than 4,097 bytes, or the lent work fewer than 8,192.

@@ -51,12 +51,14 @@ loop-less c = search needs
 loop-again : tie.Need-loop-again Inv-loop μ-loop
 loop-again c =
     let e = c .before .before in
-    let t = e .before .before .before .before .before .before in
+    let g = e .before .before .before .before .before in
+    let t = g .before in
     let l = t .loop in
     let s = t .before .smaller in
+    let i = g .loop-test .taken in
     let b = t .before .before .before .before in (
-      omega arith,
-      entered-more (now (b .args .terms)) (l .inv .1) (omega (arith, s .ensures))
+      omega (arith, i),
+      entered-more (now (b .args .terms)) (l .inv .1) (omega (arith, i, s .ensures))
           (omega (arith, s .ensures, l .inv .1 .size))
           (omega arith)
           (e .enter-term .ensures),

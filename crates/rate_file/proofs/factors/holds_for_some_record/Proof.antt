@@ -7,6 +7,7 @@ use mathlib.Core.List.{[]}
 use lib.ListN.{drop}
 use borrow.Author.Needs.{needs}
 use Rattle.meaning.specs.Search.{holdsForSome}
+use Rattle.arith.specs.Represented.{fieldOf}
 use Rattle.refusals.specs.conditions.factors.Factors.{holdsOf}
 use Rattle.refusals.proofs.conditions.factors.Scan.{some-scan, scan-found, scan-next, scan-over}
 use Rattle.rate_file.specs.factors.Written.{bodiesIn}
@@ -14,12 +15,12 @@ use Rattle.rate_file.proofs.factors.holds_for_some_record.Statement.{st
 use Rattle.rate_file.proofs.factors.holds_for_some_record.Tie as tie
 
 abbrev Inv-loop : tie.InvT-loop
-Inv-loop condition p file count i₀ i =
-    holdsForSome (holdsOf condition p) (drop i (bodiesIn file))
-    ≡ holdsForSome (holdsOf condition p) (bodiesIn file)
+Inv-loop condition field file count i₀ i =
+    holdsForSome (holdsOf condition (fieldOf field)) (drop i (bodiesIn file))
+    ≡ holdsForSome (holdsOf condition (fieldOf field)) (bodiesIn file)
 
 abbrev μ-loop : tie.MeasureT-loop
-μ-loop condition p file count i₀ i = count - i
+μ-loop condition field file count i₀ i = count - i
 
 loop-holds : tie.Need-loop-holds Inv-loop μ-loop
 loop-holds c = refl

@@ -8,6 +8,7 @@ use mathlib.Core.List.{List, map, flatten}
 use lib.ListN.{length, take, drop, length-map}
 use denote.Ref.{now}
 use borrow.Author.Needs.{needs}
+use Rattle.meaning.specs.Field.{Field}
 use Rattle.meaning.specs.File.{polynomialOf}
 use Rattle.meaning.specs.Slices.{listsOf}
 use Rattle.poly.proofs.parts.Packing.{flatten-short}
@@ -30,12 +31,12 @@ abbrev start : tie.After-pack-factors → tie.Start
 start f = f .before .before .before .before .before .before
 
 -- the file has at most eight factors, which fit
-few : {p count : ℕ} {file ts : List ℕ} → CheckedFactors p file count ts → count ≤ 8
+few : {F : Field} {count : ℕ} {file ts : List ℕ} → CheckedFactors F file count ts → count ≤ 8
 few {file = file} x =
     omega (arith, x .all, checked-few (x .checked), length-map (factorsIn file) polynomialOf)
 
-fits : {p count : ℕ} {file ts : List ℕ}
-    → CheckedFactors p file count ts
+fits : {F : Field} {count : ℕ} {file ts : List ℕ}
+    → CheckedFactors F file count ts
     → length (flatten (polynomialsIn file)) ≤ 264
 fits {file = file} x =
     omega (

@@ -2,9 +2,12 @@
 -- Assumes nothing.
 use mathlib.Core.Path.{_≡_}
 use borrow.Author.Needs.{needs}
+use Rattle.bridge.proofs.Basics.Interpretation.{IsField}
+use Rattle.arith.specs.Represented.{fieldOf}
+use Rattle.arith.proofs.Represented.{field-isField}
 use Rattle.rate_file.proofs.records.Rates.{count-factors, not-others, records-free, records-refused}
 use Rattle.rate_file.proofs.records.Rates.{factors-number, records-period, records-set, one-checked}
-use Rattle.rate_file.proofs.records.Rates.{all-checked, rateable-prime}
+use Rattle.rate_file.proofs.records.Rates.{all-checked}
 use Rattle.rate_file.proofs.modes.Calls.{rated-as, refused-rated}
 use Rattle.rate_file.proofs.records.rate_accepted.Statement.{statement}
 use Rattle.rate_file.proofs.records.rate_accepted.Tie as tie
@@ -16,16 +19,19 @@ start c = c .before .before .before .before .before .before
 abbrev counted : tie.After-written-factors-verdict → tie.After-count-of
 counted v = v .before .before
 
--- the verdict on the factors, from where the field is made
-abbrev verdict : tie.After-of-prime → tie.After-written-factors-verdict
-verdict o = o .before .before .before
+-- the verdict on the factors, from where it accepts
+abbrev verdict : tie.After-enum-told → tie.After-written-factors-verdict
+verdict a = a .before .before
+
+over : (n : tie.After-count-of) → IsField (fieldOf (start n .args .field))
+over n = field-isField (start n .pre .0)
 
 -- what is neither 3 nor 1
 mode-two : (c : tie.Else2) → counted (verdict (c .before)) .before .byte-of .result ≡ 2
 mode-two c =
     let v = verdict (c .before) in
     let n = counted v in
-    not-others _ _ 0 0 (start n .pre) _ _ (n .before .byte-of .ensures) (n .count-of .ensures)
+    not-others (over n) _ _ 0 0 (start n .pre .1) _ _ (n .before .byte-of .ensures) (n .count-of .ensures)
     (v .before .if1 .left)
     (c .if2 .left)
 
@@ -36,7 +42,7 @@ count-of-requires : tie.Need-count-of-requires
 count-of-requires c κs = search needs
 
 rate-free-file-requires : tie.Need-rate-free-file-requires
-rate-free-file-requires c κs = start (c .before .before .before) .pre .passed
+rate-free-file-requires c κs = let s = start (c .before .before .before) in (s .pre .0, s .pre .1 .passed)
 
 same-length : tie.Need-same-length
 same-length c = search needs
@@ -50,14 +56,17 @@ returns c =
     let t = f .before .before .before in
     let n = t .before in
     rated-as
-    (records-free _ _ _ _ (start n .pre) _ _ (n .before .byte-of .ensures) (n .count-of .ensures)
+    (records-free (over n) _ _ _ _ (start n .pre .1) _ _ (n .before .byte-of .ensures) (n .count-of .ensures)
     (t .if1 .taken))
     (f .rate-free-file .ensures)
 
 written-factors-verdict-requires : tie.Need-written-factors-verdict-requires
 written-factors-verdict-requires c κs =
-    let n = c .before in
-    count-factors _ _ 0 0 (start n .pre) _ _ (n .before .byte-of .ensures) (n .count-of .ensures)
+    let n = c .before in (
+      start n .pre .0,
+      count-factors (over n) _ _ 0 0 (start n .pre .1) _ _ (n .before .byte-of .ensures)
+          (n .count-of .ensures),
+    )
 
 enum-known-r : tie.Need-enum-known-r
 enum-known-r c = search needs
@@ -68,19 +77,16 @@ of-refusal-requires c κs = search needs
 enum-told : tie.Need-enum-told
 enum-told c = search needs
 
-of-prime-requires : tie.Need-of-prime-requires
-of-prime-requires c κs = rateable-prime (start (counted (c .before .before)) .pre)
-
 rate-period-file-requires : tie.Need-rate-period-file-requires
 rate-period-file-requires c κs =
     let t = c .before .before in
     let o = t .before in
     let v = verdict o in
     let n = counted v in (
-      o .of-prime .ensures,
-      one-checked _ _ 0 0 (start n .pre) _ _ (n .before .byte-of .ensures) (n .count-of .ensures)
+      start n .pre .0,
+      one-checked (over n) _ _ 0 0 (start n .pre .1) _ _ (n .before .byte-of .ensures) (n .count-of .ensures)
           (v .written-factors-verdict .ensures)
-          (o .before .enum-told .given .1)
+          (o .enum-told .given .1)
           (t .if2 .taken),
     )
 
@@ -90,10 +96,10 @@ rate-set-file-requires c κs =
     let o = t .before in
     let v = verdict o in
     let n = counted v in (
-      o .of-prime .ensures,
-      all-checked _ _ 0 0 (start n .pre) _ _ (n .before .byte-of .ensures) (n .count-of .ensures)
+      start n .pre .0,
+      all-checked (over n) _ _ 0 0 (start n .pre .1) _ _ (n .before .byte-of .ensures) (n .count-of .ensures)
           (v .written-factors-verdict .ensures)
-          (o .before .enum-told .given .1)
+          (o .enum-told .given .1)
           (mode-two t),
     )
 
@@ -103,11 +109,13 @@ returns-2 c =
     let n = counted v in
     let q = c .before .before .r .given .1 in
     refused-rated
-    (records-refused _ _ _ _ (start n .pre) _ _ (n .before .byte-of .ensures) (n .count-of .ensures)
+    (records-refused (over n) _ _ _ _ (start n .pre .1) _ _ (n .before .byte-of .ensures)
+    (n .count-of .ensures)
     (v .written-factors-verdict .ensures)
     (v .before .if1 .left)
     q)
-    (factors-number _ _ 0 0 (start n .pre) _ _ (n .before .byte-of .ensures) (n .count-of .ensures)
+    (factors-number (over n) _ _ 0 0 (start n .pre .1) _ _ (n .before .byte-of .ensures)
+    (n .count-of .ensures)
     (v .written-factors-verdict .ensures)
     q)
     (c .of-refusal .ensures)
@@ -126,9 +134,10 @@ returns-3 c =
     let v = verdict o in
     let n = counted v in
     rated-as
-    (records-period _ _ _ _ (start n .pre) _ _ (n .before .byte-of .ensures) (n .count-of .ensures)
+    (records-period (over n) _ _ _ _ (start n .pre .1) _ _ (n .before .byte-of .ensures)
+    (n .count-of .ensures)
     (v .written-factors-verdict .ensures)
-    (o .before .enum-told .given .1)
+    (o .enum-told .given .1)
     (t .if2 .taken))
     (f .rate-period-file .ensures)
 
@@ -146,9 +155,9 @@ returns-4 c =
     let v = verdict o in
     let n = counted v in
     rated-as
-    (records-set _ _ _ _ (start n .pre) _ _ (n .before .byte-of .ensures) (n .count-of .ensures)
+    (records-set (over n) _ _ _ _ (start n .pre .1) _ _ (n .before .byte-of .ensures) (n .count-of .ensures)
     (v .written-factors-verdict .ensures)
-    (o .before .enum-told .given .1)
+    (o .enum-told .given .1)
     (mode-two t))
     (f .rate-set-file .ensures)
 
@@ -166,7 +175,6 @@ rate-accepted-spec =
     enum-known-r
     of-refusal-requires
     enum-told
-    of-prime-requires
     rate-period-file-requires
     rate-set-file-requires
     returns-2

@@ -1,22 +1,19 @@
--- `rate_records` meets its contract: the terms are refused, or else the rest decides.
+-- `rate_records` meets its contract: the name of the field is refused, or the records are rated in it.
 -- Assumes nothing.
 use borrow.Author.Needs.{needs}
-use Rattle.rate_file.proofs.modes.Calls.{refused-rated}
-use Rattle.rate_file.proofs.records.Rates.{terms-number, rateable, records-terms}
+use Rattle.arith.proofs.Door.{made-named}
+use Rattle.rate_file.proofs.records.Rates.{name-refused, name-made}
 use Rattle.rate_file.proofs.records.rate_records.Statement.{statement}
 use Rattle.rate_file.proofs.records.rate_records.Tie as tie
 
-abbrev start : tie.After-terms-verdict → tie.Start
-start c = c .before .before .before .before .before .before
+abbrev start : tie.After-of → tie.Start
+start o = o .before .before .before .before .before .before
 
-byte-of-requires : tie.Need-byte-of-requires
-byte-of-requires c κs = search needs
+field-name-requires : tie.Need-field-name-requires
+field-name-requires c κs = search needs
 
-cast-p : tie.Need-cast-p
-cast-p c = search needs
-
-terms-verdict-requires : tie.Need-terms-verdict-requires
-terms-verdict-requires c κs = search needs
+of-requires : tie.Need-of-requires
+of-requires c κs = search needs
 
 enum-known-r : tie.Need-enum-known-r
 enum-known-r c = search needs
@@ -24,26 +21,20 @@ enum-known-r c = search needs
 of-refusal-requires : tie.Need-of-refusal-requires
 of-refusal-requires c κs = search needs
 
-enum-told : tie.Need-enum-told
-enum-told c = search needs
+enum-known-field : tie.Need-enum-known-field
+enum-known-field c = search needs
 
-rate-accepted-requires : tie.Need-rate-accepted-requires
-rate-accepted-requires c κs =
-    let t = c .before .before in
-    let v = t .before .before in
-    let s = start v in
-    rateable _ _ _ (s .pre .0) (v .before .byte-of .ensures) (s .pre .1) (v .terms-verdict .ensures)
-    (t .enum-told .given .1)
+rate-in-requires : tie.Need-rate-in-requires
+rate-in-requires c κs =
+    let f = c .before .before in
+    let o = f .before .before .before in
+    (made-named (o .of .ensures) (f .before .field .given .1) .wellFormed, start o .pre)
 
 returns : tie.Need-returns
 returns c =
-    let v = c .before .before .before .before in
-    let s = start v in
-    let q = c .before .before .r .given .1 in
-    refused-rated
-    (records-terms _ _ _ (s .pre .0) (v .before .byte-of .ensures) (s .pre .1) (v .terms-verdict .ensures)
-    _ _ q)
-    (terms-number _ _ (v .terms-verdict .ensures) q)
+    let r = c .before .before in
+    let o = r .before .before in
+    name-refused (o .of .ensures) _ (o .before .field-name .ensures) (start o .pre .0) (r .r .given .1)
     (c .of-refusal .ensures)
 
 same-length : tie.Need-same-length
@@ -53,19 +44,24 @@ same-length-2 : tie.Need-same-length-2
 same-length-2 c = search needs
 
 returns-2 : tie.Need-returns-2
-returns-2 c = c .before .before .before .before .rate-accepted .ensures
+returns-2 c =
+    let s = c .before .before .before .before in
+    let f = s .before .before .before in
+    let o = f .before .before .before in
+    name-made (o .of .ensures) _ (o .before .field-name .ensures) (start o .pre .0)
+    (f .before .field .given .1)
+    (s .rate-in .ensures)
 
 pub rate-records-spec : {M : Type 1} → statement M
 rate-records-spec =
     tie.close
     (tie.spec
-    byte-of-requires
-    cast-p
-    terms-verdict-requires
+    field-name-requires
+    of-requires
     enum-known-r
     of-refusal-requires
-    enum-told
-    rate-accepted-requires
+    enum-known-field
+    rate-in-requires
     returns
     same-length
     same-length-2

@@ -6,26 +6,28 @@ use denote.Ref.{now}
 use borrow.Author.Needs.{needs}
 use Rattle.meaning.specs.Result.{Check}
 use Rattle.meaning.specs.Answers.{numberOf}
-use Rattle.refusals.specs.Verdicts.{numberIn, oneFactorTable}
+use Rattle.meaning.specs.Irreducibility.{irreducibleTable}
+use Rattle.arith.specs.Represented.{fieldOf}
+use Rattle.refusals.specs.Verdicts.{numberIn}
 use Rattle.refusals.proofs.Order.{Passed, first-here, first-skip, first-nowhere}
 use Rattle.refusals.proofs.factors.factor_verdict.Statement.{statement}
 use Rattle.refusals.proofs.factors.factor_verdict.Tie as tie
 
 abbrev table : tie.Start → List Check
-table s = oneFactorTable (s .args .p) (now (s .args .factor))
+table s = irreducibleTable (fieldOf (s .args .field)) (now (s .args .factor))
 
 abbrev at-1 : tie.Else1 → tie.Start
 at-1 c = c .before .before .before
 
 passed-1 : (c : tie.Else1) → Passed 1 (table (at-1 c))
-unfolding oneFactorTable
+unfolding irreducibleTable
 passed-1 c = first-skip _ _ (c .before .factor-degree-out-of-range .ensures) (c .if1 .left)
 
 abbrev at-2 : tie.Else2 → tie.Start
 at-2 c = at-1 (c .before .before)
 
 passed-2 : (c : tie.Else2) → Passed 2 (table (at-2 c))
-unfolding oneFactorTable
+unfolding irreducibleTable
 passed-2 c =
     passed-1 (c .before .before)
     ∙ first-skip _ _ (c .before .coefficient-out-of-range .ensures) (c .if2 .left)
@@ -34,20 +36,20 @@ factor-degree-out-of-range-requires : tie.Need-factor-degree-out-of-range-requir
 factor-degree-out-of-range-requires c κs = search needs
 
 returns : tie.Need-returns
-unfolding numberIn numberOf oneFactorTable
+unfolding numberIn numberOf irreducibleTable
 returns c = first-here _ _ (c .before .factor-degree-out-of-range .ensures) (c .if1 .taken)
 
 coefficient-out-of-range-requires : tie.Need-coefficient-out-of-range-requires
 coefficient-out-of-range-requires c κs = search needs
 
 returns-2 : tie.Need-returns-2
-unfolding numberIn numberOf oneFactorTable
+unfolding numberIn numberOf irreducibleTable
 returns-2 c =
     first-here _ _ (c .before .coefficient-out-of-range .ensures) (c .if2 .taken)
     ∙ sym (passed-1 (c .before .before))
 
 returns-3 : tie.Need-returns-3
-unfolding numberIn oneFactorTable
+unfolding numberIn irreducibleTable
 returns-3 c = first-nowhere ∙ sym (passed-2 c)
 
 pub factor-verdict-spec : {M : Type 1} → statement M

@@ -10,13 +10,14 @@ use Rattle.meaning.specs.Answers.{numberOf}
 use Rattle.meaning.specs.Conditions.{factorCountOutOfRange}
 use Rattle.meaning.specs.Slices.{listsOf}
 use Rattle.meaning.proofs.Slices.{lists-length}
+use Rattle.arith.specs.Represented.{fieldOf}
 use Rattle.refusals.specs.Verdicts.{numberIn, factorsTable}
 use Rattle.refusals.proofs.Order.{Passed, first-here, first-skip, first-nowhere}
 use Rattle.refusals.proofs.factors.factors_verdict.Statement.{statement}
 use Rattle.refusals.proofs.factors.factors_verdict.Tie as tie
 
 abbrev table : tie.Start → List Check
-table s = factorsTable (s .args .p) (listsOf (now (s .args .factors)))
+table s = factorsTable (fieldOf (s .args .field)) (listsOf (now (s .args .factors)))
 
 counted : (c : tie.After-factor-count-out-of-range)
     → c .factor-count-out-of-range .result

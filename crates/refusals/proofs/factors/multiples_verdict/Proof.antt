@@ -7,13 +7,14 @@ use borrow.Author.Needs.{needs}
 use Rattle.meaning.specs.Result.{Check}
 use Rattle.meaning.specs.Answers.{numberOf}
 use Rattle.meaning.specs.Slices.{listsOf}
+use Rattle.arith.specs.Represented.{fieldOf}
 use Rattle.refusals.specs.Verdicts.{numberIn, multiplesTable}
 use Rattle.refusals.proofs.Order.{Passed, first-here, first-skip, first-nowhere}
 use Rattle.refusals.proofs.factors.multiples_verdict.Statement.{statement}
 use Rattle.refusals.proofs.factors.multiples_verdict.Tie as tie
 
 abbrev table : tie.Start → List Check
-table s = multiplesTable (s .args .p) (listsOf (now (s .args .multiples)))
+table s = multiplesTable (fieldOf (s .args .field)) (listsOf (now (s .args .multiples)))
 
 abbrev at-1 : tie.Else1 → tie.Start
 at-1 c = c .before .before

@@ -6,6 +6,7 @@ use denote.Ref.{now}
 use borrow.Author.Needs.{needs}
 use Rattle.meaning.specs.Result.{Check}
 use Rattle.meaning.specs.Slices.{listsOf}
+use Rattle.arith.specs.Represented.{fieldOf}
 use Rattle.refusals.specs.Verdicts.{termsTable, factorsTable, givenSetTable}
 use Rattle.refusals.proofs.Order.{refused-before, accepted-before}
 use Rattle.refusals.proofs.ratings.given_set_verdict.Statement.{statement}
@@ -15,10 +16,10 @@ abbrev start : tie.After-terms-verdict → tie.Start
 start c = c .before .before
 
 abbrev before : tie.Start → List Check
-before s = termsTable (s .args .p) (now (s .args .terms))
+before s = termsTable (fieldOf (s .args .field)) (now (s .args .terms))
 
 abbrev after : tie.Start → List Check
-after s = factorsTable (s .args .p) (listsOf (now (s .args .factors)))
+after s = factorsTable (fieldOf (s .args .field)) (listsOf (now (s .args .factors)))
 
 terms-verdict-requires : tie.Need-terms-verdict-requires
 terms-verdict-requires c κs = search needs

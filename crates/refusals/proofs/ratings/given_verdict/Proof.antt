@@ -5,7 +5,9 @@ use mathlib.Core.List.{List}
 use denote.Ref.{now}
 use borrow.Author.Needs.{needs}
 use Rattle.meaning.specs.Result.{Check}
-use Rattle.refusals.specs.Verdicts.{termsTable, oneFactorTable, givenTable}
+use Rattle.meaning.specs.Irreducibility.{irreducibleTable}
+use Rattle.arith.specs.Represented.{fieldOf}
+use Rattle.refusals.specs.Verdicts.{termsTable, givenTable}
 use Rattle.refusals.proofs.Order.{refused-before, accepted-before}
 use Rattle.refusals.proofs.ratings.given_verdict.Statement.{statement}
 use Rattle.refusals.proofs.ratings.given_verdict.Tie as tie
@@ -14,10 +16,10 @@ abbrev start : tie.After-terms-verdict → tie.Start
 start c = c .before .before .before
 
 abbrev before : tie.Start → List Check
-before s = termsTable (s .args .p) (now (s .args .terms))
+before s = termsTable (fieldOf (s .args .field)) (now (s .args .terms))
 
 abbrev after : tie.Start → List Check
-after s = oneFactorTable (s .args .p) (now (s .args .factor))
+after s = irreducibleTable (fieldOf (s .args .field)) (now (s .args .factor))
 
 terms-verdict-requires : tie.Need-terms-verdict-requires
 terms-verdict-requires c κs = search needs

@@ -7,6 +7,7 @@ use borrow.Author.Needs.{needs}
 use Rattle.meaning.specs.Result.{Check}
 use Rattle.meaning.specs.Conditions.{named}
 use Rattle.meaning.specs.Slices.{listsOf}
+use Rattle.arith.specs.Represented.{fieldOf}
 use Rattle.refusals.specs.Verdicts.{multiplesTable, powersTable, setRest}
 use Rattle.refusals.proofs.Order.{refused-before, accepted-before}
 use Rattle.refusals.proofs.ratings.set_verdict.Statement.{statement}
@@ -16,7 +17,7 @@ abbrev start : tie.After-multiples-verdict → tie.Start
 start c = c .before .before .before
 
 abbrev before : tie.Start → List Check
-before s = multiplesTable (s .args .p) (listsOf (now (s .args .multiples)))
+before s = multiplesTable (fieldOf (s .args .field)) (listsOf (now (s .args .multiples)))
 
 abbrev after : tie.Start → List Check
 after s = powersTable (named (listsOf (now (s .args .multiples))) (now (s .args .uppers)))

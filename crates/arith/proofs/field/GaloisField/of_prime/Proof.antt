@@ -3,6 +3,10 @@ use mathlib.Core.Path.{refl, sym}
 use native.Mathlib.Nat.{div-le-of-le-mul}
 use native.Mathlib.Omega.{arith}
 use Rattle.bridge.proofs.Basics.Interpretation.{inRange-prime, prime-characteristic-number}
+use Rattle.meaning.specs.Field.{primeInRange}
+use Rattle.meaning.specs.Conditions.{notPrime}
+use Rattle.meaning.specs.FieldNames.{namedField, notField}
+use Rattle.bridge.proofs.Basics.Searches.{T-not-false}
 use Rattle.arith.specs.Represented.{fieldOf}
 use Rattle.arith.proofs.field.GaloisField.of_prime.Statement.{statement}
 use Rattle.arith.proofs.field.GaloisField.of_prime.Tie as tie
@@ -22,9 +26,10 @@ cast-t5 c =
     omega (arith, div-le-of-le-mul (c .args .p) {m = 65536} {n = 32768} (omega arith))
 
 returns : tie.Need-returns
-unfolding fieldOf
+unfolding fieldOf namedField notField notPrime
 returns c =
     record {
+      exists = T-not-false (primeInRange (c .args .p)) (c .pre);
       wellFormed =
           record {
             sizeIsPrime = c .pre;

@@ -5,16 +5,17 @@ use mathlib.Core.Path.{_≡_, sym, ap, _∙_}
 use mathlib.Core.Bool.{Bool}
 use mathlib.Core.List.{List}
 use borrow.Author.Needs.{needs}
+use Rattle.meaning.specs.Field.{Field}
 use Rattle.refusals.specs.declared.conditions.factors.FactorCondition.{FactorCondition}
 use Rattle.refusals.specs.conditions.factors.Factors.{holdsOf}
 use Rattle.refusals.proofs.conditions.factors.holds.Statement.{statement}
 use Rattle.refusals.proofs.conditions.factors.holds.Tie as tie
 
-named : (p : ℕ) (l : List ℕ) {c d : FactorCondition} {r : Bool}
+named : (F : Field) (l : List ℕ) {c d : FactorCondition} {r : Bool}
     → c ≡ d
-    → r ≡ holdsOf d p l
-    → r ≡ holdsOf c p l
-named p l e h = h ∙ ap (λ (k : FactorCondition). holdsOf k p l) (sym e)
+    → r ≡ holdsOf d F l
+    → r ≡ holdsOf c F l
+named F l e h = h ∙ ap (λ (k : FactorCondition). holdsOf k F l) (sym e)
 
 enum-told : tie.Need-enum-told
 enum-told c = search needs

@@ -6,6 +6,7 @@ use mathlib.Core.Path.{_≡_, refl, sym, _∙_}
 use lib.ListN.{length, drop}
 use borrow.Author.Needs.{needs}
 use Rattle.meaning.specs.Search.{holdsForSome}
+use Rattle.arith.specs.Represented.{fieldOf}
 use Rattle.refusals.specs.conditions.factors.Factors.{holdsOf}
 use Rattle.meaning.specs.Slices.{listsOf}
 use Rattle.refusals.proofs.conditions.factors.Scan.{some-scan, factor-found, factor-next, factors-over}
@@ -13,12 +14,12 @@ use Rattle.refusals.proofs.conditions.factors.holds_for_some.Statement.
 use Rattle.refusals.proofs.conditions.factors.holds_for_some.Tie as tie
 
 abbrev Inv-loop : tie.InvT-loop
-Inv-loop condition p factors i₀ i =
-    holdsForSome (holdsOf condition p) (drop i (listsOf factors))
-    ≡ holdsForSome (holdsOf condition p) (listsOf factors)
+Inv-loop condition field factors i₀ i =
+    holdsForSome (holdsOf condition (fieldOf field)) (drop i (listsOf factors))
+    ≡ holdsForSome (holdsOf condition (fieldOf field)) (listsOf factors)
 
 abbrev μ-loop : tie.MeasureT-loop
-μ-loop condition p factors i₀ i = length factors - i
+μ-loop condition field factors i₀ i = length factors - i
 
 loop-holds : tie.Need-loop-holds Inv-loop μ-loop
 loop-holds c = refl

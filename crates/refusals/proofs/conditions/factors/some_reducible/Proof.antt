@@ -11,17 +11,18 @@ use Rattle.meaning.specs.Conditions.{isReducible}
 use Rattle.meaning.proofs.Slices.{lists-length, lists-at}
 use Rattle.irreducible.specs.Accepted.{Accepted}
 use Rattle.meaning.specs.Slices.{listsOf}
+use Rattle.arith.specs.Represented.{fieldOf}
 use Rattle.refusals.proofs.conditions.factors.Scan.{some-scan, factor-found, factor-next, factors-over}
 use Rattle.refusals.proofs.conditions.factors.some_reducible.Statement.{statement}
 use Rattle.refusals.proofs.conditions.factors.some_reducible.Tie as tie
 
 abbrev Inv-loop : tie.InvT-loop
-Inv-loop p factors i₀ i =
-    holdsForSome (isReducible p) (drop i (listsOf factors))
-    ≡ holdsForSome (isReducible p) (listsOf factors)
+Inv-loop field factors i₀ i =
+    holdsForSome (isReducible (fieldOf field)) (drop i (listsOf factors))
+    ≡ holdsForSome (isReducible (fieldOf field)) (listsOf factors)
 
 abbrev μ-loop : tie.MeasureT-loop
-μ-loop p factors i₀ i = length factors - i
+μ-loop field factors i₀ i = length factors - i
 
 loop-holds : tie.Need-loop-holds Inv-loop μ-loop
 loop-holds c = refl
@@ -37,9 +38,11 @@ reducible-requires : tie.Need-reducible-requires Inv-loop μ-loop
 reducible-requires c κs =
     let l = c .before .before in
     let s = l .before in
-    let fs = now (s .args .factors) in
-    subst (Accepted (s .args .p)) (lists-at fs (l .loop .i))
-    (s .pre (l .loop .i) (omega (arith, lists-length fs)))
+    let fs = now (s .args .factors) in (
+      s .pre .0,
+      subst (Accepted (fieldOf (s .args .field))) (lists-at fs (l .loop .i))
+          (s .pre .1 (l .loop .i) (omega (arith, lists-length fs))),
+    )
 
 returns : tie.Need-returns Inv-loop μ-loop
 returns c =

@@ -13,7 +13,7 @@ returns : tie.Need-returns
 returns c =
     let x = c .before .before .pre in
     ap not (c .is-irreducible .ensures)
-    ∙ sym (reducible-asked _ _ (x .fieldExists) (x .degreeInRange) (x .monicOver))
+    ∙ sym (reducible-asked _ _ (x .1 .degreeInRange) (x .1 .monicOver))
 
 pub reducible-spec : {M : Type 1} → statement M
 reducible-spec = tie.close (tie.spec is-irreducible-requires returns)

@@ -1,0 +1,51 @@
+-- `arith::GaloisField::of` meets its contract. Assumes nothing.
+use mathlib.Core.Path.{sym, subst, _∙_}
+use native.Mathlib.Omega.{arith}
+use borrow.Author.Needs.{needs}
+use Rattle.meaning.specs.declared.Refusal.the-variants.{NotPrime}
+use Rattle.bridge.proofs.Basics.Searches.{true-T}
+use Rattle.arith.specs.Represented.{FieldMade, FieldNamed, Declined}
+use Rattle.arith.proofs.Represented.{not-prime-declined, binary-declined}
+use Rattle.arith.proofs.field.GaloisField.of.Statement.{statement}
+use Rattle.arith.proofs.field.GaloisField.of.Tie as tie
+
+enum-known-name : tie.Need-enum-known-name
+enum-known-name c = search needs
+
+prime-in-range-requires : tie.Need-prime-in-range-requires
+prime-in-range-requires c κs = search needs
+
+of-prime-requires : tie.Need-of-prime-requires
+of-prime-requires c κs = true-T (sym (c .before .prime-in-range .ensures) ∙ c .if1 .taken)
+
+enum-told : tie.Need-enum-told
+enum-told c = search needs
+
+returns : tie.Need-returns
+unfolding FieldMade
+returns c =
+    subst (λ name. FieldNamed name (c .of-prime .result))
+    (sym (c .before .before .before .before .name .given .1))
+    (c .of-prime .ensures)
+
+returns-2 : tie.Need-returns-2
+unfolding FieldMade
+returns-2 c =
+    subst (λ name. Declined name NotPrime) (sym (c .before .before .before .name .given .1))
+    (not-prime-declined _ (sym (c .before .prime-in-range .ensures) ∙ c .if1 .left))
+
+returns-3 : tie.Need-returns-3
+unfolding FieldMade
+returns-3 c = subst (λ name. Declined name NotPrime) (sym (c .enum-told .given .1)) (binary-declined _ _)
+
+pub of-spec : {M : Type 1} → statement M
+of-spec =
+    tie.close
+    (tie.spec
+    enum-known-name
+    prime-in-range-requires
+    of-prime-requires
+    enum-told
+    returns
+    returns-2
+    returns-3)

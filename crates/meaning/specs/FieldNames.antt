@@ -1,0 +1,29 @@
+-- The field that a name stands for. A call is given a name, and all behind its door is about the field.
+--
+--   namedField name    == the field with this name; nothing is said of a name that is refused
+--   notField name      == the name is that of no field in range: so is every name of a field of 2^n elements
+--                         as yet
+--   fieldNumber name   == the number of the refusal that this meets: 6
+--   inField name answer == refused by that number, or else the answer in the field with this name
+use Prim.Native.Nat.{ℕ}
+use mathlib.Core.Bool.{Bool, true, false}
+use Rattle.meaning.specs.declared.FieldName.{FieldName}
+use Rattle.meaning.specs.Field.{Field, prime}
+use Rattle.meaning.specs.Result.{Result, refused}
+use Rattle.meaning.specs.Conditions.{notPrime}
+
+unfoldable pub namedField : FieldName → Field
+namedField (FieldName.Prime p) = prime p
+namedField (FieldName.Binary n low) = prime 2
+
+unfoldable pub notField : FieldName → Bool
+notField (FieldName.Prime p) = notPrime p
+notField (FieldName.Binary n low) = true
+
+unfoldable pub fieldNumber : FieldName → ℕ
+fieldNumber (FieldName.Prime p) = 6
+fieldNumber (FieldName.Binary n low) = 6
+
+unfoldable pub inField : {A : Type 0} → FieldName → (Field → Result A) → Result A
+inField name answer =
+    elim (notField name) [ true ↦ refused (fieldNumber name) | false ↦ answer (namedField name) ]
