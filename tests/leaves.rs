@@ -2,6 +2,7 @@
 // condition; shortest periods against every shift. A buffer that is lent stands between marks, and all of it is compared.
 mod common;
 
+use common::marked::left;
 use common::poly::{divided, monics, multiple, of_bytes, product, to_bytes};
 use common::random::Random;
 use common::sequence;
@@ -22,25 +23,14 @@ fn dot(p: u64, c: &[u8], s: &[u8]) -> u8 {
     unsafe { exported::leaf_dot(p, c.as_ptr(), c.len(), s.as_ptr(), s.len()) }
 }
 
-// What `call` leaves of a buffer that holds l. It fails where the marks before and after it are not left as they were.
-fn lent(l: &[u8], call: impl FnOnce(&mut [u8])) -> Result<Vec<u8>, String> {
-    const MARKS: [u8; 19] = [0xa5; 19];
-    let mut room = [&MARKS, l, &MARKS].concat();
-    call(&mut room[19..19 + l.len()]);
-    if room[..19] != MARKS || room[19 + l.len()..] != MARKS {
-        return Err(format!("written beyond {} bytes", l.len()));
-    }
-    Ok(room[19..19 + l.len()].to_vec())
-}
-
 fn updated(p: u64, a: &[u8], c: u8, b: &[u8]) -> Result<Vec<u8>, String> {
-    lent(a, |a| unsafe {
+    left(a, |a| unsafe {
         exported::leaf_update(p, a.as_mut_ptr(), a.len(), c, b.as_ptr(), b.len())
     })
 }
 
 fn divided_in_place(p: u64, f: &[u8], g: &[u8]) -> Result<Vec<u8>, String> {
-    lent(f, |f| unsafe {
+    left(f, |f| unsafe {
         exported::leaf_remainder(p, f.as_mut_ptr(), f.len(), g.as_ptr(), g.len())
     })
 }

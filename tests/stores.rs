@@ -23,7 +23,7 @@ const HALVES: usize = 8192;
 const WORK: usize = HALVES + 13;
 // the only arrays of the search: the 256 sums of a block, of 16 bits each, and over GF(2) 256 of 8, and the files in which
 // they are made
-const SUMS: [(&str, usize); 2] = [("/lent/blocks.rs", 512), ("/action/bits.rs", 256)];
+const SUMS: [(&str, usize); 2] = [("/lent/residues.rs", 512), ("/lent/elements.rs", 256)];
 
 // A period with one factor, and how it is to be rated.
 struct Period {

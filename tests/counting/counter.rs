@@ -38,8 +38,9 @@ fn addresses(bytes: &[u8]) -> Range<usize> {
     start..start + bytes.len()
 }
 
-// The source whose stores outside of the lent bytes are sums of a block: over GF(2) they are bytes.
-const SUMS: &str = "/action/bits.rs";
+// The source whose stores outside of the lent bytes are sums of a block: over GF(2) they are bytes, and added up by
+// `add_bits`.
+const SUMS: &str = "/arith/field.rs";
 
 // A value was stored at the place, by the source that calls this.
 #[track_caller]

@@ -1,2 +1,1 @@
-pub mod bits
 pub mod power_action

@@ -28,7 +28,7 @@ pub fn act_power(
     requires { ⌜ Actable field (now work) h n (now f) u ⌝ }
     ensures { λ r. ⌜ PowerActed field (now (work .entry)) h n (now (f .entry)) u (now (work .exit)) r ⌝ }
 {
-    let p = field.characteristic as usize;
+    let p = field.characteristic() as usize;
     let d = f.len() - 1;
     let mut at = h;
     let mut count = n;

@@ -3,3 +3,4 @@ pub mod FiniteField
 pub mod Order
 pub mod BenOr
 pub mod Raised
+pub mod Extension

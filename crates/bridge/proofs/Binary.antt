@@ -4,3 +4,6 @@ pub mod BitPowers
 pub mod WordLists
 pub mod Catalogue
 pub mod CatalogueTable
+pub mod Extension
+pub mod BinaryNumbers
+pub mod ReducingPolynomials

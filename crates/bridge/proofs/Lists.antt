@@ -1,6 +1,7 @@
 pub mod Polynomials
 pub mod Products
 pub mod Spread
+pub mod Reciprocals
 pub mod Multiples
 pub mod Monics
 pub mod Irreducibles

@@ -1,8 +1,8 @@
 // The search of the catalogue for a binary period: the first entry with a power that annihilates it, and the
 // least such power. The work bytes are used for the power of the entry that is found, and then cleared.
-use action::vanishes_at;
 use arith::GaloisField;
 use catalogue::catalogue_entry;
+use lent::blocks::block_is_zero;
 use lent::clear;
 use lent::smaller;
 use meaning::EntryRating;
@@ -80,7 +80,7 @@ fn search_after_look(
     ensures { λ r. ⌜ PeriodSearched (fieldOf field) (now (f .entry)) (now (terms .entry)) (now (work .entry))
         (now (work .exit)) r ⌝ }
 {
-    if vanishes_at(field, terms, at, f, level.power, m) {
+    if block_is_zero(field, terms, at, f, level.power, m) {
         search_level(field, work, f, terms, level)
     } else {
         Found::Nothing

@@ -59,7 +59,7 @@ pub fn fill(field: GaloisField, f: &[u8], table: &mut [u8])
 {
     let d = f.len() - 1;
     let mut y = [0u8; 32];
-    power_of_x(field, f, field.size as usize, &mut y[0..d]);
+    power_of_x(field, f, field.size() as usize, &mut y[0..d]);
     let n = trimmed_length(&y[0..d]);
     fill_rows(field, f, &y[0..n], table);
 }

@@ -54,7 +54,7 @@ pub where-no : {A : Type 0} (b : Bool) (x y : A) → b ≡ false → y ≡ where
 unfolding whereSuited
 where-no b x y e = rw (e, whereSuited)
 
-and-second : (b c : Bool) → c ≡ false → (b && c) ≡ false
+pub and-second : (b c : Bool) → c ≡ false → (b && c) ≡ false
 and-second true c e = e
 and-second false c e = refl
 

@@ -1,3 +1,4 @@
 pub mod Remaindered
 pub mod Suited
 pub mod Orderly
+pub mod binary

@@ -1,6 +1,8 @@
 // Leaves on slices, of the arithmetic, of the shortest period and of the orders, for benchmarks and tests
 // from another language. Where what a leaf requires does not hold, the answer is 0, and all bytes stay as
-// they were.
+// they were. A field is GF(p) here, and GF(2^n) in `binary`.
+mod binary;
+
 use arith::FieldAnswer;
 use arith::GaloisField;
 use meaning::FieldName;
@@ -27,7 +29,7 @@ ghost use Rattle.leaves.specs.Remaindered.{Remaindered};
 ghost use Rattle.leaves.specs.Orderly.{isSuited, order, small};
 
 // Whether `first` is at most `second` and at most 65,536.
-fn suits(first: usize, second: usize) -> bool
+pub(crate) fn suits(first: usize, second: usize) -> bool
     ensures { λ r. ⌜ r ≡ suited first second ⌝ }
 {
     if second < first {

@@ -1,3 +1,4 @@
 pub mod blocks
+pub mod elements
 pub mod halves
 pub mod raising

@@ -8,7 +8,7 @@ ghost use Rattle.lent.specs.halves.Halves.{Halves, Placed};
 use crate::smaller;
 
 // Whether all bytes of a block are 0, by one test for all of them.
-fn block_zero(block: &[u8]) -> bool
+pub(crate) fn block_zero(block: &[u8]) -> bool
     ensures { λ r. ⌜ r ≡ allZero (now (block .entry)) ⌝ }
 {
     // Invariant: `any` is 0 exactly if the first i bytes are.

@@ -1,8 +1,10 @@
 // What all who work in lent bytes share: zeros in a part of them, the smaller of two sizes, the two halves of
 // the work bytes, a block of an action, and raised coefficients.
 pub mod blocks;
+mod elements;
 pub mod halves;
 pub mod raising;
+mod residues;
 
 ghost use mathlib.Core.Path.{_≡_};
 ghost use Prim.Native.Nat.{_≤_, min};

@@ -12,6 +12,7 @@ use Rattle.meaning.specs.Field.{multiple, negative}
 use Rattle.meaning.specs.Polynomial.{degree, leading, isMonic, isMonicOver, plus, scale, times, power}
 use Rattle.meaning.specs.Polynomial.{monicMultiple, product, eachHead, monics, same, hasFactorOf}
 use Rattle.meaning.specs.Polynomial.{irreducible}
+use Rattle.meaning.specs.Extension.{bits, ofBits, timesY, reduced, reducing, binary}
 use Rattle.meaning.specs.Sequence.{actAt, known, periodic, annihilatesKnown, annihilatesPeriod}
 use Rattle.meaning.specs.Sequence.{actOnKnown, actOnPeriod, cut, next, continuation}
 use Rattle.meaning.specs.RepeatLength.{comesAgain, longestRepeat, leastWithin, repeatLength}
@@ -22,7 +23,7 @@ use Rattle.meaning.specs.Conditions.{termOutOfField, factorCountOutOfRan
 use Rattle.meaning.specs.Conditions.{factorDegreeOutOfRange, continuationDegreeOutOfRange}
 use Rattle.meaning.specs.Conditions.{coefficientOutOfRange, notMonic}
 use Rattle.meaning.specs.Conditions.{isAsked, isReducible, twoEqual, upperPowersOutOfRange}
-use Rattle.meaning.specs.Conditions.{fewerTermsThan}
+use Rattle.meaning.specs.Conditions.{fewerTermsThan, notBinary, leastExtension, largestExtension}
 use Rattle.meaning.specs.Conditions.{startUnlikeDegree, lentTooShort, acceptedLent}
 use Rattle.meaning.specs.FieldNames.{namedField, notField, fieldNumber, inField}
 use Rattle.meaning.specs.Power.{isX, powerRating}
@@ -71,6 +72,10 @@ unfoldable pub openPolynomial-2 : Unit {0}
 unfolding irreducible monicMultiple
 openPolynomial-2 = tt
 
+unfoldable pub openExtension : Unit {0}
+unfolding bits ofBits timesY reduced reducing binary
+openExtension = tt
+
 unfoldable pub openSequence-1 : Unit {0}
 unfolding actAt known periodic annihilatesKnown annihilatesPeriod actOnKnown actOnPeriod cut next
 openSequence-1 = tt
@@ -99,6 +104,7 @@ openConditions-2 = tt
 
 unfoldable pub openConditions-3 : Unit {0}
 unfolding upperPowersOutOfRange fewerTermsThan startUnlikeDegree lentTooShort acceptedLent
+    notBinary leastExtension largestExtension
 openConditions-3 = tt
 
 unfoldable pub openFieldNames : Unit {0}
@@ -180,7 +186,7 @@ unfolding bufferAfter bodyAfter
 openCalls = tt
 
 unfoldable pub opened-1 : Unit {0}
-unfolding openSearch openField openPolynomial-1 openPolynomial-2 openSequence-1
+unfolding openSearch openField openPolynomial-1 openPolynomial-2 openExtension openSequence-1
 opened-1 = tt
 
 unfoldable pub opened-2 : Unit {0}

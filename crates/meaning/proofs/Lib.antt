@@ -13,6 +13,7 @@ pub mod CatalogueRows
 pub mod FirstFits
 pub mod RepeatRows
 pub mod RepeatLengthRows
+pub mod ExtensionRows
 pub mod ExportRows
 pub mod Lines
 pub mod Lent

@@ -86,7 +86,12 @@ pub some-skip : {A : Type 0} (t : A → Bool) (a : A) (l : List A) → t a ≡ f
 unfolding holdsForSome
 some-skip t a l e = rw (e, holdsForSome)
 
--- 1 to 16 leave the work bytes as they were
+-- the refusal of a name leaves the work bytes as they were, and so do 1 to 16
+pub number-keeps : (name : FieldName) → clears (fieldNumber name) ≡ false
+unfolding fieldNumber clears clearing holdsForSome
+number-keeps (FieldName.Prime p) = refl
+number-keeps (FieldName.Binary n low) = refl
+
 pub keeps-low : (n : ℕ) → n ≤ 16 → clears n ≡ false
 unfolding clears clearing holdsForSome
 keeps-low n l =

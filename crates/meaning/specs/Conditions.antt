@@ -6,13 +6,14 @@
 --                          upper powers belong to no factor
 --   totalDegree l        == the sum of upper power × degree (D in paper 01)
 use Prim.Native.Nat.{ℕ, _+_, _*_, _-_, _^_, _/_}
-use mathlib.Core.Bool.{Bool, true, false, not, _||_}
+use mathlib.Core.Bool.{Bool, true, false, not, _||_, _&&_}
 use mathlib.Core.List.{List, [], _∷_}
 use lib.ListN.{length}
-use lib.Dec.{ltb, eqb}
+use lib.Dec.{leb, ltb, eqb}
 use Rattle.meaning.specs.Search.{holdsForSome}
-use Rattle.meaning.specs.Field.{Field, primeInRange, areElements}
+use Rattle.meaning.specs.Field.{Field, prime, primeInRange, areElements}
 use Rattle.meaning.specs.Polynomial.{Polynomial, degree, leading, isMonic, same, irreducible}
+use Rattle.meaning.specs.Extension.{reducing}
 
 unfoldable pub named : List Polynomial → List ℕ → List (Polynomial × ℕ)
 named [] us = []
@@ -26,6 +27,24 @@ totalDegree (f ∷ l) = f .1 * degree (f .0) + totalDegree l
 -- 6
 unfoldable pub notPrime : ℕ → Bool
 notPrime p = not (primeInRange p)
+
+-- whether n and low name no field of 2^n elements: n is not 2 to 8, low has a bit at or above n, or the
+-- reducing polynomial is reducible
+unfoldable pub leastExtension : ℕ
+leastExtension = 2
+
+unfoldable pub largestExtension : ℕ
+largestExtension = 8
+
+unfoldable pub notBinary : ℕ → ℕ → Bool
+notBinary n low =
+    elim (leb leastExtension n && leb n largestExtension) [
+      | false ↦ true
+      | true ↦ elim (ltb low (2 ^ n)) [
+        | false ↦ true
+        | true ↦ not (irreducible (prime 2) (reducing n low))
+      ]
+    ]
 
 -- 7, of the number of terms or of places to fill
 unfoldable pub countOutOfRange : ℕ → Bool

@@ -1,8 +1,9 @@
--- The field of the ratings: GF(p), the numbers 0 to p − 1 with sums and products modulo the prime p.
+-- Finite fields, and GF(p): the numbers 0 to p − 1 with sums and products modulo the prime p. (Fields of 2^n
+-- elements are in Extension.)
 --
 --   Field             == a finite field by its size, its characteristic, and the sum and product of its
 --                        elements, which are the numbers below its size; nothing here says that the laws hold
---   prime p           == GF(p), the only field today; for p = 0 the remainder is the number itself
+--   prime p           == GF(p); for p = 0 the remainder is the number itself
 --   PrimeNumber n     == n is at least 2 and only 1 and n divide it, in words
 --   isPrime n         == the same by trying every possible divisor
 --   primeInRange n    == n is a prime from 2 to 251 (the answer of the public call)

@@ -9,12 +9,13 @@ use Prim.Native.Nat.{ℕ}
 use mathlib.Core.Bool.{Bool, true, false}
 use Rattle.meaning.specs.declared.FieldName.{FieldName}
 use Rattle.meaning.specs.Field.{Field, prime}
+use Rattle.meaning.specs.Extension.{binary}
 use Rattle.meaning.specs.Result.{Result, refused}
 use Rattle.meaning.specs.Conditions.{notPrime}
 
 unfoldable pub namedField : FieldName → Field
 namedField (FieldName.Prime p) = prime p
-namedField (FieldName.Binary n low) = prime 2
+namedField (FieldName.Binary n low) = binary n low
 
 unfoldable pub notField : FieldName → Bool
 notField (FieldName.Prime p) = notPrime p

@@ -1,6 +1,7 @@
 pub mod Search
 pub mod Field
 pub mod Polynomial
+pub mod Extension
 pub mod Sequence
 pub mod RepeatLength
 pub mod Result

@@ -57,7 +57,7 @@ pub fn period_power(field: GaloisField, work: &mut [u8], f: &[u8], terms: &[u8])
     ensures { λ r. ⌜ PeriodFound (fieldOf field) (now (f .entry)) (now (terms .entry)) (now (work .entry))
         (now (work .exit)) r ⌝ }
 {
-    let level = level_dividing(field.characteristic as usize, terms.len());
+    let level = level_dividing(field.characteristic() as usize, terms.len());
     let found = search_level(field, work, f, terms, level);
     clear(work);
     found

@@ -71,7 +71,7 @@ pub fn times_power(field: GaloisField, f: &[u8], r: usize, answer: &mut [u8], n:
     ensures { λ m. ⌜ Multiplied (fieldOf field) (power (fieldOf field) (now (f .entry)) r)
         (now (answer .entry)) n (now (answer .exit)) m ⌝ }
 {
-    let p = field.characteristic as usize;
+    let p = field.characteristic() as usize;
     let mut n = n;
     let mut l = 0;
     let mut q = 1;

@@ -27,7 +27,7 @@ pub fn least_power(
     requires { ⌜ Searchable field (now f) level ⌝ }
     ensures { λ r. ⌜ Searched field (now (work .entry)) h n (now (f .entry)) level (now (work .exit)) r ⌝ }
 {
-    let p = field.characteristic as usize;
+    let p = field.characteristic() as usize;
     let d = f.len() - 1;
     let mut at = h;
     let mut count = n;

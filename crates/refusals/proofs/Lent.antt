@@ -20,10 +20,10 @@ use Rattle.meaning.specs.Search.{holdsForSome}
 use Rattle.meaning.specs.Field.{Field}
 use Rattle.meaning.specs.Result.{Result, refused, answered, Check, firstOf, Rated, written, cleared}
 use Rattle.meaning.specs.Result.{answerAfter, clearing, clears, workAfter}
-use Rattle.meaning.specs.FieldNames.{fieldNumber, inField}
+use Rattle.meaning.specs.FieldNames.{inField}
 use Rattle.meaning.specs.Answers.{numberOf}
 use Rattle.meaning.specs.Calls.{LentAfter}
-use Rattle.meaning.proofs.Tables.{firstOf-skip, firstOf-stop}
+use Rattle.meaning.proofs.Tables.{firstOf-skip, firstOf-stop, number-keeps}
 use Rattle.meaning.proofs.Passes.{nothing}
 use Rattle.bridge.proofs.Basics.Searches.{none-uncons}
 use Rattle.arith.specs.declared.field.GaloisField.{GaloisField}
@@ -89,11 +89,6 @@ module _ {A : Type 0} {result : Result (Rated A)} {answer work : List ℕ} where
   lent-rated e a w = lent e a w
 
 -- the refusal of a name leaves the work bytes as they were
-number-keeps : (name : FieldName) → clears (fieldNumber name) ≡ false
-unfolding fieldNumber clears clearing holdsForSome
-number-keeps (FieldName.Prime p) = refl
-number-keeps (FieldName.Binary n low) = refl
-
 pub name-keeps : {name : FieldName} {x : Refusal} → Declined name x → clears (numberOf x) ≡ false
 name-keeps {name} d = ap clears (d .number) ∙ number-keeps name
 

@@ -1,7 +1,7 @@
 -- What the contracts of the repeat length cite: factors with their powers.
 --
---   PoweredFactors F fs rs == the factors fs are monic over F, of degree 1 to 32 and irreducible, with fewer
---                         than 2^40 residues, and each has a power in rs, at most 4,096
+--   PoweredFactors F fs rs == the factors fs are monic over F, of degree 1 to 32 and irreducible, with at
+--                         most 2^40 residues, and each has a power in rs, at most 4,096
 use Prim.Native.Nat.{ℕ, _≤_, _<_}
 use mathlib.Core.List.{List, []}
 use lib.ListN.{length, getD}

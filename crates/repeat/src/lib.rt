@@ -72,6 +72,6 @@ pub fn repeat_length(field: GaloisField, factors: &[&[u8]], powers: &[u64]) -> u
         (named (listsOf (now (factors .entry))) (now (powers .entry))) ⌝ }
 {
     let largest = largest_power(factors, powers);
-    let q = level_reaching(field.characteristic as usize, largest as usize).power;
+    let q = level_reaching(field.characteristic() as usize, largest as usize).power;
     (q * orders_within(field, factors, powers, 65536 / q)) as u64
 }

@@ -32,7 +32,7 @@ fn power_alone(
         (now (terms .entry)) (now (work .entry)) (now (work .exit)) r ⌝ }
 {
     load(work, 0, terms);
-    let level = level_reaching(field.characteristic as usize, uppers[0] as usize);
+    let level = level_reaching(field.characteristic() as usize, uppers[0] as usize);
     least_power(field, work, 0, terms.len(), factors[0], level) as u64
 }
 

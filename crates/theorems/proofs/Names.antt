@@ -21,7 +21,7 @@ use Rattle.meaning.specs.Result.{Result, Rated, refused, clearing, clears}
 use Rattle.meaning.specs.FieldNames.{notField, fieldNumber, inField}
 use Rattle.meaning.specs.Route.{lookUp}
 use Rattle.meaning.proofs.Determined.{refusals, refusalOf}
-use Rattle.meaning.proofs.Tables.{in-field, no-field}
+use Rattle.meaning.proofs.Tables.{in-field, no-field, number-keeps}
 use Rattle.bridge.proofs.Basics.Searches.{true-T, false-T, some-head, some-tail}
 use Rattle.bridge.proofs.Basics.Searches.{some-uncons, in-answered, in-refused}
 use Rattle.bridge.proofs.Basics.Interpretation.{IsField, named-isField}
@@ -40,11 +40,6 @@ number-positive : (name : FieldName) → 1 ≤ fieldNumber name
 unfolding fieldNumber
 number-positive (FieldName.Prime p) = lit≤ tt
 number-positive (FieldName.Binary n low) = lit≤ tt
-
-number-keeps : (name : FieldName) → clears (fieldNumber name) ≡ false
-unfolding fieldNumber clears clearing holdsForSome
-number-keeps (FieldName.Prime p) = refl
-number-keeps (FieldName.Binary n low) = refl
 
 module _ (name : FieldName) where
   pub name-listed : (numbers : List ℕ) → Listed numbers → Listed (fieldNumber name ∷ numbers)

@@ -23,6 +23,7 @@ use Rattle.meaning.specs.Conditions.{notPrime, startUnlikeDegree}
 use Rattle.meaning.specs.FieldNames.{namedField, notField, fieldNumber}
 use Rattle.meaning.specs.Continuation.{continueTable, filled, continueIn, continueSequence}
 use Rattle.meaning.specs.Irreducibility.{irreducibleTable, irreducibleIn, askIrreducible}
+use Rattle.meaning.specs.File.{fieldIn}
 use Rattle.meaning.specs.Calls.{bufferAfter}
 use Rattle.theorems.specs.Ratings.{GF, NamesField, NameWords, PrimeWords, IrreducibleWords}
 use Rattle.theorems.specs.Ratings.{PrimePromise, IrreduciblePromise, ContinueFilled, ContinuePromise}
@@ -55,8 +56,16 @@ admitted (FieldName.Prime p) h = prime-isPrime (inRange-prime p (not-false (prim
 admitted (FieldName.Binary n low) h = absurd (true≢false h)
 
 pub name-words : NameWords
-unfolding namedField fieldNumber
-name-words = record { prime-field = λ p. refl; prime-number = λ p. refl; admitted = admitted }
+unfolding namedField fieldNumber fieldIn
+name-words =
+    record {
+      prime-field = λ p. refl;
+      prime-number = λ p. refl;
+      binary-field = λ n low. refl;
+      binary-number = λ n low. refl;
+      file-name = λ rs. refl;
+      admitted = admitted;
+    }
 
 pub prime-words : PrimeWords
 prime-words n = (isPrime-meaning n, meaning-isPrime)

@@ -34,6 +34,7 @@ use Rattle.meaning.specs.declared.FreeRating.{FreeRating}
 use Rattle.meaning.specs.declared.Filling.{Filling}
 use Rattle.meaning.specs.declared.Irreducibility.{Irreducibility}
 use Rattle.meaning.specs.Field.{Field, prime, PrimeNumber, isPrime, areElements}
+use Rattle.meaning.specs.Extension.{binary}
 use Rattle.meaning.specs.Polynomial.{Polynomial, degree, leading, isMonicOver, scale, power, product}
 use Rattle.meaning.specs.Polynomial.{irreducible, monicMultiple, NotAProduct}
 use Rattle.meaning.specs.Sequence.{Sequence, periodic, cut, LeastPeriod, Continues}
@@ -50,6 +51,8 @@ use Rattle.meaning.specs.Power.{PowerFigures}
 use Rattle.meaning.specs.Period.{NoPower}
 use Rattle.meaning.specs.Portion.{onward, SetMeaning, PortionMeaning, Agrees}
 use Rattle.meaning.specs.Free.{FreeFigures, IsLeastDegree, Fits, Precedes}
+use Rattle.meaning.specs.Route.{RouteRecord, byteOf}
+use Rattle.meaning.specs.File.{fieldIn}
 use Rattle.meaning.specs.Answers.{SetTold, toldPower, toldSet, toldFree, toldFilling, toldIrreducible, padded}
 use Rattle.meaning.specs.Calls.{PrimeCall, IrreducibleCall, PeriodCall, SetCall, FreeCall, ContinueCall}
 
@@ -261,11 +264,15 @@ MultiplesPromise =
 
 -- THE WORDS OF THE REQUEST
 
--- What a name stands for: that of a prime p for the field of the p residues modulo p, and 6 is the number by
--- which it is refused. A name that is not refused is that of a field.
+-- What a name stands for: that of a prime p for the field of the p residues modulo p, that of n and low for
+-- the polynomials in y over GF(2) modulo y^n + low; and 6 is the number by which it is refused. A name that
+-- is not refused is that of a field. The name that a file holds is that of its prime.
 pub record NameWords : Type 0 where
   pub prime-field : (p : ℕ) → namedField (FieldName.Prime p) ≡ prime p
   pub prime-number : (p : ℕ) → fieldNumber (FieldName.Prime p) ≡ 6
+  pub binary-field : (n low : ℕ) → namedField (FieldName.Binary n low) ≡ binary n low
+  pub binary-number : (n low : ℕ) → fieldNumber (FieldName.Binary n low) ≡ 6
+  pub file-name : (rs : List RouteRecord) → fieldIn rs ≡ FieldName.Prime (byteOf 2 rs)
   pub admitted : (name : FieldName) → notField name ≡ false → NamesField name
 
 abbrev pub PrimeWords : Type 0

@@ -71,9 +71,10 @@ module _ (field : GaloisField) (good : WellFormed field) (f : Polynomial) (u : �
           ∙ sym (ℕ.mul-assoc (rest / field .characteristic) (field .characteristic) q)
           ∙ ap (λ r. r * q) (omega (arith, ℕ.div-add-mod' rest (field .characteristic)))
 
-      pub raising-level : Raising field f u m s w₀ w at count (rest / field .characteristic) (l + 1)
+      next-level :
+          Raising field f u m s w₀ w at count (rest / field .characteristic) (l + 1)
           (q * field .characteristic)
-      raising-level =
+      next-level =
           record {
             halves = x .halves;
             terms = x .terms;
@@ -86,6 +87,15 @@ module _ (field : GaloisField) (good : WellFormed field) (f : Polynomial) (u : �
             few = omega (arith, exponent-same, x .few);
             kept = x .kept;
           }
+
+    pub raising-level :
+        {p : ℕ}
+        → p ≡ field .characteristic
+        → rest % p ≡ 0
+        → Raising field f u m s w₀ w at count (rest / p) (l + 1) (q * p)
+    raising-level e =
+        subst (λ p. rest % p ≡ 0 → Raising field f u m s w₀ w at count (rest / p) (l + 1) (q * p)) (sym e)
+        next-level
 
     -- one action
     module _ (positive : 0 < rest) where

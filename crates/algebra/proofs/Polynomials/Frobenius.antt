@@ -7,8 +7,6 @@
 --   power-series     == for a series f, f^(p^w) is f with its coefficients raised to p^w, spread p^w places
 --                       apart
 --   power-polynomial == the same for polynomials
---   prime-power-polynomial
---                    == over the field of p elements the coefficients stay: f^(p^w) = f(x^(p^w))
 --
 -- Assumes nothing.
 use Prim.Native.Nat.{ℕ, zero, suc, _-_, _^_, _<_}
@@ -19,43 +17,18 @@ use Rattle.algebra.proofs.Rings.Ring.{Ring, Hom, hom}
 use Rattle.algebra.proofs.Rings.Multiple.{numeral, hom-numeral}
 use Rattle.algebra.proofs.Rings.Power.{power, power-one, power-power, power-mul, power-of-one}
 use Rattle.algebra.proofs.Rings.Power.{hom-power}
-use Rattle.algebra.proofs.Polynomials.Series.{
-  tail,
-  series,
-  constant-series,
-  x-series,
-  series-split,
-  x-mul,
-  constant-hom,
-}
-use Rattle.algebra.proofs.Polynomials.Spread.{
-  spread,
-  join,
-  spread-rule,
-  spread-polynomial,
-  map-polynomial,
-  coefficient-spread,
-  coefficient-map,
-}
-use Rattle.algebra.proofs.Polynomials.Polynomial.{
-  Polynomial,
-  constant-polynomial-hom,
-  polynomials,
-  coefficient,
-  coefficient-hom,
-  polynomial-ext,
-}
+use Rattle.algebra.proofs.Polynomials.Series.{tail, series, constant-series, x-series, series-split}
+use Rattle.algebra.proofs.Polynomials.Series.{x-mul, constant-hom}
+use Rattle.algebra.proofs.Polynomials.Spread.{spread, join, spread-rule, spread-polynomial}
+use Rattle.algebra.proofs.Polynomials.Spread.{map-polynomial, coefficient-spread, coefficient-map}
+use Rattle.algebra.proofs.Polynomials.Polynomial.{Polynomial, constant-polynomial-hom, polynomials}
+use Rattle.algebra.proofs.Polynomials.Polynomial.{coefficient, coefficient-hom, polynomial-ext}
 use Rattle.algebra.proofs.Numbers.Number.{Prime, prime-pos, prime-power-pos}
 use Rattle.algebra.proofs.Rings.Characteristic.{Characteristic, multiple-divides, hom-characteristic}
 use Rattle.algebra.proofs.Rings.Sum.{sum, sum-first, sum-last, sum-zeros}
 use Rattle.algebra.proofs.Rings.Binomial.{choose-prime, binomialTerm, term-first, term-last, binomial}
-use Rattle.algebra.proofs.FiniteFields.PrimeField.{
-  Residue,
-  primeRing,
-  prime-characteristic,
-  residue-value,
-  residue-numeral,
-}
+use Rattle.algebra.proofs.FiniteFields.PrimeField.{Residue, primeRing, prime-characteristic}
+use Rattle.algebra.proofs.FiniteFields.PrimeField.{residue-value, residue-numeral}
 
 -- A sum of which the first and the last summand alone are not 0
 sum-ends : {K : Type 0} (R : Ring K) (n : ℕ) (f : ℕ → K) → 0 < n → ((k : ℕ) → 0 < k → k < n → f k ≡ R .0#)
@@ -152,19 +125,3 @@ fermat-power {p} P w c =
   where
     is-numeral : c ≡ numeral (primeRing P) (c .0)
     is-numeral = sym (residue-value p (prime-pos P) c) ∙ residue-numeral p (prime-pos P) (c .0)
-
-module _ {p : ℕ} (P : Prime p) (w : ℕ) {D : Discrete (Residue p)} where
-  map-fixed : (f : Polynomial (primeRing P) D) → map-polynomial (λ c. power (primeRing P) c (p ^ w)) f ≡ f
-  map-fixed f = polynomial-ext (λ n. raised n ∙ fermat-power P w (coefficient f n))
-    where
-      raised :
-          (n : ℕ)
-          → coefficient (map-polynomial (λ c. power (primeRing P) c (p ^ w)) f) n
-          ≡ power (primeRing P) (coefficient f n) (p ^ w)
-      raised = coefficient-map (λ c. power (primeRing P) c (p ^ w)) (fermat-power P w (primeRing P .0#)) f
-
-  pub prime-power-polynomial :
-      (f : Polynomial (primeRing P) D)
-      → power (polynomials (primeRing P) D) f (p ^ w) ≡ spread-polynomial (p ^ w) f
-  prime-power-polynomial f =
-      power-polynomial (prime-characteristic P) w f ∙ ap (spread-polynomial (p ^ w)) (map-fixed f)

@@ -342,6 +342,18 @@ module _ {F : Field} (I : IsField F) where
       element-injective (mul-below _ _) (mul-below _ _)
       (simp element-mul (ring .mul-assoc (element a) (element b) (element c)))
 
+  pub number-mul-add : (a b c : ℕ) → (F .mul) a ((F .add) b c) ≡ (F .add) ((F .mul) a b) ((F .mul) a c)
+  number-mul-add a b c =
+      element-injective (mul-below _ _) (add-below _ _)
+      (simp (element-mul, element-add) (ring .mul-add (element a) (element b) (element c)))
+
+  pub number-add-one-mul : (a b : ℕ) → (F .add) a ((F .mul) 1 b) ≡ (F .add) a b
+  number-add-one-mul a b =
+      element-injective (add-below _ _) (add-below _ _)
+      (simp (element-mul, element-add)
+      (ap (λ z. element a ⊕ z)
+      (ap (λ z. z ⊗ element b) (I .element-one) ∙ one-mul ring (element b))))
+
   pub number-one-mul : {a : ℕ} → a < F .size → (F .mul) 1 a ≡ a
   number-one-mul {a} l =
       element-injective (mul-below 1 a) l

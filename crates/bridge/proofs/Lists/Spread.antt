@@ -122,6 +122,14 @@ unfoldable pub raise : Field → ℕ → ℕ → ℕ
 raise F zero a = 1
 raise F (suc n) a = (F .mul) a (raise F n a)
 
+pub raise-zero-power : (F : Field) (a : ℕ) → raise F 0 a ≡ 1
+unfolding raise
+raise-zero-power F a = refl
+
+pub raise-suc-power : (F : Field) (n a : ℕ) → raise F (suc n) a ≡ (F .mul) a (raise F n a)
+unfolding raise
+raise-suc-power F n a = refl
+
 module _ {F : Field} (I : IsField F) where
   open IsField I using (K, ring, field, element)
   open Ring ring using (0#, 1#, _⊗_)

@@ -8,7 +8,6 @@
 --   right-step, massey-right == each step leaves a right state, and so all states are right
 --   massey-elements  == the lower coefficients are elements of the field
 --   massey-fits, massey-least == after all terms the polynomial fits them, and its degree is the least one
---   InvertsPrimes inverse == the function inverts in GF(p) for every prime in range
 --   massey-reading   == a meter shows the degree of the model
 --
 -- No condition on the terms is needed: a number beyond the field stands for its element.

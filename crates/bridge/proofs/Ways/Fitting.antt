@@ -14,7 +14,6 @@
 --   only-first     == where only one list fits it is the first
 --   first-polynomial, polynomial-first == the polynomial of the free way is that of the words `FirstFit`;
 --                     `polynomial-some` says that there is one where some list fits
---   free-prime     == p is a prime where the table of the free way passes it
 --   free-answer    == the answer of the free way, from the least degree and the first list that fits with it
 --   free-rated     == what an answer of the free way says
 --   stretch-fits, stretch-least == where a list with a constant term other than 0 annihilates an endless

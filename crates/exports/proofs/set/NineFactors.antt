@@ -1,5 +1,5 @@
--- The set way looks at no more than nine factors: in every field it turns down nine like any greater number of
--- them, by 7, 8 or 9.
+-- The set way looks at no more than nine factors: in every field it turns down nine like any greater number
+-- of them, by 7, 8 or 9.
 --
 --   set-nine         == in every field the answer with the first nine factors is that with all of them
 --   call-same        == the contract goes by the answer in every field alone

@@ -78,7 +78,7 @@ module _ {field : GaloisField} (v : WellFormed field) (table h : List ℕ) (s : 
               (scale-elements (field-isField v) (getD h j 0) lent));
           raised = λ f k r w.
               let I : IsField F = field-isField w in
-              let (a, b) = size-power field in
+              let (a, b) = size-power w in
               let same : row table j (degree f) ≡ lent = ap (row table j) (sym k) ∙ sym lent-row in
               subst (Congruent I f (power F (take (j + 1) h) (F .size))) (sym e)
               (subst (λ n. Congruent I f (power F (take n h) (F .size)) (combined F sum (getD h j 0) lent))

@@ -64,9 +64,6 @@ module _ {field : GaloisField} (w : WellFormed field) {f : Polynomial} {r : ℕ}
   abbrev F : Field
   F = fieldOf field
 
-  abbrev p : ℕ
-  p = field .characteristic
-
   abbrev I : IsField F
   I = field-isField w
 
@@ -80,7 +77,7 @@ module _ {field : GaloisField} (w : WellFormed field) {f : Polynomial} {r : ℕ}
   raised-start =
       record {
         done = 0;
-        place = sym (pow-zero p);
+        place = sym (pow-zero (field .characteristic));
         split = omega arith;
         multiplied =
             subst (λ u. Multiplied F u answer n answer n) (sym (power-zero-list F f))
@@ -124,7 +121,8 @@ module _ {field : GaloisField} (w : WellFormed field) {f : Polynomial} {r : ℕ}
 
     power-positive : 0 < q
     power-positive =
-        subst (λ (k : ℕ). 0 < k) (sym (A .place)) (one-le-pow l p (omega (arith, characteristic-least w)))
+        subst (λ (k : ℕ). 0 < k) (sym (A .place))
+        (one-le-pow l (field .characteristic) (omega (arith, characteristic-least w)))
 
     module _ (more : 0 < rest) where
       near : q ≤ 4096
@@ -132,12 +130,9 @@ module _ {field : GaloisField} (w : WellFormed field) {f : Polynomial} {r : ℕ}
           let m = le-mul-of-pos-right q more in
           omega (arith, A .split, power-small)
 
-      pub place-fits : q * p ≤ 1028096
-      place-fits = mul-le-mul near (characteristic-most w)
-
       pub exponent-fits : l < 4096
       exponent-fits =
-          let e : l < q = rw (A .place) (below-power p l (characteristic-least w)) in
+          let e : l < q = rw (A .place) (below-power (field .characteristic) l (characteristic-least w)) in
           omega (arith, near)
 
       pub raised-levelled : Levelled field f l q
@@ -150,52 +145,59 @@ module _ {field : GaloisField} (w : WellFormed field) {f : Polynomial} {r : ℕ}
             near = near;
           }
 
-      digit-split : rest ≡ rest % p + p * (rest / p)
-      digit-split = sym (mod-add-div rest p)
+      -- the next digit, by p, the characteristic
+      module _ {p : ℕ} (same : p ≡ field .characteristic) where
+        pub place-fits : q * p ≤ 1028096
+        place-fits = mul-le-mul near (subst (λ k. k ≤ 251) (sym same) (characteristic-most w))
 
-      split-digit : q * rest ≡ q * (rest % p) + q * p * (rest / p)
-      split-digit =
-          ap (λ (k : ℕ). q * k) digit-split
-          ∙ mul-add q (rest % p) (p * (rest / p))
-          ∙ ap (λ (k : ℕ). q * (rest % p) + k) (sym (mul-assoc q p (rest / p)))
+        digit-split : rest ≡ rest % p + p * (rest / p)
+        digit-split = sym (mod-add-div rest p)
 
-      exponent-grown : (A .done + q * (rest % p)) * (length f - 1) ≤ r * (length f - 1)
-      exponent-grown = mul-le-mul-right (length f - 1) (omega (arith, A .split, split-digit))
+        split-digit : q * rest ≡ q * (rest % p) + q * p * (rest / p)
+        split-digit =
+            ap (λ (k : ℕ). q * k) digit-split
+            ∙ mul-add q (rest % p) (p * (rest / p))
+            ∙ ap (λ (k : ℕ). q * (rest % p) + k) (sym (mul-assoc q p (rest / p)))
 
-      grown-degree :
-          n₁ + rest % p * (q * (length f - 1)) ≡ n + (A .done + q * (rest % p)) * (length f - 1)
-      grown-degree =
-          let e = add-mul (A .done) (q * (rest % p)) (length f - 1) in
-          let k = ap (λ (x : ℕ). x * (length f - 1)) (mul-comm q (rest % p)) in
-          omega (arith, degree-now, mul-assoc (rest % p) q (length f - 1))
+        exponent-grown : (A .done + q * (rest % p)) * (length f - 1) ≤ r * (length f - 1)
+        exponent-grown = mul-le-mul-right (length f - 1) (omega (arith, A .split, split-digit))
 
-      pub raised-growing : Growing f q (rest % p) answer₁ n₁
-      raised-growing =
-          record {
-            someFactor = factor-nonempty;
-            stride = power-positive;
-            small = omega (arith, grown-degree, exponent-grown, R .small);
-            room = omega (arith, grown-degree, exponent-grown, R .room, raised-length);
-          }
+        grown-degree :
+            n₁ + rest % p * (q * (length f - 1)) ≡ n + (A .done + q * (rest % p)) * (length f - 1)
+        grown-degree =
+            let e = add-mul (A .done) (q * (rest % p)) (length f - 1) in
+            let k = ap (λ (x : ℕ). x * (length f - 1)) (mul-comm q (rest % p)) in
+            omega (arith, degree-now, mul-assoc (rest % p) q (length f - 1))
 
-      power-more :
-          times F (power F (power F f q) (rest % p)) (power F f (A .done))
-          ≡ power F f (q * (rest % p) + A .done)
-      power-more =
-          ap (λ u. times F u (power F f (A .done))) (sym (power-mul I f q (rest % p) factor-nonempty))
-          ∙ sym (power-add I f (q * (rest % p)) (A .done) factor-nonempty)
+        pub raised-growing : Growing f q (rest % p) answer₁ n₁
+        raised-growing =
+            record {
+              someFactor = factor-nonempty;
+              stride = power-positive;
+              small = omega (arith, grown-degree, exponent-grown, R .small);
+              room = omega (arith, grown-degree, exponent-grown, R .room, raised-length);
+            }
 
-      pub raised-next :
-          {answer₂ : List ℕ} {n₂ : ℕ}
-          → Multiplied F (power F (power F f q) (rest % p)) answer₁ n₁ answer₂ n₂
-          → Raised field f r answer n answer₂ n₂ (l + 1) (q * p) (rest / p)
-      raised-next {answer₂} {n₂} N =
-          record {
-            done = q * (rest % p) + A .done;
-            place = power-next p l q (A .place);
-            split = omega (arith, A .split, split-digit);
-            multiplied =
-                subst (λ u. Multiplied F u answer n answer₂ n₂) power-more
-                (multiplied-then I answer n degree-within (A .multiplied) some-power degree-within-now N
-                (power-nonempty I (power F f q) (rest % p) (power-nonempty I f q factor-nonempty)));
-          }
+        power-more :
+            times F (power F (power F f q) (rest % p)) (power F f (A .done))
+            ≡ power F f (q * (rest % p) + A .done)
+        power-more =
+            ap (λ u. times F u (power F f (A .done))) (sym (power-mul I f q (rest % p) factor-nonempty))
+            ∙ sym (power-add I f (q * (rest % p)) (A .done) factor-nonempty)
+
+        pub raised-next :
+            {answer₂ : List ℕ} {n₂ : ℕ}
+            → Multiplied F (power F (power F f q) (rest % p)) answer₁ n₁ answer₂ n₂
+            → Raised field f r answer n answer₂ n₂ (l + 1) (q * p) (rest / p)
+        raised-next {answer₂} {n₂} N =
+            record {
+              done = q * (rest % p) + A .done;
+              place =
+                  power-next p l q (A .place ∙ ap (λ (k : ℕ). k ^ l) (sym same))
+                  ∙ ap (λ (k : ℕ). k ^ (l + 1)) same;
+              split = omega (arith, A .split, split-digit);
+              multiplied =
+                  subst (λ u. Multiplied F u answer n answer₂ n₂) power-more
+                  (multiplied-then I answer n degree-within (A .multiplied) some-power degree-within-now N
+                  (power-nonempty I (power F f q) (rest % p) (power-nonempty I f q factor-nonempty)));
+            }

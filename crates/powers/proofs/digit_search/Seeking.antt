@@ -127,33 +127,32 @@ module _
           ∙ ap (λ n. r + digits field f n (half w at count)) (sym z)
           ∙ x .result
 
-      -- the level below
-      module _ (above : l ≡ 0 → ⊥) where
-        pub going-level : q / field .characteristic ≡ field .characteristic ^ (l - 1)
+      -- the level below, by p, the characteristic
+      module _ {p : ℕ} (same : p ≡ field .characteristic) (above : l ≡ 0 → ⊥) where
+        pub going-level : q / p ≡ field .characteristic ^ (l - 1)
         going-level =
-            level-down (field .characteristic) l q (omega (arith, characteristic-least good)) above
+            ap (λ (k : ℕ). q / k) same
+            ∙ level-down (field .characteristic) l q (omega (arith, characteristic-least good)) above
             (x .isLevel)
 
-        parts : (field .characteristic - 1) * (q / field .characteristic) + q / field .characteristic ≡ q
+        parts : (p - 1) * (q / p) + q / p ≡ q
         parts =
-            level-parts (field .characteristic) l q (omega (arith, characteristic-least good)) above
-            (x .isLevel)
+            level-parts p l q (omega (arith, same, characteristic-least good)) above
+            (x .isLevel ∙ ap (λ (k : ℕ). k ^ l) (sym same))
 
-        pub going-near : top ≤ 4096 * field .characteristic → q / field .characteristic ≤ 4096
+        pub going-near : top ≤ 4096 * field .characteristic → q / p ≤ 4096
         going-near h =
-            ℕ.div-le-of-le-mul (field .characteristic)
-            (omega (arith, x .bound, ℕ.mul-comm 4096 (field .characteristic)))
+            ℕ.div-le-of-le-mul p
+            (omega (arith, x .bound, ap (λ (k : ℕ). 4096 * k) same, ℕ.mul-comm 4096 p))
 
         module _ {w′ : List ℕ} {at′ count′ i : ℕ} (halves : Halves w′ at′ count′) (kept : Kept w w′)
-            (tried :
-            Tried (stepOf field f) (field .characteristic - 1) (q / field .characteristic) (half w at count) i
-            (half w′ at′ count′)) where
-          pub going-fits : r + i * (q / field .characteristic) + q / field .characteristic ≤ r + q
-          going-fits = omega (arith, parts, ℕ.mul-le-mul-right (q / field .characteristic) (tried-low tried))
+            (tried : Tried (stepOf field f) (p - 1) (q / p) (half w at count) i (half w′ at′ count′)) where
+          pub going-fits : r + i * (q / p) + q / p ≤ r + q
+          going-fits = omega (arith, parts, ℕ.mul-le-mul-right (q / p) (tried-low tried))
 
           pub going-next :
-              Seeking field f e top s w₀ w′ at′ (min count′ (q / field .characteristic * degree f)) (l - 1)
-              (q / field .characteristic) (r + i * (q / field .characteristic))
+              Seeking field f e top s w₀ w′ at′ (min count′ (q / p * degree f)) (l - 1) (q / p)
+              (r + i * (q / p))
           going-next =
               record {
                 halves =
@@ -164,9 +163,8 @@ module _
                     };
                 isLevel = going-level;
                 result =
-                    ap
-                    (resuming field f (r + i * (q / field .characteristic)) (l - 1))
-                    (half-cut w′ at′ count′ (q / field .characteristic * degree f))
+                    ap (resuming field f (r + i * (q / p)) (l - 1))
+                    (half-cut w′ at′ count′ (q / p * degree f))
                     ∙ level
                     ∙ x .result;
                 bound = omega (arith, going-fits, x .bound, x .positive);
@@ -197,12 +195,13 @@ module _
                   t
 
               level :
-                  resuming field f (r + i * (q / field .characteristic)) (l - 1)
-                  (take (q / field .characteristic * degree f) (half w′ at′ count′))
+                  resuming field f (r + i * (q / p)) (l - 1) (take (q / p * degree f) (half w′ at′ count′))
                   ≡ r + digits field f l (half w at count)
               level =
                   let b : suc (l - 1) ≡ l = omega (arith, above) in
-                  at-level (q / field .characteristic) going-level tried
-                  ∙ ap
-                  (λ m. r + digits field f m (half w at count))
-                  b
+                  at-level (q / p) going-level
+                  (subst
+                  (λ k. Tried (stepOf field f) (k - 1) (q / p) (half w at count) i (half w′ at′ count′))
+                  same
+                  tried)
+                  ∙ ap (λ m. r + digits field f m (half w at count)) b

@@ -1,7 +1,7 @@
 -- `power_action::act_power` meets its contract. The invariant: f^(rest·q) on the terms of half `at` is f^u on
 -- the n terms, and q is a power of p. The measure is the rest. Assumes nothing.
 use Prim.Native.Nat.{_*_, _-_, _≤_}
-use mathlib.Core.Path.{refl}
+use mathlib.Core.Path.{refl, sym, subst}
 use native.Mathlib.Nat as ℕ
 use native.Mathlib.Omega.{arith}
 use borrow.Author.Needs.{needs}
@@ -25,8 +25,14 @@ abbrev μ-loop : tie.MeasureT-loop
 abbrev entry : tie.At-loop Inv-loop μ-loop → tie.Start Inv-loop μ-loop
 entry c = c .before .before .before .before
 
+abbrev asked : tie.At-loop Inv-loop μ-loop → tie.After-characteristic Inv-loop μ-loop
+asked c = c .before
+
 abbrev turn : tie.Else1 Inv-loop μ-loop → tie.At-loop Inv-loop μ-loop
 turn c = c .before .before
+
+characteristic-requires : tie.Need-characteristic-requires Inv-loop μ-loop
+characteristic-requires c κs = search needs
 
 cast-p : tie.Need-cast-p Inv-loop μ-loop
 cast-p c = search needs
@@ -65,18 +71,21 @@ mul-q c =
     raising-stride (b .args .field) (b .pre .0) (b .args .f .now) (b .args .u) (l .inv)
     (c .before .loop-test .taken) in
     let k : l .q ≤ 4096 = omega (arith, b .pre .1 .1 .few) in
-    omega (arith, ℕ.mul-le-mul k (characteristic-most (b .pre .0)))
+    let e = asked (c .before .before) .characteristic .ensures in
+    omega (arith, ℕ.mul-le-mul k (subst (λ p. p ≤ 251) (sym e) (characteristic-most (b .pre .0))))
 
 loop-less : tie.Need-loop-less Inv-loop μ-loop
 loop-less c =
     let b = entry (c .before .before) in
-    ℕ.div-lt-self (c .before .loop-test .taken) (characteristic-least (b .pre .0))
+    let e = asked (c .before .before) .characteristic .ensures in
+    ℕ.div-lt-self (c .before .loop-test .taken)
+    (subst (λ p. 2 ≤ p) (sym e) (characteristic-least (b .pre .0)))
 
 loop-again : tie.Need-loop-again Inv-loop μ-loop
 loop-again c =
     let b = entry (c .before .before) in
     raising-level (b .args .field) (b .pre .0) (b .args .f .now) (b .args .u) (c .before .before .loop .inv)
-    (c .if1 .taken)
+    (asked (c .before .before) .characteristic .ensures) (c .if1 .taken)
 
 act-at-level-requires : tie.Need-act-at-level-requires Inv-loop μ-loop
 act-at-level-requires c κs =
@@ -150,6 +159,7 @@ act-power-spec =
     (tie.spec
     Inv-loop
     μ-loop
+    characteristic-requires
     cast-p
     sub-d
     loop-holds

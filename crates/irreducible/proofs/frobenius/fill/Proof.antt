@@ -21,6 +21,13 @@ use Rattle.irreducible.proofs.frobenius.fill.Tie as tie
 abbrev entry : tie.After-power-of-x → tie.Start
 entry c = c .before .before .before .before .before
 
+abbrev asked : tie.After-power-of-x → tie.After-size
+asked c = c .before .before
+
+-- the number of elements
+size : (c : tie.After-power-of-x) → asked c .size .result ≡ fieldOf (entry c .args .field) .size
+size c = asked c .size .ensures ∙ sym (field-size (entry c .pre .0))
+
 abbrev after-power-of-x : tie.After-trimmed-length → tie.After-power-of-x
 after-power-of-x c = c .before .before .before .before
 
@@ -31,6 +38,9 @@ sub-d : tie.Need-sub-d
 sub-d c =
     let s = c .before .before in
     omega (arith, monic-length (fieldOf (s .args .field)) (now (s .args .f)) (s .pre .1 .0 .monic))
+
+size-requires : tie.Need-size-requires
+size-requires c κs = search needs
 
 cast-power-of-x : tie.Need-cast-power-of-x
 cast-power-of-x c = search needs
@@ -109,11 +119,11 @@ fill-rows-requires c κs =
           (
             short-elements (s .pre .1 .0) (drop (length (now (s .args .f)) - 1 - 0) (replicate 32 0)) d
                 (after-power-of-x (c .before .before .before) .power-of-x .ensures)
-                (sym (field-size (s .args .field)))
+                (size (after-power-of-x (c .before .before .before)))
                 (c .before .before .before .trimmed-length .ensures),
             short-length (s .pre .1 .0) (drop (length (now (s .args .f)) - 1 - 0) (replicate 32 0)) d
                 (after-power-of-x (c .before .before .before) .power-of-x .ensures)
-                (sym (field-size (s .args .field)))
+                (size (after-power-of-x (c .before .before .before)))
                 (c .before .before .before .trimmed-length .ensures),
           ),
           s .pre .1 .1,
@@ -132,7 +142,7 @@ returns c =
     c .before .before .fill-rows .ensures .rows
     (power-trimmed (s .pre .1 .0) (drop (length (now (s .args .f)) - 1 - 0) (replicate 32 0)) d
     (after-power-of-x (after-trimmed-length (c .before)) .power-of-x .ensures)
-    (sym (field-size (s .args .field)))
+    (size (after-power-of-x (after-trimmed-length (c .before))))
     (after-trimmed-length (c .before) .trimmed-length .ensures))
 
 pub fill-spec : {M : Type 1} → statement M
@@ -140,6 +150,7 @@ fill-spec =
     tie.close
     (tie.spec
     sub-d
+    size-requires
     cast-power-of-x
     sub-power-of-x
     part-y-start

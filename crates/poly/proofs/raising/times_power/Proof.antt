@@ -1,5 +1,8 @@
 -- `raising::times_power` meets its contract. The invariant is `Raised`.
 -- Assumes nothing.
+use Prim.Native.Nat.{_≤_}
+use mathlib.Core.Path.{_≡_, sym, subst}
+use borrow.Author.Needs.{needs}
 use native.Mathlib.Nat.{div-lt-self}
 use native.Mathlib.Omega.{arith}
 use Rattle.arith.proofs.Represented.{characteristic-least, characteristic-most}
@@ -20,6 +23,14 @@ abbrev μ-loop : tie.MeasureT-loop
 abbrev entry : tie.At-loop Inv-loop μ-loop → tie.Start Inv-loop μ-loop
 entry c = c .before .before .before .before
 
+same :
+    (c : tie.At-loop Inv-loop μ-loop)
+    → c .before .characteristic .result ≡ entry c .args .field .characteristic
+same c = c .before .characteristic .ensures
+
+characteristic-requires : tie.Need-characteristic-requires Inv-loop μ-loop
+characteristic-requires c κs = search needs
+
 cast-p : tie.Need-cast-p Inv-loop μ-loop
 cast-p c = omega (arith, characteristic-most (c .before .before .before .pre .0))
 
@@ -39,7 +50,7 @@ times-level-requires c κs =
       (
         raised-levelled (w .0) (w .1) (l .loop .inv) (omega arith),
         (
-          raised-growing (w .0) (w .1) (l .loop .inv) (omega arith),
+          raised-growing (w .0) (w .1) (l .loop .inv) (omega arith) (same l),
           raised-elements (w .0) (w .1) (l .loop .inv),
         ),
       ),
@@ -64,19 +75,19 @@ mul-q c =
     let l = c .before .before .before .before .before in
     let w = entry l .pre in
     omega
-    (arith, place-fits (w .0) (w .1) (l .loop .inv) (omega arith))
+    (arith, place-fits (w .0) (w .1) (l .loop .inv) (omega arith) (same l))
 
 loop-less : tie.Need-loop-less Inv-loop μ-loop
 loop-less c =
     let l = c .before .before .before .before .before in
     div-lt-self (c .before .before .before .before .loop-test .taken)
-    (characteristic-least (entry l .pre .0))
+    (subst (λ p. 2 ≤ p) (sym (same l)) (characteristic-least (entry l .pre .0)))
 
 loop-again : tie.Need-loop-again Inv-loop μ-loop
 loop-again c =
     let l = c .before .before .before .before .before in
     let w = entry l .pre in
-    raised-next (w .0) (w .1) (l .loop .inv) (omega arith)
+    raised-next (w .0) (w .1) (l .loop .inv) (omega arith) (same l)
     (c .before .before .times-level .ensures)
 
 same-length : tie.Need-same-length Inv-loop μ-loop
@@ -97,6 +108,7 @@ times-power-spec =
     (tie.spec
     Inv-loop
     μ-loop
+    characteristic-requires
     cast-p
     loop-holds
     rem-times-level

@@ -29,7 +29,7 @@ use Rattle.powers.proofs.digit_search.least_power.Tie as tie
 
 abbrev Inv-loop : tie.InvT-loop
 Inv-loop field work₀ h n f p d at₀ count₀ l q power from i₀ work at count i =
-    Trying (stepOf field f) (field .characteristic - 1) q (half work₀ at₀ count₀) i (half work at count)
+    Trying (stepOf field f) (p - 1) q (half work₀ at₀ count₀) i (half work at count)
     × Halves work at count
     × Kept work₀ work
 
@@ -59,12 +59,15 @@ level-above c = level (c .before .before)
 abbrev at-below : At tie.Else3 → At tie.Start
 at-below c = start (level-above c)
 
+abbrev asked : At tie.Else3 → At tie.After-characteristic
+asked c = level-above c .before
+
 abbrev try : At tie.Else5 → At tie.At-loop
 try c = c .before .before .before .before .before .before
 
 -- the power of p at the level below
 abbrev stride : At tie.Else3 → ℕ
-stride c = level-above c .levels .q / at-below c .args .field .characteristic
+stride c = level-above c .levels .q / asked c .characteristic .result
 
 -- what the test for zeros says of the half
 lent :
@@ -100,7 +103,7 @@ abbrev Found : At tie.At-loop → List ℕ → ℕ → Type 0
 Found i w k =
     let a = at-below (i .before) .args in
     let l = level-above (i .before) .levels in
-    Tried (stepOf (a .field) (a .f .now)) (a .field .characteristic - 1) (stride (i .before))
+    Tried (stepOf (a .field) (a .f .now)) (asked (i .before) .characteristic .result - 1) (stride (i .before))
     (half (l .work) (l .at) (l .count)) k (half w (i .loop .at) (i .loop .count))
     × Halves w (i .loop .at) (i .loop .count)
     × Kept (l .work) w
@@ -133,7 +136,9 @@ found c =
 -- the strides of the levels below are small
 near : (c : At tie.Else3) → stride c ≤ 4096
 near c =
-    let s = at-below c in going-near (s .pre .0) (left (c .before)) (c .if3 .left) (s .pre .1 .1 .near)
+    let s = at-below c in
+    going-near (s .pre .0) (left (c .before)) (asked c .characteristic .ensures) (c .if3 .left)
+    (s .pre .1 .1 .near)
 
 product-fits : (c : At tie.Else3) → stride c * (length (at-below c .args .f .now) - 1) < 2 ^ 64
 product-fits c =
@@ -151,6 +156,9 @@ enough c =
     let s = at-below (i .before) in
     acted-enough (field-isField (s .pre .0)) (s .args .f .now) (s .pre .1 .1 .nonempty) (stride (i .before))
     (i .loop .inv .1) (c .before .before .before .act-at-level .ensures) (c .if5 .left)
+
+characteristic-requires : At tie.Need-characteristic-requires
+characteristic-requires c κs = search needs
 
 cast-p : At tie.Need-cast-p
 cast-p c = search needs
@@ -205,7 +213,9 @@ act-at-level-requires c κs =
           elements = s .pre .1 .1 .elements;
           nonempty = s .pre .1 .1 .nonempty;
           short = s .pre .1 .1 .short;
-          isLevel = going-level (s .pre .0) (left (i .before .before)) (i .before .if3 .left);
+          isLevel =
+              going-level (s .pre .0) (left (i .before .before)) (asked (i .before) .characteristic .ensures)
+              (i .before .if3 .left);
           near = near (i .before);
         },
       ),
@@ -266,7 +276,8 @@ add-power c =
     let x = left (e .before) in
     omega (
       arith,
-      going-fits (s .pre .0) x (e .if3 .left) (found j .1) (found j .2) (found j .0),
+      going-fits (s .pre .0) x (asked e .characteristic .ensures) (e .if3 .left) (found j .1) (found j .2)
+          (found j .0),
       x .bound,
       s .pre .1 .1 .near,
       characteristic-most (s .pre .0),
@@ -287,7 +298,8 @@ levels-again c =
     let j = c .before .before .before in
     let e = j .before .before in
     rw (c .smaller .ensures)
-    (going-next (at-below e .pre .0) (left (e .before)) (e .if3 .left) (found j .1) (found j .2) (found j .0))
+    (going-next (at-below e .pre .0) (left (e .before)) (asked e .characteristic .ensures) (e .if3 .left)
+    (found j .1) (found j .2) (found j .0))
 
 same-length : At tie.Need-same-length
 same-length c = c .before .before .before .before .levels .inv .kept .size
@@ -318,6 +330,7 @@ least-power-spec =
     μ-loop
     Inv-levels
     μ-levels
+    characteristic-requires
     cast-p
     sub-d
     levels-holds

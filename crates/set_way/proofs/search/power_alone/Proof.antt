@@ -2,8 +2,9 @@
 use Prim.Native.Nat.{_<_}
 use mathlib.Core.Path.{_≡_, sym, subst, _∙_}
 use native.Mathlib.Omega.{arith}
-use lib.ListN.{length}
+use lib.ListN.{length, getD}
 use borrow.Author.Needs.{needs}
+use Rattle.powers.specs.levels.Levels.{Base, Reaching}
 use Rattle.powers.proofs.levels.Climbing.{field-base}
 use Rattle.powers.specs.digit_search.Searching.{Searchable, Searched}
 use Rattle.meaning.specs.Slices.{listsOf}
@@ -24,6 +25,20 @@ loaded c = c .before .before .before .before
 abbrev level : tie.After-least-power-arg2 → tie.After-level-reaching
 level c = c .before .before
 
+abbrev asked : tie.After-shared-slice-known3 → tie.After-characteristic
+asked c = c .before
+
+-- the level that is found, by the characteristic
+reached :
+    (c : tie.After-level-reaching)
+    → let s = at-loaded (loaded (c .before)) in
+    Reaching (s .args .field .characteristic) (getD (s .args .uppers .now) 0 0) (c .level-reaching .result)
+reached c =
+    let s = at-loaded (loaded (c .before)) in
+    subst (λ p. Reaching p (getD (s .args .uppers .now) 0 0) (c .level-reaching .result))
+    (asked (c .before) .characteristic .ensures)
+    (c .level-reaching .ensures)
+
 -- there is one factor, and an upper power
 factors-one : (s : tie.Start) → length (listsOf (s .args .factors .now)) ≡ 1
 factors-one s = lists-length (s .args .factors .now) ∙ s .pre .1 .1 .1 .1
@@ -34,6 +49,9 @@ upper-index s = input-index (s .pre .1 .1 .0) 0 (omega (arith, factors-one s))
 load-requires : tie.Need-load-requires
 load-requires c κs = let s = c .before .before .before .before in set-halves (s .pre .1 .1 .0) (s .pre .1 .0)
 
+characteristic-requires : tie.Need-characteristic-requires
+characteristic-requires c κs = search needs
+
 cast-level-reaching : tie.Need-cast-level-reaching
 cast-level-reaching c = search needs
 
@@ -43,7 +61,8 @@ shared-slice-read-level-reaching c = upper-index (at-loaded (loaded c))
 level-reaching-requires : tie.Need-level-reaching-requires
 level-reaching-requires c κs =
     let s = at-loaded (loaded c) in
-    (field-base (s .pre .0), input-few (s .pre .1 .1 .0) 0 (omega (arith, factors-one s)))
+    let base = subst Base (sym (asked c .characteristic .ensures)) (field-base (s .pre .0)) in
+    (base, input-few (s .pre .1 .1 .0) 0 (omega (arith, factors-one s)))
 
 shared-slice-copy-out-least-power : tie.Need-shared-slice-copy-out-least-power
 shared-slice-copy-out-least-power c = search needs
@@ -63,7 +82,7 @@ least-power-requires c κs =
         subst (λ f. Searchable (s .args .field) f (l .level-reaching .result))
             (lists-at (s .args .factors .now) 0)
             (factor-searchable (s .pre .0) (s .pre .1 .1 .0) (factors-one s) (l .level-reaching .result)
-            (l .level-reaching .ensures)),
+            (reached l)),
       ),
     )
 
@@ -78,7 +97,7 @@ returns c =
     let s = at-loaded o in
     let y = r .least-power in
     alone-found (s .pre .0) (s .pre .1 .1 .0) (factors-one s) (l .level-reaching .result)
-    (l .level-reaching .ensures) (s .pre .1 .1 .1 .0) (o .load .ensures)
+    (reached l) (s .pre .1 .1 .1 .0) (o .load .ensures)
     (subst
     (λ f.
     Searched (s .args .field) (o .load .last .0) 0 (length (s .args .terms .now)) f
@@ -90,6 +109,7 @@ power-alone-spec =
     tie.close
     (tie.spec
     load-requires
+    characteristic-requires
     cast-level-reaching
     shared-slice-read-level-reaching
     level-reaching-requires

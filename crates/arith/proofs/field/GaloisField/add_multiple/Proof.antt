@@ -1,82 +1,52 @@
--- `arith::GaloisField::add_multiple` meets its contract. The invariant: the first i numbers of a + c·b are
--- written over a. The measure is what is left of b. Assumes nothing.
-use Prim.Native.Nat.{_-_, _≤_}
-use mathlib.Core.Path.{_≡_, refl}
-use native.Mathlib.Omega.{arith}
-use borrow.Author.Needs.{needs}
-use lib.ListN.{length}
+-- `arith::GaloisField::add_multiple` meets its contract. Assumes nothing.
+use mathlib.Core.Path.{ap, _∙_}
 use denote.Ref.{now}
-use Rattle.arith.specs.Represented.{fieldOf}
 use Rattle.arith.specs.Slices.{combined}
-use Rattle.arith.proofs.Writing.{Writing, writing-none, combined-front, combined-end}
+use borrow.Author.Needs.{needs}
 use Rattle.arith.proofs.field.GaloisField.add_multiple.Statement.{statement}
 use Rattle.arith.proofs.field.GaloisField.add_multiple.Tie as tie
 
-abbrev Inv-loop : tie.InvT-loop
-Inv-loop self a₀ c b i₀ i-end a i =
-    (i ≤ i-end) × (i-end ≡ length b) × Writing a₀ 0 (combined (fieldOf self) a₀ c b) a i
+residues-requires : tie.Need-residues-requires
+residues-requires c κs = search needs
 
-abbrev μ-loop : tie.MeasureT-loop
-μ-loop self a₀ c b i₀ i-end a i = i-end - i
+add-multiple-requires : tie.Need-add-multiple-requires
+add-multiple-requires c κs = search needs
 
--- the places on the way
-abbrev entry : tie.At-loop Inv-loop μ-loop → tie.Start Inv-loop μ-loop
-entry c = c .before .before .before
+extension-requires : tie.Need-extension-requires
+extension-requires c κs = search needs
 
-loop-holds : tie.Need-loop-holds Inv-loop μ-loop
-loop-holds c = (omega arith, refl, writing-none _ 0 _ (omega arith))
+add-multiple-requires-2 : tie.Need-add-multiple-requires-2
+add-multiple-requires-2 c κs = search needs
 
-slice-read-add-product : tie.Need-slice-read-add-product Inv-loop μ-loop
-slice-read-add-product c = search needs
-
-shared-slice-read-add-product : tie.Need-shared-slice-read-add-product Inv-loop μ-loop
-shared-slice-read-add-product c = search needs
-
-add-product-requires : tie.Need-add-product-requires Inv-loop μ-loop
-add-product-requires c κs = search needs
-
-slice-write-a : tie.Need-slice-write-a Inv-loop μ-loop
-slice-write-a c = search needs
-
-add-i : tie.Need-add-i Inv-loop μ-loop
-add-i c = search needs
-
-loop-less : tie.Need-loop-less Inv-loop μ-loop
-loop-less c = search needs
-
-loop-again : tie.Need-loop-again Inv-loop μ-loop
-loop-again c =
-    let a = entry (c .before .before .before .before) .args in
-    let l = c .before .before .before .before .loop in (
-      omega arith,
-      refl,
-      combined-front (fieldOf (a .self)) (now (a .a)) (a .c) (now (a .b)) (omega arith) (omega arith)
-          (l .inv .2)
-          (c .add-product .ensures),
-    )
-
-same-length : tie.Need-same-length Inv-loop μ-loop
+same-length : tie.Need-same-length
 same-length c = search needs
 
-returns : tie.Need-returns Inv-loop μ-loop
+returns : tie.Need-returns
 returns c =
-    let a = entry (c .before) .args in
-    combined-end (fieldOf (a .self)) (now (a .a)) (a .c) (now (a .b)) (omega arith) (omega arith)
-    (c .before .loop .inv .2)
+    let a = c .before .before .before .before .before .before .before .before .before .args in
+    c .before .before .add-multiple .ensures
+    ∙ ap (λ F. combined F (now (a .a)) (a .c) (now (a .b)))
+    (c .before .before .before .before .residues .ensures .1)
+
+same-length-2 : tie.Need-same-length-2
+same-length-2 c = search needs
+
+returns-2 : tie.Need-returns-2
+returns-2 c =
+    let a = c .before .before .before .before .before .before .before .before .before .args in
+    c .before .before .add-multiple2 .ensures
+    ∙ ap (λ F. combined F (now (a .a)) (a .c) (now (a .b)))
+    (c .before .before .before .before .extension .ensures .1)
 
 pub add-multiple-spec : {M : Type 1} → statement M
 add-multiple-spec =
     tie.close
     (tie.spec
-    Inv-loop
-    μ-loop
-    loop-holds
-    slice-read-add-product
-    shared-slice-read-add-product
-    add-product-requires
-    slice-write-a
-    add-i
-    loop-less
-    loop-again
+    residues-requires
+    add-multiple-requires
+    extension-requires
+    add-multiple-requires-2
     same-length
-    returns)
+    returns
+    same-length-2
+    returns-2)

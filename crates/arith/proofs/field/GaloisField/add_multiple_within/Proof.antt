@@ -1,81 +1,52 @@
--- `arith::GaloisField::add_multiple_within` meets its contract. The invariant: the first i numbers of a + c·b
--- are written from x on. The measure is what is left of the n places. Assumes nothing.
-use Prim.Native.Nat.{_-_}
-use native.Mathlib.Omega.{arith}
+-- `arith::GaloisField::add_multiple_within` meets its contract. Assumes nothing.
+use mathlib.Core.Path.{ap, _∙_}
+use denote.Ref.{now}
+use Rattle.arith.specs.Slices.{addedWithin}
 use borrow.Author.Needs.{needs}
-use Rattle.arith.specs.Represented.{fieldOf}
-use Rattle.arith.proofs.Writing.{Combining, same-places, combining-none, combining-more, combining-end}
 use Rattle.arith.proofs.field.GaloisField.add_multiple_within.Statement.{statement}
 use Rattle.arith.proofs.field.GaloisField.add_multiple_within.Tie as tie
 
-abbrev Inv-loop : tie.InvT-loop
-Inv-loop self w₀ x c y n i₀ w i = Combining (fieldOf self) w₀ x x c y n w i
+residues-requires : tie.Need-residues-requires
+residues-requires c κs = search needs
 
-abbrev μ-loop : tie.MeasureT-loop
-μ-loop self w₀ x c y n i₀ w i = n - i
+add-multiple-within-requires : tie.Need-add-multiple-within-requires
+add-multiple-within-requires c κs = search needs
 
--- the places on the way
-abbrev entry : tie.At-loop Inv-loop μ-loop → tie.Start Inv-loop μ-loop
-entry c = c .before .before
+extension-requires : tie.Need-extension-requires
+extension-requires c κs = search needs
 
-loop-holds : tie.Need-loop-holds Inv-loop μ-loop
-loop-holds c = combining-none _ (omega arith)
+add-multiple-within-requires-2 : tie.Need-add-multiple-within-requires-2
+add-multiple-within-requires-2 c κs = search needs
 
-add-add-product : tie.Need-add-add-product Inv-loop μ-loop
-add-add-product c = search needs
-
-slice-read-add-product : tie.Need-slice-read-add-product Inv-loop μ-loop
-slice-read-add-product c = search needs
-
-add-add-product-2 : tie.Need-add-add-product-2 Inv-loop μ-loop
-add-add-product-2 c = search needs
-
-slice-read-add-product-2 : tie.Need-slice-read-add-product-2 Inv-loop μ-loop
-slice-read-add-product-2 c = search needs
-
-add-product-requires : tie.Need-add-product-requires Inv-loop μ-loop
-add-product-requires c κs = search needs
-
-add-w : tie.Need-add-w Inv-loop μ-loop
-add-w c = search needs
-
-slice-write-w : tie.Need-slice-write-w Inv-loop μ-loop
-slice-write-w c = search needs
-
-add-i : tie.Need-add-i Inv-loop μ-loop
-add-i c = search needs
-
-loop-less : tie.Need-loop-less Inv-loop μ-loop
-loop-less c = search needs
-
-loop-again : tie.Need-loop-again Inv-loop μ-loop
-loop-again c =
-    let p = entry (c .before .before .before .before) .pre .1 in
-    combining-more (c .before .before .before .before .loop .inv) (same-places p) p (omega arith)
-    (c .add-product .ensures)
-
-same-length : tie.Need-same-length Inv-loop μ-loop
+same-length : tie.Need-same-length
 same-length c = search needs
 
-returns : tie.Need-returns Inv-loop μ-loop
-returns c = combining-end (c .before .loop .inv) (omega arith)
+returns : tie.Need-returns
+returns c =
+    let a = c .before .before .before .before .before .before .before .before .args in
+    c .before .before .add-multiple-within .ensures
+    ∙ ap (λ F. addedWithin F (now (a .w)) (a .x) (a .c) (a .y) (a .n))
+    (c .before .before .before .before .residues .ensures .1)
+
+same-length-2 : tie.Need-same-length-2
+same-length-2 c = search needs
+
+returns-2 : tie.Need-returns-2
+returns-2 c =
+    let a = c .before .before .before .before .before .before .before .before .args in
+    c .before .before .add-multiple-within2 .ensures
+    ∙ ap (λ F. addedWithin F (now (a .w)) (a .x) (a .c) (a .y) (a .n))
+    (c .before .before .before .before .extension .ensures .1)
 
 pub add-multiple-within-spec : {M : Type 1} → statement M
 add-multiple-within-spec =
     tie.close
     (tie.spec
-    Inv-loop
-    μ-loop
-    loop-holds
-    add-add-product
-    slice-read-add-product
-    add-add-product-2
-    slice-read-add-product-2
-    add-product-requires
-    add-w
-    slice-write-w
-    add-i
-    loop-less
-    loop-again
+    residues-requires
+    add-multiple-within-requires
+    extension-requires
+    add-multiple-within-requires-2
     same-length
-    returns)
+    returns
+    same-length-2
+    returns-2)

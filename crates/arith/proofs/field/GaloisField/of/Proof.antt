@@ -5,7 +5,7 @@ use borrow.Author.Needs.{needs}
 use Rattle.meaning.specs.declared.Refusal.the-variants.{NotPrime}
 use Rattle.bridge.proofs.Basics.Searches.{true-T}
 use Rattle.arith.specs.Represented.{FieldMade, FieldNamed, Declined}
-use Rattle.arith.proofs.Represented.{not-prime-declined, binary-declined}
+use Rattle.arith.proofs.field.Sorts.{not-prime-declined, binary-declined}
 use Rattle.arith.proofs.field.GaloisField.of.Statement.{statement}
 use Rattle.arith.proofs.field.GaloisField.of.Tie as tie
 

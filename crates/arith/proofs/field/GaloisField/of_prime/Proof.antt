@@ -1,13 +1,9 @@
 -- `arith::GaloisField::of_prime` meets its contract. Assumes nothing.
-use mathlib.Core.Path.{refl, sym}
+use mathlib.Core.Path.{refl}
 use native.Mathlib.Nat.{div-le-of-le-mul}
 use native.Mathlib.Omega.{arith}
-use Rattle.bridge.proofs.Basics.Interpretation.{inRange-prime, prime-characteristic-number}
-use Rattle.meaning.specs.Field.{primeInRange}
-use Rattle.meaning.specs.Conditions.{notPrime}
-use Rattle.meaning.specs.FieldNames.{namedField, notField}
-use Rattle.bridge.proofs.Basics.Searches.{T-not-false}
-use Rattle.arith.specs.Represented.{fieldOf}
+use Rattle.bridge.proofs.Basics.Interpretation.{inRange-prime}
+use Rattle.arith.proofs.field.Sorts.{prime-made}
 use Rattle.arith.proofs.field.GaloisField.of_prime.Statement.{statement}
 use Rattle.arith.proofs.field.GaloisField.of_prime.Tie as tie
 
@@ -26,18 +22,7 @@ cast-t5 c =
     omega (arith, div-le-of-le-mul (c .args .p) {m = 65536} {n = 32768} (omega arith))
 
 returns : tie.Need-returns
-unfolding fieldOf namedField notField notPrime
-returns c =
-    record {
-      exists = T-not-false (primeInRange (c .args .p)) (c .pre);
-      wellFormed =
-          record {
-            sizeIsPrime = c .pre;
-            characteristicIsRight = sym (prime-characteristic-number _);
-            multiplierIsRight = refl;
-          };
-      isField = refl;
-    }
+returns c = prime-made (c .args .p) _ (c .pre) refl refl refl refl refl
 
 pub of-prime-spec : {M : Type 1} → statement M
 of-prime-spec = tie.close (tie.spec cast-t2 cast-t3 div-t4 cast-t5 returns)

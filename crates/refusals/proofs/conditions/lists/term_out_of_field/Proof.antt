@@ -23,7 +23,8 @@ cast-result c = search needs
 
 returns-2 : tie.Need-returns-2
 returns-2 c =
-    ap₂ leb (c .before .size .ensures ∙ sym (field-size _)) (c .largest .ensures)
+    let s = c .before .before .before .before in
+    ap₂ leb (c .before .size .ensures ∙ sym (field-size (s .pre))) (c .largest .ensures)
     ∙ terms-largest _ _ (c .before .before .if1 .left)
 
 pub term-out-of-field-spec : {M : Type 1} → statement M

@@ -28,7 +28,7 @@ returns-3 c =
     let s = c .before in
     simp (
       degree-tests,
-      field-size,
+      field-size (s .before .before .before .pre),
       ne-eqb _ _ (s .before .before .if1 .left),
       le-ltb _ _ (s .before .if2 .left),
       sym (s .size .ensures),

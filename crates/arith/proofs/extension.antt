@@ -1,0 +1,4 @@
+pub mod Elements
+pub mod Planes
+pub mod Powers
+pub mod Sums
