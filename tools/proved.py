@@ -4,7 +4,7 @@ import pathlib
 import subprocess
 import sys
 
-from route_files import MOST_BYTES
+from route_files import MOST_BYTES, say
 
 ROOT = pathlib.Path(__file__).resolve().parent.parent
 LIBRARY = ROOT / "target/staticlib/libexports.so"
@@ -26,9 +26,12 @@ class Unmade(Exception):
 
 
 def ended(ran):
-    """Ends the program where the program or the library could not be made: it has said why."""
+    """Ends the program where the program or the library could not be made, which has said why, or was stopped."""
+    if 0 < ran.returncode < 4:
+        sys.exit(ran.returncode)
     if ran.returncode != 0:
-        sys.exit(ran.returncode if 0 < ran.returncode < 4 else 1)
+        say(f"{ran.args[0].name}: ended with status {ran.returncode}")
+        sys.exit(1)
 
 
 def refusal(file):
