@@ -1,9 +1,9 @@
-// Two libraries of the exported calls beside each other: beside FIRST.so SECOND.so ROUNDS SWAPPED KIND SETS
+// Two libraries of the exported calls beside each other: beside FIRST.so SECOND.so ROUNDS SWAPPED KIND
 // measures some thousand calls with monic input by both, in alternation, and writes a line for each: name, median and
 // least time by the first, and by the second, in nanoseconds. Both must tell the same status and degree. A library
-// from before the merged call has `rater_rate_portion` and `rater_rate_set` in its place, and no repeat length; one
-// factor goes to the first of them, and to the second where SETS is 1.
+// has the calls of gobashe.h, or those of a tree from before it, which `before_calls` declares.
 #define _GNU_SOURCE
+#include "gobashe.h"
 #include <dlfcn.h>
 #include <stdarg.h>
 #include <stdbool.h>
@@ -13,19 +13,24 @@
 #include <string.h>
 #include <time.h>
 
+// Functions `rater_…` of a prime p. The numbers of a set are eight bytes each, the least significant first.
 typedef struct {
     uint64_t (*period)(uint64_t, const uint8_t *, size_t, const uint8_t *, size_t, uint8_t *, size_t, uint8_t *, size_t,
                        uint64_t *, uint64_t *, uint64_t *);
-    uint64_t (*portion)(uint64_t, const uint8_t *, size_t, uint64_t, const uint8_t *, size_t, uint8_t *, size_t,
-                        uint8_t *, size_t, uint64_t *, uint64_t *, uint64_t *);
     uint64_t (*set)(uint64_t, const uint8_t *, size_t, const uint8_t *, size_t, const uint8_t *, size_t,
-                    const uint8_t *, size_t, uint8_t *, size_t, uint8_t *, size_t, uint8_t *, size_t, uint64_t *);
-    uint64_t (*merged)(uint64_t, const uint8_t *, size_t, const uint8_t *, size_t, const uint8_t *, size_t,
-                       const uint8_t *, size_t, uint8_t *, size_t, uint8_t *, size_t, uint8_t *, size_t, uint64_t *,
-                       uint64_t *);
+                    const uint8_t *, size_t, uint8_t *, size_t, uint8_t *, size_t, uint8_t *, size_t, uint64_t *,
+                    uint64_t *);
     uint64_t (*sequence)(uint64_t, const uint8_t *, size_t, const uint8_t *, size_t, uint8_t *, size_t, size_t);
     uint64_t (*irreducible)(uint64_t, const uint8_t *, size_t, uint8_t *);
-    bool (*prime)(uint64_t);
+} before_calls;
+
+typedef struct {
+    __typeof__(&gobashe_rate_period) period;
+    __typeof__(&gobashe_rate_set) set;
+    __typeof__(&gobashe_continue_sequence) sequence;
+    __typeof__(&gobashe_is_irreducible) irreducible;
+    __typeof__(&gobashe_prime_in_range) prime;
+    before_calls before;
 } library;
 
 enum kind { PERIOD, PORTION, SEQUENCE, IRREDUCIBLE, PRIME };
@@ -46,7 +51,6 @@ static size_t listed;
 static uint8_t answer[4097], work[8192], powers[64], buffer[4096];
 static library *known;
 static const char *wanted;
-static int sets;
 
 static library load(const char *path) {
     void *handle = dlopen(path, RTLD_NOW | RTLD_LOCAL);
@@ -55,25 +59,41 @@ static library load(const char *path) {
         exit(2);
     }
     library l;
-    *(void **)&l.period = dlsym(handle, "rater_rate_period");
-    *(void **)&l.portion = dlsym(handle, "rater_rate_portion");
-    *(void **)&l.set = dlsym(handle, "rater_rate_set");
-    *(void **)&l.merged = dlsym(handle, "rater_rate_with_factors");
-    *(void **)&l.sequence = dlsym(handle, "rater_continue_sequence");
-    *(void **)&l.irreducible = dlsym(handle, "rater_is_irreducible");
-    *(void **)&l.prime = dlsym(handle, "rater_prime_in_range");
-    int rates = l.merged != NULL || (l.portion != NULL && l.set != NULL);
-    if (!rates || l.period == NULL || l.sequence == NULL || l.irreducible == NULL || l.prime == NULL) {
+    *(void **)&l.period = dlsym(handle, "gobashe_rate_period");
+    *(void **)&l.set = dlsym(handle, "gobashe_rate_set");
+    *(void **)&l.sequence = dlsym(handle, "gobashe_continue_sequence");
+    *(void **)&l.irreducible = dlsym(handle, "gobashe_is_irreducible");
+    *(void **)&l.prime = dlsym(handle, l.period != NULL ? "gobashe_prime_in_range" : "rater_prime_in_range");
+    *(void **)&l.before.period = dlsym(handle, "rater_rate_period");
+    *(void **)&l.before.set = dlsym(handle, "rater_rate_with_factors");
+    *(void **)&l.before.sequence = dlsym(handle, "rater_continue_sequence");
+    *(void **)&l.before.irreducible = dlsym(handle, "rater_is_irreducible");
+    int now = l.period != NULL && l.set != NULL && l.sequence != NULL && l.irreducible != NULL;
+    int before = l.before.period != NULL && l.before.set != NULL && l.before.sequence != NULL &&
+                 l.before.irreducible != NULL;
+    if ((!now && !before) || l.prime == NULL) {
         fprintf(stderr, "beside: %s lacks a call\n", path);
         exit(2);
     }
     return l;
 }
 
-// What the call tells, as one number: its status and its degree, its last term, or its answer.
-static uint64_t call(const library *l, const job *j) {
-    uint64_t a = 0, degree = 0, c = 0, status;
+static int is_irreducible(const library *l, unsigned p, const uint8_t *f, size_t length, uint64_t *status) {
     uint8_t yes = 0;
+    if (l->period == NULL) {
+        *status = l->before.irreducible(p, f, length, &yes);
+        return yes;
+    }
+    gobashe_answer said = l->irreducible(gobashe_prime(p), f, length);
+    *status = said.status;
+    return said.yes;
+}
+
+static uint64_t told(gobashe_rating r) { return 10000 * r.status + r.complexity; }
+
+// What the call tells, as one number: its status and its degree, its last term, or its answer.
+static uint64_t call_before(const before_calls *l, const job *j) {
+    uint64_t a = 0, degree = 0, c = 0, status;
     switch (j->kind) {
     case PERIOD:
         status = l->period(j->p, j->coefficients, j->bytes, j->terms, j->count, answer, sizeof answer, work,
@@ -82,24 +102,37 @@ static uint64_t call(const library *l, const job *j) {
     case SEQUENCE:
         status = l->sequence(j->p, j->coefficients, j->bytes, j->terms, j->start, buffer, j->count, 0);
         return 10000 * status + buffer[j->count - 1];
-    case IRREDUCIBLE:
-        status = l->irreducible(j->p, j->coefficients, j->bytes, &yes);
-        return 10000 * status + yes;
-    case PRIME:
-        return l->prime(j->p);
     default:
-        if (l->merged != NULL)
-            status = l->merged(j->p, j->coefficients, j->bytes, (const uint8_t *)j->lengths, 8 * j->factors,
-                               (const uint8_t *)j->uppers, 8 * j->factors, j->terms, j->count, answer, sizeof answer,
-                               work, sizeof work, powers, sizeof powers, &degree, &c);
-        else if (j->factors == 1 && !sets)
-            status = l->portion(j->p, j->coefficients, j->bytes, j->uppers[0], j->terms, j->count, answer,
-                                sizeof answer, work, sizeof work, &a, &degree, &c);
-        else
-            status = l->set(j->p, j->coefficients, j->bytes, (const uint8_t *)j->lengths, 8 * j->factors,
-                            (const uint8_t *)j->uppers, 8 * j->factors, j->terms, j->count, answer, sizeof answer, work,
-                            sizeof work, powers, sizeof powers, &degree);
+        status = l->set(j->p, j->coefficients, j->bytes, (const uint8_t *)j->lengths, 8 * j->factors,
+                        (const uint8_t *)j->uppers, 8 * j->factors, j->terms, j->count, answer, sizeof answer, work,
+                        sizeof work, powers, sizeof powers, &degree, &c);
         return 10000 * status + degree;
+    }
+}
+
+static uint64_t call(const library *l, const job *j) {
+    uint64_t status, yes;
+    if (j->kind == PRIME) return l->prime(j->p);
+    if (j->kind == IRREDUCIBLE) {
+        yes = is_irreducible(l, j->p, j->coefficients, j->bytes, &status);
+        return 10000 * status + yes;
+    }
+    if (l->period == NULL) return call_before(&l->before, j);
+    gobashe_field field = gobashe_prime(j->p);
+    switch (j->kind) {
+    case PERIOD:
+        return told(l->period(field, j->coefficients, j->bytes, j->terms, j->count, answer, sizeof answer, work,
+                              sizeof work));
+    case SEQUENCE:
+        status = l->sequence(field, j->coefficients, j->bytes, j->terms, j->start, buffer, j->count, 0);
+        return 10000 * status + buffer[j->count - 1];
+    default: {
+        gobashe_bytes factors[8];
+        for (size_t i = 0, at = 0; i < j->factors; at += j->lengths[i++])
+            factors[i] = (gobashe_bytes){j->coefficients + at, j->lengths[i]};
+        return told(l->set(field, factors, j->factors, j->uppers, j->factors, j->terms, j->count, answer,
+                           sizeof answer, work, sizeof work));
+    }
     }
 }
 
@@ -133,12 +166,11 @@ static int in_range(unsigned p, unsigned d) {
 }
 
 static void find_irreducible(unsigned p, unsigned d, uint8_t *f) {
-    uint8_t yes = 0;
-    while (!yes || f[0] == 0) {
+    uint64_t status;
+    do {
         for (unsigned i = 0; i < d; i++) f[i] = below(p);
         f[d] = 1;
-        known->irreducible(p, f, d + 1, &yes);
-    }
+    } while (!is_irreducible(known, p, f, d + 1, &status) || f[0] == 0);
 }
 
 static void add_factor(job *j, unsigned d, uint64_t upper) {
@@ -337,13 +369,12 @@ static void measure(library *both, const job *j, int rounds, int swapped) {
 
 int main(int count, char **words) {
     static const unsigned primes[] = {2, 3, 5, 7, 13, 31, 61, 127, 251};
-    if (count != 7) return 2;
+    if (count != 6) return 2;
     static library both[2];
     both[0] = load(words[1]), both[1] = load(words[2]);
     int rounds = atoi(words[3]) < 64 ? atoi(words[3]) : 64;
     known = &both[0];
     wanted = words[5];
-    sets = atoi(words[6]);
     for (unsigned n = 0; n < 260; n++) add(PRIME, n, "prime %u", n);
     for (unsigned i = 0; i < 9; i++) {
         add_periods(primes[i]);

@@ -1,5 +1,5 @@
-// The rater, its C versions and, where it is at hand, an earlier rater as contestants: the same code for each, over the
-// calls of calls.h.
+// The C versions and, where it is at hand, an earlier rater as contestants: the same code for each, over the calls of
+// calls.h, which know GF(p) alone.
 #include "calls.h"
 #include "jobs.h"
 #include <stdlib.h>
@@ -8,10 +8,11 @@
 typedef struct {
     const job *job;
     answer found;
-    uint8_t work[8192], profile[4 * 4096];
+    uint8_t work[8192];
 } task;
 
 static void *prepare(const job *j) {
+    if (j->binary != 0) return NULL;
     task *t = aligned_alloc(64, (sizeof(task) + 63) / 64 * 64);
     memset(t, 0, sizeof *t);
     t->job = j;
@@ -61,27 +62,9 @@ static void tell(void *task_, answer *a) {
     }                                                                                                                 \
     const contestant VERSION = {#VERSION, prepare, run_##VERSION, tell, free};
 
-CONTESTANT(rater)
 CONTESTANT(plain)
 CONTESTANT(bytes)
 CONTESTANT(best)
-#ifdef WITH_BEFORE
+#ifdef BEFORE_GOBASHE
 CONTESTANT(before)
 #endif
-
-// ---- the profile, whose last entry has the figures that the free way answers
-
-static void *prepare_profile(const job *j) {
-    return j->way == FREE && j->count == 4096 && !j->compared ? prepare(j) : NULL;
-}
-
-static void run_profile(void *task_) {
-    task *t = task_;
-    const job *j = t->job;
-    const uint8_t *last = t->profile + 4 * (j->count - 1);
-    t->found.status = rater_profile(j->p, j->terms, j->count, t->profile, sizeof t->profile);
-    t->found.degree = last[1] + 256 * last[2];
-    t->found.unique = last[3];
-}
-
-const contestant profile = {"profile", prepare_profile, run_profile, tell, free};

@@ -1,7 +1,8 @@
-// The exported calls of the rater, and the C versions that they are measured beside: `plain`, with bytes and a
+// The calls that the rater (gobashe.h) is measured beside, over GF(p): its C versions, `plain`, with bytes and a
 // remainder at each product; `bytes`, with sums in wider numbers and remainders without a division; and `best`, in
-// words over GF(2) and with numbers of 16 bits else. `before` is the rater of an earlier tree. All have the same
-// arguments, the same answers, and leave the same in the lent bytes. A slice passes as its start and length.
+// words over GF(2) and with numbers of 16 bits else; and `before`, the rater of a tree from before gobashe.h, whose
+// functions were so declared. They answer as the rater does, and leave the same in the lent bytes. A slice passes as
+// its start and length.
 #ifndef CALLS_H
 #define CALLS_H
 #include <stdbool.h>
@@ -31,8 +32,6 @@
 #ifdef __cplusplus
 extern "C" {
 #endif
-DECLARE_CALLS(rater)
-uint64_t rater_profile(uint64_t p, const uint8_t *terms, size_t count, uint8_t *profile, size_t bytes);
 DECLARE_CALLS(plain)
 DECLARE_CALLS(bytes)
 DECLARE_CALLS(best)

@@ -1,36 +1,30 @@
 // The search of the catalogue beside 226 calls of the period way with its entries, in one run. Each line has the time of a
 // search on a period, the time of the calls on the same period, and their ratio, and ends with what the search found.
-#include "calls.h"
+#include "gobashe.h"
 #include <stdio.h>
 #include <stdlib.h>
 #include <string.h>
 #include <time.h>
 
-#define ENTRIES 226
 #define ROUNDS 15
 
-uint64_t rater_catalogue_entry(size_t i);
-uint64_t rater_find_entry(const uint8_t *terms, size_t count, uint8_t *work, size_t bytes, uint64_t *entry, uint64_t *power);
-
-static uint8_t terms[4096], answer[4097], work[8192];
+static uint8_t terms[GOBASHE_TERMS], answer[GOBASHE_ANSWER], work[GOBASHE_WORK];
 
 // ---- the two sides
 
-static uint64_t search(size_t n, uint64_t *entry, uint64_t *power) {
-    return rater_find_entry(terms, n, work, sizeof work, entry, power);
-}
+static gobashe_entry search(size_t n) { return gobashe_find_entry(terms, n, work, sizeof work); }
 
 // the first entry that the period way rates, or 0, by asking it for every entry
 static uint64_t by_calls(size_t n) {
     uint64_t first = 0;
-    for (size_t i = 0; i < ENTRIES; i++) {
-        uint64_t entry = rater_catalogue_entry(i), power, degree, repeat;
+    for (size_t i = 0; i < GOBASHE_CATALOGUE; i++) {
+        uint64_t entry = gobashe_catalogue_entry(i);
         uint8_t factor[11];
         size_t count = 0;
         for (uint64_t rest = entry; rest; rest >>= 1) factor[count++] = rest & 1;
-        uint64_t status = rater_rate_period(2, factor, count, terms, n, answer, sizeof answer, work, sizeof work, &power,
-                                            &degree, &repeat);
-        if (status == 0 && first == 0) first = entry;
+        gobashe_rating rating = gobashe_rate_period(gobashe_prime(2), factor, count, terms, n, answer, sizeof answer,
+                                                    work, sizeof work);
+        if (rating.status == 0 && first == 0) first = entry;
     }
     return first;
 }
@@ -56,10 +50,11 @@ static double median(double *values) {
 
 static void line(const char *what, size_t n) {
     double ours[ROUNDS], theirs[ROUNDS], ratios[ROUNDS];
-    uint64_t entry = 0, power = 0, status = 0, first = 0;
+    gobashe_entry found = {0, 0, 0};
+    uint64_t first = 0;
     for (int k = 0; k < ROUNDS; k++) {
         double t0 = now();
-        for (int i = 0; i < 8; i++) status = search(n, &entry, &power);
+        for (int i = 0; i < 8; i++) found = search(n);
         double t1 = now();
         first = by_calls(n);
         double t2 = now();
@@ -67,15 +62,15 @@ static void line(const char *what, size_t n) {
         theirs[k] = t2 - t1;
         ratios[k] = ours[k] / theirs[k];
     }
-    if (first != (status == 0 ? entry : 0)) {
+    if (first != found.entry) {
         fprintf(stderr, "%s: the search and the calls do not agree\n", what);
         exit(1);
     }
     printf("%-44s %9.1f %9.1f µs %7.3f  ", what, median(ours), median(theirs), median(ratios));
-    if (status == 0) {
-        printf("entry %llu, power %llu\n", (unsigned long long)entry, (unsigned long long)power);
+    if (found.status == 0) {
+        printf("entry %llu, power %llu\n", (unsigned long long)found.entry, (unsigned long long)found.power);
     } else {
-        printf("refused by %llu\n", (unsigned long long)status);
+        printf("refused by %llu\n", (unsigned long long)found.status);
     }
 }
 

@@ -17,7 +17,7 @@ static void set_terms(nmod_poly_t s, const job *j, size_t n, int reversed) {
 }
 
 static void *prepare(const job *j) {
-    if (j->way == CONTINUE) return NULL;
+    if (j->way == CONTINUE || j->binary != 0) return NULL;
     task *t = calloc(1, sizeof *t);
     size_t at = 0, degree = 0;
     t->job = j;

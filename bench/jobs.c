@@ -71,21 +71,37 @@ size_t product_of_powers(const job *j, uint8_t *into) {
     return n;
 }
 
-bool annihilates(uint32_t p, const uint8_t *f, size_t degree, const uint8_t *terms, size_t count) {
-    for (size_t k = 0; k + degree < count; k++) {
-        uint32_t sum = 0;
-        for (size_t i = 0; i <= degree; i++) sum += f[i] * terms[k + i];
-        if (sum % p != 0) return false;
+// a product in GF(2^n), bit by bit
+static uint32_t binary_product(const job *j, uint32_t a, uint32_t b) {
+    uint32_t sum = 0;
+    for (; b != 0; b >>= 1) {
+        if (b & 1) sum ^= a;
+        a <<= 1;
+        if (a >> j->binary & 1) a ^= j->p | j->low;
     }
+    return sum;
+}
+
+// the sum of f[i] times term k + i, the terms repeated
+static uint32_t acted(const job *j, const uint8_t *f, size_t degree, size_t k) {
+    uint32_t sum = 0;
+    for (size_t i = 0; i <= degree; i++) {
+        uint8_t t = j->terms[(k + i) % j->count];
+        if (j->binary != 0) sum ^= binary_product(j, f[i], t);
+        else sum += f[i] * t;
+    }
+    return j->binary != 0 ? sum : sum % j->p;
+}
+
+bool annihilates(const job *j, const uint8_t *f, size_t degree) {
+    for (size_t k = 0; k + degree < j->count; k++)
+        if (acted(j, f, degree, k) != 0) return false;
     return true;
 }
 
-bool annihilates_period(uint32_t p, const uint8_t *f, size_t degree, const uint8_t *terms, size_t count) {
-    for (size_t k = 0; k < count; k++) {
-        uint32_t sum = 0;
-        for (size_t i = 0; i <= degree; i++) sum += f[i] * terms[(k + i) % count];
-        if (sum % p != 0) return false;
-    }
+bool annihilates_period(const job *j, const uint8_t *f, size_t degree) {
+    for (size_t k = 0; k < j->count; k++)
+        if (acted(j, f, degree, k) != 0) return false;
     return true;
 }
 
@@ -96,6 +112,23 @@ static void free_random(const char *family, uint32_t p, size_t n) {
     j->count = n;
     random_terms(j, 0, n);
     snprintf(j->name, sizeof j->name, "free way, %s random terms, GF(%u)", grouped(n), p);
+}
+
+// the same over GF(2^n)
+static void free_binary(const char *family, uint32_t n, uint32_t low, size_t count) {
+    job *j = add(family, FREE, 1u << n);
+    j->binary = n;
+    j->low = low;
+    j->count = count;
+    random_terms(j, 0, count);
+    snprintf(j->name, sizeof j->name, "free way, %s random terms, GF(2^%u)", grouped(count), n);
+}
+
+static void free_beside(const char *family, uint32_t p, size_t n) {
+    free_random(family, p, n);
+    job *j = &list[listed - 1];
+    j->beside = true;
+    snprintf(j->name, sizeof j->name, "free way, %s random terms, GF(%u), beside GF(2^8)", grouped(n), p);
 }
 
 static void free_register(const char *family, uint32_t p, size_t n, size_t degree) {
@@ -268,6 +301,9 @@ static void fill(void) {
         for (int k = 0; k < 4; k++) free_random(fields[i].random, fields[i].p, sizes[k]);
         for (int k = 0; k < 4; k++) free_register(fields[i].of_register, fields[i].p, sizes[k], sizes[k] * 1000 / 4096);
     }
+    for (int k = 0; k < 4; k++) free_binary("free way, random, GF(2^2)", 2, 3, sizes[k]);
+    for (int k = 0; k < 4; k++) free_binary("free way, random, GF(2^8)", 8, 27, sizes[k]);
+    free_beside("free way, random, GF(2^8)", 251, 4096);
     for (int k = 0; k < 4; k++) one_factor("one factor, all powers", 2, "x^3+x+1", f, 3, uppers[k], sizes[k]);
     for (int k = 0; k < 4; k++) one_factor("one factor, powers up to 170", 2, "x^3+x+1", f, 3, 170, sizes[k]);
     for (int k = 0; k < 4; k++) period("period, GF(2)", 2, "x+1", sizes[k], sizes[k], sizes[k] - 1);

@@ -12,14 +12,15 @@ extern "C" {
 enum way { FREE, PERIOD, SET, IRREDUCIBLE, CONTINUE };
 
 // One job. A set has one factor to eight, which stand one after the other, constants first. A continuation to `count`
-// terms has its polynomial apart, and as many starting terms as the degree. Jobs of one family take turns in a round;
-// `compared` jobs are there for their answers, and not timed.
+// terms has its polynomial apart, and as many starting terms as the degree. The field is GF(p), or where `binary` is n
+// GF(2^n), reduced by y^n and the bits of `low`; p is then 2^n. Jobs of one family take turns in a round; `compared`
+// jobs are there for their answers, and not timed; one `beside` others is there for a ratio, without a profile.
 typedef struct {
     const char *family;
     char name[100];
     enum way way;
-    bool compared;
-    uint32_t p;
+    bool compared, beside;
+    uint32_t p, binary, low;
     size_t count, factors, bytes;
     uint64_t lengths[8], uppers[8];
     uint8_t coefficients[8 * 33], terms[4096];
@@ -63,9 +64,9 @@ const job *all_jobs(size_t *count);
 // the product of the factors to their upper powers, and its degree
 size_t product_of_powers(const job *j, uint8_t *into);
 
-// whether a polynomial annihilates known terms, or an endless repetition of them
-bool annihilates(uint32_t p, const uint8_t *f, size_t degree, const uint8_t *terms, size_t count);
-bool annihilates_period(uint32_t p, const uint8_t *f, size_t degree, const uint8_t *terms, size_t count);
+// whether a polynomial annihilates the terms of a job, or their endless repetition
+bool annihilates(const job *j, const uint8_t *f, size_t degree);
+bool annihilates_period(const job *j, const uint8_t *f, size_t degree);
 
 // the most bytes of stack that a call uses
 size_t stack_used(void (*call)(void *), void *argument);

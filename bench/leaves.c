@@ -1,6 +1,7 @@
 // The leaves beside C in one run: sums of products and updates beside the loops that the C versions of the calls have,
 // irreducibility, shortest periods, and orders.
 // Each line has the time of the proved function, the time of the same work in C, and their ratio.
+#include "gobashe.h"
 #include "kernels.h"
 #include "reference.h"
 #include <stdio.h>
@@ -12,7 +13,6 @@
 
 uint8_t leaf_dot(uint64_t p, const uint8_t *c, size_t m, const uint8_t *s, size_t n);
 void leaf_update(uint64_t p, uint8_t *a, size_t n, uint8_t c, const uint8_t *b, size_t m);
-uint64_t rater_is_irreducible(uint64_t p, const uint8_t *f, size_t n, uint8_t *yes);
 size_t leaf_shortest_period(const uint8_t *terms, size_t n);
 size_t leaf_order(uint64_t p, const uint8_t *f, size_t n, size_t limit);
 
@@ -92,22 +92,24 @@ static void vectors(uint16_t p) {
 
 // leaves an irreducible polynomial of this degree in f
 static void choose_irreducible(uint32_t p, int d, uint8_t *f) {
-    uint8_t yes = 0;
+    gobashe_answer said;
     do {
         for (int i = 0; i < d; i++) f[i] = below(p);
         f[d] = 1;
-        same(rater_is_irreducible(p, f, d + 1, &yes) == 0, "an accepted polynomial");
-    } while (!yes);
+        said = gobashe_is_irreducible(gobashe_prime(p), f, d + 1);
+        same(said.status == 0, "an accepted polynomial");
+    } while (!said.yes);
 }
 
 // of an irreducible polynomial, so that no common divisor ends the test
 static void irreducibility(uint32_t p, int d) {
-    uint8_t f[33], yes = 0;
+    uint8_t f[33];
     char what[80];
     choose_irreducible(p, d, f);
     same(c_irreducible_ben_or(p, f, d), "irreducibility");
     volatile bool sink;
-    MEASURE(rater_is_irreducible(p, f, d + 1, &yes), sink = c_irreducible_ben_or(p, f, d), 300, a, b)
+    MEASURE(sink = gobashe_is_irreducible(gobashe_prime(p), f, d + 1).yes, sink = c_irreducible_ben_or(p, f, d), 300, a,
+            b)
     snprintf(what, sizeof what, "irreducible, degree %d over %d", d, p);
     line(what, a / 1e3, b / 1e3, "µs");
     (void)sink;

@@ -3,7 +3,7 @@
 //   job NUMBER WAY P TERMS FAMILY NAME      time NUMBER CONTESTANT ROUND NANOSECONDS
 //   answer NUMBER CONTESTANT VERDICT WORDS  stack CALL BYTES
 // With --terms NUMBER it prints the input of a job instead, and with --route NUMBER its route file.
-#include "calls.h"
+#include "gobashe.h"
 #include "jobs.h"
 #include <stdio.h>
 #include <stdlib.h>
@@ -71,8 +71,8 @@ static const char *verdict(const job *j, const answer *ours, const answer *their
         snprintf(words, room, "status %d", (int)theirs->status);
         return "different";
     }
-    bool fits = j->way == PERIOD ? annihilates_period(j->p, theirs->polynomial, theirs->degree, j->terms, j->count)
-                                 : annihilates(j->p, theirs->polynomial, theirs->degree, j->terms, j->count);
+    bool fits = j->way == PERIOD ? annihilates_period(j, theirs->polynomial, theirs->degree)
+                                 : annihilates(j, theirs->polynomial, theirs->degree);
     if (theirs->degree == ours->degree && memcmp(theirs->polynomial, ours->polynomial, ours->degree + 1) == 0)
         return fits ? "same" : "wrong";
     if (theirs->degree == ours->degree && fits && j->way == FREE && 2 * ours->degree > j->count) return "other";
@@ -167,7 +167,8 @@ static void continues(void *nothing) {
     static uint8_t f[2049] = {1}, start[2048] = {1}, buffer[4096];
     (void)nothing;
     f[2048] = 1;
-    if (rater_continue_sequence(251, f, sizeof f, start, sizeof start, buffer, sizeof buffer, 0) != 0) exit(1);
+    if (gobashe_continue_sequence(gobashe_prime(251), f, sizeof f, start, sizeof start, buffer, sizeof buffer, 0) != 0)
+        exit(1);
 }
 
 static void stacks(const job *jobs, size_t count) {
@@ -175,11 +176,11 @@ static void stacks(const job *jobs, size_t count) {
         const char *call;
         enum way way;
         size_t least, most; // factors
-    } calls[] = {{"rater_rate_free", FREE, 0, 0},
-                 {"rater_rate_period", PERIOD, 1, 1},
-                 {"rater_rate_with_factors, one factor", SET, 1, 1},
-                 {"rater_rate_with_factors, eight factors", SET, 2, 8},
-                 {"rater_is_irreducible", IRREDUCIBLE, 1, 1}};
+    } calls[] = {{"gobashe_rate_free", FREE, 0, 0},
+                 {"gobashe_rate_period", PERIOD, 1, 1},
+                 {"gobashe_rate_set, one factor", SET, 1, 1},
+                 {"gobashe_rate_set, eight factors", SET, 2, 8},
+                 {"gobashe_is_irreducible", IRREDUCIBLE, 1, 1}};
     for (size_t k = 0; k < sizeof calls / sizeof calls[0]; k++) {
         size_t most = 0;
         for (size_t i = 0; i < count; i++) {
@@ -195,15 +196,17 @@ static void stacks(const job *jobs, size_t count) {
     for (size_t i = 0; i < count; i++) {
         void *task = profile.prepare(&jobs[i]);
         if (task == NULL) continue;
-        printf("stack\trater_profile\t%zu\n", stack_used(profile.run, task));
+        printf("stack\tgobashe_profile\t%zu\n", stack_used(profile.run, task));
         profile.finish(task);
         break;
     }
-    printf("stack\trater_continue_sequence\t%zu\n", stack_used(continues, NULL));
+    printf("stack\tgobashe_continue_sequence\t%zu\n", stack_used(continues, NULL));
 }
 
 static void show(const job *j) {
-    printf("%s\np %u\n", j->name, j->p);
+    printf("%s\n", j->name);
+    if (j->binary != 0) printf("n %u, low %u\n", j->binary, j->low);
+    else printf("p %u\n", j->p);
     for (size_t i = 0, at = 0; i < j->factors; at += j->lengths[i++]) {
         printf("factor");
         for (size_t k = 0; k < j->lengths[i]; k++) printf(" %d", j->coefficients[at + k]);
@@ -214,11 +217,15 @@ static void show(const job *j) {
     printf("\n");
 }
 
-// box 7, p, mode, factors, terms, end
+// box 7, field, mode, factors, terms, end
 static void route(const job *j) {
     static const uint8_t modes[] = {3, 1, 2};
-    uint8_t head[] = {1, 0, 0, 0, 7, 2, j->p, 3, modes[j->way]};
-    fwrite(head, 1, sizeof head, stdout);
+    uint8_t box[] = {1, 0, 0, 0, 7}, prime[] = {2, j->p}, binary[] = {9, j->binary, j->low};
+    uint8_t mode[] = {3, modes[j->way]};
+    fwrite(box, 1, sizeof box, stdout);
+    if (j->binary != 0) fwrite(binary, 1, sizeof binary, stdout);
+    else fwrite(prime, 1, sizeof prime, stdout);
+    fwrite(mode, 1, sizeof mode, stdout);
     for (size_t i = 0, at = 0; i < j->factors; at += j->lengths[i++]) {
         uint8_t record[36] = {4, j->lengths[i] - 1, j->uppers[i] >> 8, j->uppers[i] & 255};
         memcpy(record + 4, j->coefficients + at, j->lengths[i] - 1);

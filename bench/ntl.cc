@@ -129,7 +129,7 @@ template <class X, class V, class Setting> struct work : task {
 };
 
 void *prepare(const job *j) {
-    if (j->way == CONTINUE) return nullptr;
+    if (j->way == CONTINUE || j->binary != 0) return nullptr;
     task *t;
     if (j->p == 2) t = new work<GF2X, vec_GF2, no_setting>(j);
     else t = new work<zz_pX, vec_zz_p, zz_pContext>(j);

@@ -1,5 +1,6 @@
-// The jobs with PARI: F2x over GF(2), Flx over other fields. PARI has no call for the minimal polynomial of a sequence
-// of numbers; it is the cofactor that half of Euclid's algorithm finds on x^n and the terms, highest power first.
+// The jobs with PARI: F2x over GF(2), Flx over other fields of p elements, F2xqX over those of 2^n (the free way
+// alone). PARI has no call for the minimal polynomial of a sequence of numbers; it is the cofactor that half of
+// Euclid's algorithm finds on x^n and the terms, highest power first.
 #include "jobs.h"
 #include <pari/pari.h>
 #include <stdlib.h>
@@ -42,6 +43,38 @@ static GEN to_power(GEN f, ulong e, ulong p) {
     return all;
 }
 
+// ---- the free way over GF(2^n)
+
+// the element with these bits
+static GEN element(ulong bits) {
+    GEN x = cgetg(bits != 0 ? 3 : 2, t_VECSMALL);
+    x[1] = evalvarn(0);
+    if (bits != 0) x[2] = bits;
+    return x;
+}
+
+static GEN zeros_over(long length) {
+    GEN x = cgetg(length + 2, t_POL);
+    x[1] = evalvarn(1) | evalsigne(1);
+    for (long i = 0; i < length; i++) gel(x, 2 + i) = element(0);
+    return x;
+}
+
+static void prepare_binary(const job *j, GEN *power, GEN *reversed, GEN *modulus) {
+    long n = j->count;
+    GEN x = zeros_over(n + 1), s = zeros_over(n);
+    gel(x, 2 + n) = element(1);
+    for (long i = 0; i < n; i++) gel(s, 2 + n - 1 - i) = element(j->terms[i]);
+    *power = gclone(x);
+    *reversed = gclone(F2xX_renormalize(s, n + 2));
+    *modulus = gclone(element(j->p | j->low));
+}
+
+static GEN half_binary(GEN x_to_n, GEN s, GEN reducing) {
+    GEN m = F2xqX_halfgcd(x_to_n, s, reducing);
+    return F2xqX_normalize(gcoeff(m, 2, 2), reducing);
+}
+
 // ---- a job
 
 static GEN terms_of(const job *j, long n, int reversed, int times) {
@@ -57,7 +90,7 @@ static GEN power_of_x(long n, ulong p) {
 }
 
 static void *prepare(const job *j) {
-    if (j->way == CONTINUE) return NULL;
+    if (j->way == CONTINUE || (j->binary != 0 && j->way != FREE)) return NULL;
     static int begun;
     if (!begun) {
         pari_init_opts(1 << 28, 0, INIT_DFTm);
@@ -75,6 +108,11 @@ static void *prepare(const job *j) {
     long n = t->count = j->count;
     t->degree = degree;
     t->agree = 1;
+    if (j->binary != 0) {
+        prepare_binary(j, &t->power, &t->reversed, &t->modulus);
+        set_avma(pari_mainstack->top);
+        return t;
+    }
     if (n == 0) return t;
     t->terms = gclone(terms_of(j, n, 0, 1));
     t->reversed = gclone(terms_of(j, n, 1, 1));
@@ -94,7 +132,11 @@ static void *prepare_twice(const job *j) { return j->way == FREE || j->way == IR
 static void finish(void *task_) {
     task *t = task_;
     for (size_t i = 0; i < t->job->factors; i++) gunclone(t->factors[i]);
-    if (t->count != 0) {
+    if (t->job->binary != 0) {
+        gunclone(t->power);
+        gunclone(t->reversed);
+        gunclone(t->modulus);
+    } else if (t->count != 0) {
         gunclone(t->terms);
         gunclone(t->reversed);
         gunclone(t->twice);
@@ -124,7 +166,8 @@ static void run(void *task_) {
     set_avma(pari_mainstack->top);
     switch (t->job->way) {
     case FREE:
-        t->found = half(t->power, t->reversed, p);
+        t->found = t->job->binary != 0 ? half_binary(t->power, t->reversed, t->modulus)
+                                       : half(t->power, t->reversed, p);
         break;
     case PERIOD:
         t->found = monic(quotient(t->modulus, common(t->modulus, t->reversed, p), p), p);
@@ -137,6 +180,8 @@ static void run(void *task_) {
     }
     case IRREDUCIBLE:
         t->yes = p == 2 ? F2x_is_irred(t->factors[0]) : Flx_is_irred(t->factors[0], p);
+        break;
+    case CONTINUE:
         break;
     }
 }
@@ -178,7 +223,10 @@ static void tell(void *task_, answer *a) {
     if (t->job->way == IRREDUCIBLE) return;
     GEN f = t->job->p == 2 ? F2x_to_Flx(t->found) : t->found;
     a->degree = degpol(f) < 0 ? 0 : degpol(f);
-    for (size_t i = 0; i <= a->degree && degpol(f) >= 0; i++) a->polynomial[i] = f[2 + i];
+    for (size_t i = 0; i <= a->degree && degpol(f) >= 0; i++) {
+        GEN c = t->job->binary != 0 ? gel(f, 2 + i) : NULL;
+        a->polynomial[i] = c == NULL ? f[2 + i] : lg(c) > 2 ? c[2] : 0;
+    }
 }
 
 const contestant pari = {"PARI", prepare, run, tell, finish};

@@ -197,7 +197,7 @@ def limits(jobs, agreed):
         over(j, 'bytes', 3)
         over(j, 'best', None)
     for j in jobs:
-        if j.family.startswith(('free way, random', 'free way, register')):
+        if j.family.startswith(('free way, random', 'free way, register')) and 'GF(2^' not in j.family:
             if j.p == 2:
                 over(j, 'NTL', 0.8 if j.terms >= 2048 else 1.1)
             else:
@@ -206,6 +206,9 @@ def limits(jobs, agreed):
                 over(j, 'best', None)
                 for who in ['plain'] if j.p == 2 else ['FLINT', 'NTL']:
                     over(j, who, 1)
+    both = [by_name(jobs, 'free way, 4,096 random terms, ' + field) for field in ('GF(251), beside GF(2^8)', 'GF(2^8)')]
+    row(both[1].name + ', over GF(251)', grown_by(*both, 'rater'), 3)
+    over(both[1], 'PARI', 0.05)
     for text, limit in [('set of one factor, 4,095 terms, (x^3+x+1)^1,365', 1.15),
                         ('set of one factor, 4,064 terms, (f of degree 32)^127', None)]:
         j = by_name(jobs, text)
@@ -248,7 +251,7 @@ def grown_by(a, b, who):
 def growth(jobs):
     families = collections.OrderedDict()
     for j in jobs:
-        if j.terms > 0 and j.rounds:
+        if j.terms > 0 and j.rounds and 'beside' not in j.name:
             families.setdefault(j.family, []).append(j)
     held = Limits()
 
@@ -274,9 +277,9 @@ def growth(jobs):
 
 
 def memory(stacks):
-    lent = {'rater_rate_free': '12,289', 'rater_rate_period': '12,289',
-            'rater_rate_with_factors': '12,289, and 64 for the powers', 'rater_profile': 'four for each term',
-            'rater_is_irreducible': 'none', 'rater_continue_sequence': 'the part that is filled'}
+    lent = {'gobashe_rate_free': '12,289', 'gobashe_rate_period': '12,289',
+            'gobashe_rate_set': '12,289', 'gobashe_profile': 'four for each term',
+            'gobashe_is_irreducible': 'none', 'gobashe_continue_sequence': 'the part that is filled'}
     rows = []
     for call, n in stacks.items():
         name, comma, how = call.partition(',')
@@ -377,7 +380,7 @@ def crates():
 
 # ---- what is slower, and why
 
-GROUPS = {'free 2': 'free way over GF(2)', 'free': 'free way over GF(3) and GF(251)',
+GROUPS = {'free 2': 'free way over GF(2)', 'free': 'free way over other fields',
           'period 2': 'period way over GF(2)', 'period': 'period way over GF(3) and GF(251)',
           'one 2': 'set of one factor over GF(2)', 'one': 'set of one factor over other fields',
           'set 2': 'set of eight factors over GF(2)', 'set': 'set of eight factors over other fields',
@@ -663,7 +666,7 @@ the other in the same round: **below 1 the rater is faster**.
 - A set has one factor to eight, by the same call. *Large degrees*: factors of as large a degree as the field allows. *Large
   digits*: upper powers whose digits in base p are large, such as 2^10 − 1 or 250 over GF(251), which is where the rater's
   actions are many. *D terms or D + 1*: exactly as many terms as the total degree of the upper powers, and one more.
-- *The profile of these terms*: the rater's own `rater_profile`, which gives the figures of the free way after each term. The
+- *The profile of these terms*: the rater's own `gobashe_profile`, which gives the figures of the free way after each term. The
   meter that makes it works in bytes over every field, over GF(2) too, where the free way works on words: the column of C bytes
   has its time over that of the free way of C bytes on the same terms.{before}
 
@@ -762,7 +765,7 @@ def main():
     versions = ', '.join(l.strip() for l in open(BUILT + '/versions.txt'))
     sizes = [(name, file_size(path)) for name, path in (('The program `rate`', 'target/bin/rate'),
                                                        ('The library of the exported calls',
-                                                        'target/staticlib/libexports.a'))]
+                                                        'target/staticlib/libgobashe.a'))]
     limit_table, held = limits(jobs, agreed)
     growth_table, grown = growth(jobs)
     at_hand = any(measured(jobs, peer) for peer in PEERS)

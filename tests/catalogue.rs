@@ -1,9 +1,10 @@
-// rater_catalogue_entry and rater_find_entry: the table against a sieve by products, and the search against the minimal
+// gobashe_catalogue_entry and gobashe_find_entry: the table against a sieve by products, and the search against the minimal
 // polynomial of the period by the Berlekamp-Massey algorithm, divided by the entries of the sieve. The bytes before and
 // after those lent are looked at.
 mod common;
 
 use common::calls::{self, Answer};
+use common::field::Field;
 use common::inputs::all_terms;
 use common::massey;
 use common::poly::{self, to_bytes, Poly};
@@ -14,6 +15,10 @@ use common::{expect, list, run, Outcome};
 const LONGEST: usize = 4096;
 const WORK: usize = 8192;
 const NO_ENTRY: u64 = 19;
+
+fn two() -> Field {
+    Field::prime(2)
+}
 
 // The product of two binary polynomials, by their numbers.
 fn product(f: u64, g: u64) -> u64 {
@@ -43,7 +48,7 @@ fn coefficients(n: u64) -> Poly {
 // What the search has to find: the minimal polynomial of the period is a power of one entry, or of none.
 fn expected(entries: &[u64], terms: &[u8]) -> Answer<(u64, u64)> {
     let known = repeated(&of_bytes(terms), 2 * terms.len());
-    let mut rest = massey::shortest(2, &known);
+    let mut rest = massey::shortest(two(), &known);
     if poly::degree(&rest) == 0 {
         return Ok((2, 0));
     }
@@ -51,7 +56,7 @@ fn expected(entries: &[u64], terms: &[u8]) -> Answer<(u64, u64)> {
         let f = coefficients(entry);
         let mut power = 0;
         while poly::degree(&rest) >= poly::degree(&f) {
-            let (quotient, remainder) = poly::divided(2, rest.clone(), &f);
+            let (quotient, remainder) = poly::divided(two(), rest.clone(), &f);
             if !remainder.is_empty() {
                 break;
             }
@@ -123,7 +128,7 @@ fn the_table_is_the_sieve() -> Outcome {
 
 fn short_periods() -> Outcome {
     let (entries, mut cases) = (sieve(), 0);
-    for terms in all_terms(2, 12) {
+    for terms in all_terms(two(), 12) {
         agrees(&entries, &to_bytes(&terms))?;
         cases += 1;
     }
@@ -151,12 +156,14 @@ fn made(random: &mut Random, entry: u64, r: u64, times: usize) -> Option<Vec<u8>
     if n > LONGEST {
         return None;
     }
-    let g = poly::power(2, &coefficients(entry), r);
+    let g = poly::power(two(), &coefficients(entry), r);
     let mut start = vec![0; poly::degree(&g)];
     while start.iter().all(|&t| t == 0) {
-        start = of_bytes(&random.elements(2, start.len()));
+        start = of_bytes(&random.elements(two(), start.len()));
     }
-    Some(to_bytes(&continued(2, &g, &start, n.max(start.len()))[..n]))
+    Some(to_bytes(
+        &continued(two(), &g, &start, n.max(start.len()))[..n],
+    ))
 }
 
 fn periods_of_an_entry_and_a_power() -> Outcome {
@@ -192,7 +199,7 @@ fn two_factors() -> Outcome {
             made(&mut random, f, 1, n / a),
             made(&mut random, g, 1, n / b),
         );
-        let sum = added(2, &of_bytes(&s.unwrap()), &of_bytes(&t.unwrap()));
+        let sum = added(two(), &of_bytes(&s.unwrap()), &of_bytes(&t.unwrap()));
         let terms = to_bytes(&sum);
         expect(expected(&entries, &terms), Err(NO_ENTRY), || {
             format!("{f} and {g}")
@@ -212,7 +219,13 @@ fn long_periods() -> Outcome {
         single[random.below(n as u64) as usize] = 1;
         let mut last = vec![0; n];
         last[n - 1] = 1;
-        for terms in [random.elements(2, n), single, last, vec![0; n], vec![1; n]] {
+        for terms in [
+            random.elements(two(), n),
+            single,
+            last,
+            vec![0; n],
+            vec![1; n],
+        ] {
             agrees(&entries, &terms)?;
             cases += 1;
         }

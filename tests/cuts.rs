@@ -3,17 +3,18 @@
 // lengths. The polynomial is known from how the sequence is made.
 mod common;
 
+use common::field::{binary_fields, fields, Field};
 use common::inputs::{self, dividing, factors_but_x, power, register, registers, total_degree};
 use common::lent::answers;
 use common::poly::{degree, Poly};
 use common::random::Random;
 use common::rater::{power_rating, set_rating, Rating};
 use common::sequence::{continued, Terms};
-use common::{primes, run, Outcome};
+use common::{run, Outcome};
 
 // A sequence by many of its first terms, with the powers of the factors in its minimal polynomial.
 struct Sequence {
-    p: u64,
+    field: Field,
     factors: Vec<Poly>,
     powers: Vec<u64>,
     terms: Terms,
@@ -21,14 +22,14 @@ struct Sequence {
 
 impl Sequence {
     // Up to `most` factors, some of them perhaps to the power 0.
-    fn of(random: &mut Random, p: u64, most: u64, total: usize, known: usize) -> Self {
+    fn of(random: &mut Random, field: Field, most: u64, total: usize, known: usize) -> Self {
         let n = random.between(1, most) as usize;
-        let factors = factors_but_x(random, p, n, 4);
+        let factors = factors_but_x(random, field, n, 4);
         let uppers = inputs::uppers(random, &factors, total);
-        let powers: Vec<u64> = uppers.iter().map(|&v| power(random, p, v)).collect();
-        let terms = registers(random, p, &factors, &powers, known);
+        let powers: Vec<u64> = uppers.iter().map(|&v| power(random, field, v)).collect();
+        let terms = registers(random, field, &factors, &powers, known);
         Sequence {
-            p,
+            field,
             factors,
             powers,
             terms,
@@ -58,16 +59,16 @@ impl Sequence {
     fn named(&self, random: &mut Random) -> Outcome {
         let uppers = self.uppers(random);
         let terms = self.cut(random, total_degree(&self.factors, &uppers));
-        let rating = set_rating(self.p, &self.factors, &self.powers);
-        let given = inputs::multiples(random, self.p, &self.factors);
-        let input = inputs::set(self.p, &given, &uppers, terms);
+        let rating = set_rating(self.field, &self.factors, &self.powers);
+        let given = inputs::multiples(random, self.field, &self.factors);
+        let input = inputs::set(self.field, &given, &uppers, terms);
         answers(&input, &Ok(rating))?;
         Ok(1)
     }
 
     // The free way finds it in a stretch of at least twice its degree.
     fn free(&self, random: &mut Random) -> Outcome {
-        let polynomial = set_rating(self.p, &self.factors, &self.powers).polynomial;
+        let polynomial = set_rating(self.field, &self.factors, &self.powers).polynomial;
         let least = (2 * degree(&polynomial)).max(1);
         if least > 4096 {
             return Ok(0);
@@ -79,21 +80,21 @@ impl Sequence {
             repeat: None,
             unique: Some(true),
         };
-        answers(&inputs::free(self.p, terms), &Ok(rating))?;
+        answers(&inputs::free(self.field, terms), &Ok(rating))?;
         Ok(1)
     }
 }
 
-// Sequences over all primes, each cut several times, for each way.
+// Sequences over all fields, each cut several times, for each way.
 fn stretches() -> Outcome {
     const EACH: u64 = 12;
     let mut random = Random::of_seed(41);
     let mut cases = 0;
-    for p in primes() {
+    for field in fields() {
         for _ in 0..EACH {
             let most = random.one_of(&[1, 3, 8]);
             let total = random.one_of(&[40, 60, 150, 500]);
-            let sequence = Sequence::of(&mut random, p, most, total, 6000);
+            let sequence = Sequence::of(&mut random, field, most, total, 6000);
             for _ in 0..4 {
                 cases += sequence.named(&mut random)?;
                 cases += sequence.free(&mut random)?;
@@ -107,9 +108,9 @@ fn stretches() -> Outcome {
 fn large() -> Outcome {
     let mut random = Random::of_seed(42);
     let mut cases = 0;
-    for p in primes() {
+    for field in fields() {
         let total = random.one_of(&[1500, 2048, 4096]);
-        let sequence = Sequence::of(&mut random, p, 8, total, 5000);
+        let sequence = Sequence::of(&mut random, field, 8, total, 5000);
         for _ in 0..3 {
             cases += sequence.named(&mut random)?;
             cases += sequence.free(&mut random)?;
@@ -122,13 +123,42 @@ fn large() -> Outcome {
 fn far() -> Outcome {
     let mut random = Random::of_seed(43);
     let mut cases = 0;
-    for p in primes() {
-        let mut sequence = Sequence::of(&mut random, p, 3, 16, 64);
-        let whole = set_rating(p, &sequence.factors, &sequence.powers).polynomial;
+    for field in fields() {
+        let mut sequence = Sequence::of(&mut random, field, 3, 16, 64);
+        let whole = set_rating(field, &sequence.factors, &sequence.powers).polynomial;
         let n = random.between(100_000, 200_000) as usize;
-        let terms = continued(p, &whole, &sequence.terms[..degree(&whole)], n);
+        let terms = continued(field, &whole, &sequence.terms[..degree(&whole)], n);
         sequence.terms = terms[n - 5000..].to_vec();
         for _ in 0..4 {
+            cases += sequence.named(&mut random)?;
+            cases += sequence.free(&mut random)?;
+        }
+    }
+    Ok(cases)
+}
+
+// Factors over GF(2^n) with coefficients outside GF(2), to powers beside each power of 2: a factor to the power 2^w has
+// its coefficients raised, and they are others than before where n does not divide w.
+fn raised() -> Outcome {
+    let mut random = Random::of_seed(45);
+    let mut cases = 0;
+    for field in binary_fields() {
+        let w = random.between(1, 10);
+        let near = [(1 << w) - 1, 1 << w, (1 << w) + 1];
+        for r in near {
+            let d = random.between(1, if w > 7 { 2 } else { 3 }) as usize;
+            let f = loop {
+                let f = inputs::irreducible(&mut random, field, d);
+                if f.iter().any(|&c| c > 1) {
+                    break f;
+                }
+            };
+            let sequence = Sequence {
+                field,
+                terms: register(&mut random, field, &f, r, 6000),
+                factors: vec![f],
+                powers: vec![r],
+            };
             cases += sequence.named(&mut random)?;
             cases += sequence.free(&mut random)?;
         }
@@ -141,14 +171,14 @@ fn periods() -> Outcome {
     const EACH: u64 = 8;
     let mut random = Random::of_seed(44);
     let mut cases = 0;
-    for p in primes() {
+    for field in fields() {
         for _ in 0..EACH {
             let longest = random.one_of(&[300, 1000, 4096]);
-            let (f, e, q) = dividing(&mut random, p, 200, longest);
-            let r = power(&mut random, p, q);
+            let (f, e, q) = dividing(&mut random, field, 200, longest);
+            let r = power(&mut random, field, q);
             let sequence = Sequence {
-                p,
-                terms: register(&mut random, p, &f, r, 6000),
+                field,
+                terms: register(&mut random, field, &f, r, 6000),
                 factors: vec![f],
                 powers: vec![r],
             };
@@ -158,9 +188,9 @@ fn periods() -> Outcome {
                 let n = (e * q * random.between(1, 4096 / (e * q))) as usize;
                 let place = random.between(0, 6000 - n as u64) as usize;
                 let period = &sequence.terms[place..place + n];
-                let rating = power_rating(p, &sequence.factors[0], r);
-                let given = inputs::multiples(&mut random, p, &sequence.factors);
-                let input = inputs::period(p, &given[0], period);
+                let rating = power_rating(field, &sequence.factors[0], r);
+                let given = inputs::multiples(&mut random, field, &sequence.factors);
+                let input = inputs::period(field, &given[0], period);
                 answers(&input, &Ok(rating))?;
                 cases += 1;
             }
@@ -176,6 +206,7 @@ fn main() {
             ("stretches", stretches),
             ("large total degrees", large),
             ("far from the beginning", far),
+            ("raised coefficients", raised),
             ("periods", periods),
         ],
     )

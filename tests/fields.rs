@@ -156,7 +156,7 @@ impl Field {
     }
 
     fn elements(&self, random: &mut Random, n: usize) -> Vec<u8> {
-        random.elements(self.size as u64, n)
+        random.numbers(self.size as u64, n)
     }
 }
 

@@ -2,6 +2,7 @@
 // condition; shortest periods against every shift. A buffer that is lent stands between marks, and all of it is compared.
 mod common;
 
+use common::field::Field;
 use common::marked::left;
 use common::poly::{divided, monics, multiple, of_bytes, product, to_bytes};
 use common::random::Random;
@@ -58,7 +59,7 @@ fn sums() -> Outcome {
     for p in primes() {
         for m in LENGTHS {
             for more in [0, 1, 40] {
-                dot_agrees(p, &random.elements(p, m), &random.elements(p, m + more))?;
+                dot_agrees(p, &random.numbers(p, m), &random.numbers(p, m + more))?;
                 dot_agrees(p, &random.bytes(m), &random.bytes(m + more))?;
                 dot_agrees(p, &vec![255; m], &vec![255; m + more])?;
                 cases += 3;
@@ -112,7 +113,7 @@ fn updates() -> Outcome {
         for m in LENGTHS {
             for more in [0, 1, 40] {
                 let c = random.below(p) as u8;
-                update_agrees(p, &random.elements(p, m + more), c, &random.elements(p, m))?;
+                update_agrees(p, &random.numbers(p, m + more), c, &random.numbers(p, m))?;
                 let c = random.next() as u8;
                 update_agrees(p, &random.bytes(m + more), c, &random.bytes(m))?;
                 update_agrees(p, &vec![255; m + more], 255, &vec![255; m])?;
@@ -162,9 +163,9 @@ fn remainder_agrees(p: u64, f: &[u8], g: &[u8]) -> Result<(), String> {
     let expected = if f.len() <= degree {
         f.to_vec()
     } else {
-        let (quotient, rest) = divided(p, of_bytes(f), &of_bytes(g));
+        let (quotient, rest) = divided(Field::prime(p), of_bytes(f), &of_bytes(g));
         let mut both = padded(to_bytes(&rest), degree);
-        let quotient = to_bytes(&multiple(p, g[degree] as u64, &quotient));
+        let quotient = to_bytes(&multiple(Field::prime(p), g[degree] as u64, &quotient));
         both.extend(padded(quotient, f.len() - degree));
         both
     };
@@ -178,11 +179,11 @@ fn all_small() -> Outcome {
     for (p, longest, last) in [(2, 8, 5), (3, 5, 3), (5, 3, 2)] {
         for n in 0..=longest {
             // a list of n coefficients is a monic polynomial of degree n without its leading 1
-            for f in monics(p, n) {
+            for f in monics(Field::prime(p), n) {
                 for e in 0..=last {
-                    for g in monics(p, e) {
+                    for g in monics(Field::prime(p), e) {
                         for c in 1..p {
-                            let g = multiple(p, c, &g);
+                            let g = multiple(Field::prime(p), c, &g);
                             remainder_agrees(p, &to_bytes(&f[..n]), &to_bytes(&g))?;
                             cases += 1;
                         }
@@ -199,10 +200,10 @@ fn remainders() -> Outcome {
     let mut cases = 0;
     for p in primes() {
         for degree in 0..=48 {
-            let mut g = random.monic(p, degree);
+            let mut g = random.monic(Field::prime(p), degree);
             g[degree] = random.between(1, p - 1) as u8;
             for n in [0, 1, degree, degree + 1, degree + 2, 2 * degree + 1, 100] {
-                remainder_agrees(p, &random.elements(p, n), &g)?;
+                remainder_agrees(p, &random.numbers(p, n), &g)?;
                 remainder_agrees(p, &vec![p as u8 - 1; n], &g)?;
                 cases += 2;
             }
@@ -218,18 +219,21 @@ fn made() -> Outcome {
     for p in primes() {
         for degree in 0..=40 {
             for count in [1, 2, 17, 60] {
-                let (mut g, q) = (random.monic(p, degree), random.elements(p, count));
+                let (mut g, q) = (
+                    random.monic(Field::prime(p), degree),
+                    random.numbers(p, count),
+                );
                 g[degree] = random.between(1, p - 1) as u8;
-                let r = random.elements(p, degree);
+                let r = random.numbers(p, degree);
                 let whole = padded(
-                    to_bytes(&product(p, &of_bytes(&q), &of_bytes(&g))),
+                    to_bytes(&product(Field::prime(p), &of_bytes(&q), &of_bytes(&g))),
                     degree + count,
                 );
                 let mut f = whole;
                 for (a, b) in f.iter_mut().zip(&r) {
                     *a = ((*a as u64 + *b as u64) % p) as u8;
                 }
-                let q = to_bytes(&multiple(p, g[degree] as u64, &of_bytes(&q)));
+                let q = to_bytes(&multiple(Field::prime(p), g[degree] as u64, &of_bytes(&q)));
                 let q = padded(q, count);
                 expect(divided_in_place(p, &f, &g)?, [r, q].concat(), || {
                     format!("p {p}, {} by {}", list(&f), list(&g))
@@ -255,9 +259,9 @@ fn no_remainders() -> Outcome {
         cases += 1;
     }
     for p in primes() {
-        kept(p, &random.elements(p, 9), &[])?;
+        kept(p, &random.numbers(p, 9), &[])?;
         for degree in [0, 1, 2, 5, 20] {
-            let (f, g) = (random.elements(p, 30), random.monic(p, degree));
+            let (f, g) = (random.numbers(p, 30), random.monic(Field::prime(p), degree));
             for place in 0..=degree {
                 let mut g = g.clone();
                 for c in [0, p as u8 - 1, p as u8, 255] {

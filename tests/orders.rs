@@ -2,6 +2,7 @@
 // the polynomial continues 0…01 to, run until it comes again, and the least common multiple against a table of multiples.
 mod common;
 
+use common::field::Field;
 use common::inputs::{divisor, irreducible};
 use common::poly::{is_irreducible, monics, of_bytes, product, to_bytes};
 use common::random::Random;
@@ -64,7 +65,7 @@ fn order_is(p: u64, f: &[u8], limit: usize, expected: usize) -> Result<(), Strin
 // The order of x modulo an irreducible f, and 0 for a reducible f and for x, with limits at the order, one below it, and
 // beside it.
 fn order_agrees(p: u64, f: &[u8]) -> Result<usize, String> {
-    let counted = f[0] != 0 && is_irreducible(p, &of_bytes(f));
+    let counted = f[0] != 0 && is_irreducible(Field::prime(p), &of_bytes(f));
     let n = if counted { returns(p, f, LONGEST) } else { 0 };
     order_is(p, f, LONGEST, n)?;
     order_is(p, f, 0, 0)?;
@@ -82,7 +83,7 @@ fn all_small() -> Outcome {
     let mut cases = 0;
     for (p, last) in [(2, 10), (3, 6), (5, 4), (7, 3), (11, 2), (251, 1)] {
         for d in 1..=last {
-            for f in monics(p, d) {
+            for f in monics(Field::prime(p), d) {
                 order_agrees(p, &to_bytes(&f))?;
                 cases += 1;
             }
@@ -96,10 +97,10 @@ fn all_fields() -> Outcome {
     let mut random = Random::of_seed(81);
     let mut cases = 0;
     for p in primes() {
-        let largest = largest_degree(p);
+        let largest = largest_degree(Field::prime(p));
         for d in [1, 2, 3, 4, 5, 7, 8, 11, 13, 16, 21, 24, 31, 32] {
             if d <= largest {
-                order_agrees(p, &to_bytes(&irreducible(&mut random, p, d)))?;
+                order_agrees(p, &to_bytes(&irreducible(&mut random, Field::prime(p), d)))?;
                 cases += 1;
             }
         }
@@ -112,7 +113,7 @@ fn sparse() -> Outcome {
     let mut random = Random::of_seed(84);
     let mut cases = 0;
     for p in [2, 3, 5, 7, 13, 31, 61, 127, 193, 229, 251] {
-        for d in 2..=largest_degree(p) {
+        for d in 2..=largest_degree(Field::prime(p)) {
             for _ in 0..8 {
                 let mut f = vec![0; d + 1];
                 f[random.below(d as u64) as usize] = random.below(p) as u8;
@@ -130,7 +131,7 @@ fn sparse() -> Outcome {
 fn roots_of_one(p: u64) -> Vec<(usize, u64)> {
     let degree = |e: u64| {
         let mut power = 1;
-        (1..=largest_degree(p)).find(|_| {
+        (1..=largest_degree(Field::prime(p))).find(|_| {
             power = power * p % e;
             power == 1 % e
         })
@@ -149,7 +150,7 @@ fn within() -> Outcome {
         let pairs = roots_of_one(p);
         for _ in 0..40 {
             let (d, e) = random.one_of(&pairs);
-            let f = to_bytes(&divisor(&mut random, p, d, e));
+            let f = to_bytes(&divisor(&mut random, Field::prime(p), d, e));
             let n = order_agrees(p, &f)?;
             expect(e as usize % n, 0, || {
                 format!("p {p}, {}, x^{e} is 1", list(&f))
@@ -220,7 +221,7 @@ fn no_orders() -> Outcome {
         none(p, &[])?;
         none(p, &[1])?;
         // degree 33, no leading 1, a coefficient that is no element, x, and a multiple of x
-        let mut f = random.monic(p, 33);
+        let mut f = random.monic(Field::prime(p), 33);
         f[0] = 1;
         none(p, &f)?;
         none(p, &[1, 0])?;
@@ -232,15 +233,15 @@ fn no_orders() -> Outcome {
         none(p, &[0, 1])?;
         none(p, &[0, 1, 1])?;
         // x^n − 1, and the square of an irreducible polynomial
-        for n in 2..=largest_degree(p) {
+        for n in 2..=largest_degree(Field::prime(p)) {
             let mut f = vec![0; n + 1];
             f[0] = (p - 1) as u8;
             f[n] = 1;
             none(p, &f)?;
         }
-        for d in 1..=largest_degree(p) / 2 {
-            let f = irreducible(&mut random, p, d);
-            none(p, &to_bytes(&product(p, &f, &f)))?;
+        for d in 1..=largest_degree(Field::prime(p)) / 2 {
+            let f = irreducible(&mut random, Field::prime(p), d);
+            none(p, &to_bytes(&product(Field::prime(p), &f, &f)))?;
         }
     }
     Ok(cases)

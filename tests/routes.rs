@@ -3,13 +3,15 @@
 // request.
 mod common;
 
-use common::inputs;
+use common::calls::{self, Found};
+use common::field::{all, binary_fields, Field, Name};
+use common::inputs::{self, x_minus_1};
 use common::poly::{self, Poly};
 use common::random::Random;
 use common::rater::{self, Input, Rating, Way};
 use common::route::{self, Contents, Factor, Record};
 use common::sequence;
-use common::{expect, list, primes, run, Outcome, EXAMPLES, NO_PRIMES};
+use common::{expect, largest_degree, list, no_fields, run, Outcome, EXAMPLES};
 use std::collections::BTreeMap;
 use std::io::{Seek, SeekFrom, Write};
 use std::os::unix::fs::FileExt;
@@ -83,7 +85,7 @@ fn input_of(c: &Contents) -> Input {
     };
     Input::of(
         way,
-        c.p as u64,
+        c.field,
         c.factors.iter().map(factor).collect(),
         c.factors.iter().map(|f| f.upper as u64).collect(),
         c.terms.clone(),
@@ -145,39 +147,39 @@ fn factor_of(f: &[u64], upper: u64) -> Factor {
 
 // A period of a sequence that a power of f annihilates, repeated as often as there is room for, or, where it has none so
 // short, terms of it.
-fn period(random: &mut Random, p: u64, f: &[u64], most: usize) -> Vec<u8> {
+fn period(random: &mut Random, field: Field, f: &[u64], most: usize) -> Vec<u8> {
     let r = random.between(0, 3);
     let d = r as usize * poly::degree(f);
-    let terms = poly::to_bytes(&inputs::register(random, p, f, r, most + d));
+    let terms = poly::to_bytes(&inputs::register(random, field, f, r, most + d));
     match (1..=most).find(|&n| terms[..d] == terms[n..n + d]) {
         Some(n) => terms[..n].repeat(random.between(1, (most / n).min(5) as u64) as usize),
         None => terms[..random.between(1, most as u64) as usize].to_vec(),
     }
 }
 
-fn period_contents(random: &mut Random, p: u64, most: usize) -> Contents {
-    let f = inputs::factors(random, p, 1, 5).remove(0);
+fn period_contents(random: &mut Random, field: Field, most: usize) -> Contents {
+    let f = inputs::factors(random, field, 1, 5).remove(0);
     Contents {
-        p: p as u8,
+        field: field.name,
         mode: 1,
         factors: vec![factor_of(&f, 0)],
-        terms: period(random, p, &f, most),
+        terms: period(random, field, &f, most),
     }
 }
 
 // Factors with upper powers, and terms of a sequence whose minimal polynomial has powers up to these.
-fn set_contents(random: &mut Random, p: u64, most: usize) -> Contents {
+fn set_contents(random: &mut Random, field: Field, most: usize) -> Contents {
     let n = random.between(1, 8) as usize;
-    let factors: Vec<Poly> = inputs::factors(random, p, n, 4);
+    let factors: Vec<Poly> = inputs::factors(random, field, n, 4);
     let least: usize = factors.iter().map(|f| poly::degree(f)).sum();
     let uppers = inputs::uppers(random, &factors, least.max(most - most / 4));
     let powers: Vec<u64> = uppers.iter().map(|&v| random.between(0, v)).collect();
     let total = inputs::total_degree(&factors, &uppers);
     let count = random.between(total as u64, most.max(total) as u64) as usize;
-    let terms = inputs::registers(random, p, &factors, &powers, count);
+    let terms = inputs::registers(random, field, &factors, &powers, count);
     let named = factors.iter().zip(&uppers);
     Contents {
-        p: p as u8,
+        field: field.name,
         mode: 2,
         factors: named.map(|(f, &v)| factor_of(f, v)).collect(),
         terms: poly::to_bytes(&terms),
@@ -185,30 +187,41 @@ fn set_contents(random: &mut Random, p: u64, most: usize) -> Contents {
 }
 
 // Terms without a rule, or of a register.
-fn free_contents(random: &mut Random, p: u64, most: usize) -> Contents {
+fn free_contents(random: &mut Random, field: Field, most: usize) -> Contents {
     let n = random.between(1, most as u64) as usize;
     let terms = if random.below(2) == 0 {
-        random.elements(p, n)
+        random.elements(field, n)
     } else {
         let d = random.below(n as u64 / 2 + 1) as usize;
-        let g = sequence::of_bytes(&random.monic(p, d));
-        let start = sequence::of_bytes(&random.elements(p, d));
-        poly::to_bytes(&sequence::continued(p, &g, &start, n))
+        let g = sequence::of_bytes(&random.monic(field, d));
+        let start = sequence::of_bytes(&random.elements(field, d));
+        poly::to_bytes(&sequence::continued(field, &g, &start, n))
     };
     Contents {
-        p: p as u8,
+        field: field.name,
         mode: 3,
         factors: vec![],
         terms,
     }
 }
 
+// A field of either sort, each as likely as the other.
+fn some_field(random: &mut Random) -> Field {
+    let prime = random.below(2) == 0;
+    let sort: Vec<Field> = all()
+        .iter()
+        .copied()
+        .filter(|field| field.is_prime() == prime)
+        .collect();
+    random.one_of(&sort)
+}
+
 fn some_contents(random: &mut Random, most: usize) -> Contents {
-    let p = random.one_of(&primes());
+    let field = some_field(random);
     match random.below(3) {
-        0 => period_contents(random, p, most),
-        1 => set_contents(random, p, most),
-        _ => free_contents(random, p, most),
+        0 => period_contents(random, field, most),
+        1 => set_contents(random, field, most),
+        _ => free_contents(random, field, most),
     }
 }
 
@@ -231,7 +244,7 @@ fn term_records(random: &mut Random, terms: &[u8]) -> Vec<Record> {
 fn records_of(random: &mut Random, c: &Contents) -> Vec<Record> {
     let mut records = vec![
         Record::of(1, &random.bytes(4)),
-        Record::of(2, &[c.p]),
+        route::field_record(c.field),
         Record::of(3, &[c.mode]),
     ];
     records.extend(c.factors.iter().map(|f| Record::of(4, &f.body())));
@@ -252,24 +265,25 @@ fn file_of(random: &mut Random, c: &Contents) -> Vec<u8> {
 
 // Changes what a file holds, so that a way refuses it; which change is a matter of chance.
 fn spoiled(random: &mut Random, c: &mut Contents) {
-    let n = c.terms.len();
+    let (n, size) = (c.terms.len(), size_of(c.field));
     match random.below(13) {
-        0 => c.p = random.one_of(&NO_PRIMES) as u8,
+        0 => c.field = in_bytes(random.one_of(&no_fields())),
         1 => c.terms.clear(),
         2 => c.terms.resize(random.between(4090, 4100) as usize, 0),
         3 if n > 0 => {
-            c.terms[random.below(n as u64) as usize] = c.p.saturating_add(random.below(3) as u8)
+            let beyond = (size + random.below(3)).min(255);
+            c.terms[random.below(n as u64) as usize] = beyond as u8
         }
         4 => c.mode = random.one_of(&[0, 1, 2, 3, 4, 255]),
         5 => c.terms.truncate(random.below(n as u64 + 1) as usize),
         6 if n > 0 => {
             let at = n - 1 - random.below(3.min(n as u64)) as usize;
-            c.terms[at] = ((c.terms[at] as u16 + 1) % (c.p as u16).max(1)) as u8;
+            c.terms[at] = ((c.terms[at] as u64 + 1) % size.max(1)) as u8;
         }
         7 if !c.factors.is_empty() => c.factors.push(c.factors[0].clone()),
         _ if !c.factors.is_empty() => {
             let i = random.below(c.factors.len() as u64) as usize;
-            spoil_factor(random, c.p, &mut c.factors[i]);
+            spoil_factor(random, size, &mut c.factors[i]);
         }
         _ => c
             .factors
@@ -277,12 +291,32 @@ fn spoiled(random: &mut Random, c: &mut Contents) {
     }
 }
 
-fn spoil_factor(random: &mut Random, p: u8, f: &mut Factor) {
+// The size that a name says, also that of no field.
+fn size_of(field: Name) -> u64 {
+    match field {
+        Name::Prime(p) => p,
+        Name::Binary { degree, .. } => 1 << degree.min(8),
+    }
+}
+
+// A name by what a file has room for.
+fn in_bytes(field: Name) -> Name {
+    match field {
+        Name::Prime(p) => Name::Prime(p & 255),
+        Name::Binary { degree, low } => Name::Binary {
+            degree: degree & 255,
+            low: low & 255,
+        },
+    }
+}
+
+fn spoil_factor(random: &mut Random, size: u64, f: &mut Factor) {
     let at = random.below(32) as usize;
+    let last = size.saturating_sub(1) as u8;
     match random.below(5) {
         0 => f.degree = random.one_of(&[0, 31, 32, 33, 34, 255]),
         1 => f.upper = random.one_of(&[0, 1, 1024, 4096, 4097, 65535]),
-        2 => f.coefficients[at] = random.one_of(&[1, p.saturating_sub(1), p, 255]),
+        2 => f.coefficients[at] = random.one_of(&[1, last, last.saturating_add(1), 255]),
         3 => f.degree = f.degree.wrapping_add(1),
         _ => f.coefficients[0] = 0,
     }
@@ -297,7 +331,7 @@ fn damaged(random: &mut Random, records: &mut Vec<Record>) {
             let j = random.below(records.len() as u64) as usize;
             records.swap(i, j);
         }
-        _ => records[i].kind = random.below(10) as u8,
+        _ => records[i].kind = random.below(11) as u8,
     }
 }
 
@@ -365,21 +399,21 @@ fn long_files() -> Outcome {
     check_all(LONG_FILES, &mut random, |random, i| {
         let mut c = some_contents(random, 4096);
         if i % 4 == 0 {
-            let p = random.one_of(&primes());
-            c = free_contents(random, p, 4096);
-            c.terms = random.elements(p, 4096);
+            let field = some_field(random);
+            c = free_contents(random, field, 4096);
+            c.terms = random.elements(field, 4096);
         }
         c
     })
 }
 
-// What is printed for a period over GF(p) with the factor x − 1, which is right and a rating.
-fn lines_of_period(p: u64, terms: &[u8]) -> Result<String, String> {
+// What is printed for a period with the factor x − 1, which is right and a rating.
+fn lines_of_period(field: Field, terms: &[u8]) -> Result<String, String> {
     let mut records = vec![
         Record::of(1, &[0, 0, 0, 7]),
-        Record::of(2, &[p as u8]),
+        route::field_record(field.name),
         Record::of(3, &[1]),
-        Record::of(4, &factor_of(&[p - 1, 1], 0).body()),
+        Record::of(4, &factor_of(&x_minus_1(field), 0).body()),
     ];
     records.extend(terms.iter().map(|&t| Record::of(6, &[t])));
     records.push(Record::of(8, &[]));
@@ -394,14 +428,21 @@ fn lines_of_period(p: u64, terms: &[u8]) -> Result<String, String> {
 fn repeated_periods() -> Outcome {
     let two = "box result density powers\n7 ok 2/2 2\npoly 1 0 1\n";
     for terms in [&[0, 1, 0, 1][..], &[0, 1, 0, 1, 0, 1, 0, 1]] {
-        expect(lines_of_period(2, terms)?.as_str(), two, || list(terms))?;
+        expect(
+            lines_of_period(Field::prime(2), terms)?.as_str(),
+            two,
+            || list(terms),
+        )?;
     }
     let mut cases = 2;
-    for (p, n) in [(2, 1), (2, 2), (2, 4), (2, 8), (3, 1), (3, 3)] {
-        for terms in sequence::all(p, n) {
-            let lines = lines_of_period(p, &terms)?;
+    let primes = [(2, 1), (2, 2), (2, 4), (2, 8), (3, 1), (3, 3)];
+    let primes = primes.map(|(p, n)| (Field::prime(p), n));
+    let binary = [(Field::binary(2, 3), 2), (Field::binary(3, 5), 1)];
+    for (field, n) in primes.into_iter().chain(binary) {
+        for terms in sequence::all(field.size, n) {
+            let lines = lines_of_period(field, &terms)?;
             for times in [2, 3, 5] {
-                let repeated = lines_of_period(p, &terms.repeat(times))?;
+                let repeated = lines_of_period(field, &terms.repeat(times))?;
                 expect(&repeated, &lines, || {
                     format!("{} {times} times", list(&terms))
                 })?;
@@ -431,7 +472,7 @@ fn refused_files() -> Outcome {
         }
         *seen.entry(check(&file)?).or_default() += 1;
     }
-    for number in [0, 2, 3, 4, 5, 6, 7, 8, 10, 11, 12, 13, 14, 15, 17] {
+    for number in [0, 2, 3, 4, 5, 6, 7, 8, 10, 11, 12, 13, 14, 15, 17, 20] {
         if !seen.contains_key(&number) {
             return Err(format!("no file met {number}: {seen:?}"));
         }
@@ -439,17 +480,209 @@ fn refused_files() -> Outcome {
     Ok(CHANGED_FILES)
 }
 
+// A file of the free mode over a field that need not be one.
+fn over(field: Name, terms: &[u8]) -> Contents {
+    Contents {
+        field,
+        mode: 3,
+        factors: vec![],
+        terms: terms.to_vec(),
+    }
+}
+
+// The program refuses a file by this number, or rates it for 0, and the second rater does too.
+fn is(file: &[u8], number: u64) -> Result<(), String> {
+    expect(check(file)?, number, || case(file))
+}
+
+// Every name of GF(2^n) that a file has room for, n up to 10 and all others of some: 69 are fields, and 20 refuses the
+// others.
+fn every_binary_name() -> Outcome {
+    let (mut cases, mut rated) = (0, 0);
+    let names = (0..=10).flat_map(|degree| (0..256).map(move |low| (degree, low)));
+    let names = names.filter(|(degree, low)| *degree > 6 || low % 16 < 4 || *low < 1 << degree);
+    for (degree, low) in names.chain([(16, 27), (128, 27), (255, 27), (255, 255)]) {
+        let field = Name::Binary { degree, low };
+        let number = check(&route::file_with(&over(field, &[0, 1, 3])))?;
+        let expected = if Field::of(field).is_some() { 0 } else { 20 };
+        expect(number, expected, || field.to_string())?;
+        cases += 1;
+        rated += (number == 0) as u64;
+    }
+    expect(rated, 69, || "the fields of 2^n elements".to_string())?;
+    Ok(cases)
+}
+
+// Where kind 9 may stand: in place of kind 2, and once. Cut, it meets 3; before the box, after the mode, twice or with
+// kind 2, it meets 4; and kind 10 meets 2.
+fn places_of_a_field() -> Outcome {
+    let first = Record::of(1, &[0, 0, 0, 7]);
+    let (prime, binary) = (Record::of(2, &[2]), Record::of(9, &[8, 27]));
+    let (mode, term, end) = (Record::of(3, &[3]), Record::of(6, &[1]), Record::of(8, &[]));
+    let (stop, ten) = (Record::of(7, &[9; 8]), Record::of(10, &[8, 27]));
+    let rows: [(&[&Record], u64); 15] = [
+        (&[&first, &binary, &mode, &term, &end], 0),
+        (
+            &[&first, &stop, &binary, &stop, &mode, &term, &stop, &end],
+            0,
+        ),
+        (&[&first, &mode, &term, &end], 4),
+        (&[&first, &binary, &binary, &mode, &term, &end], 4),
+        (&[&first, &prime, &binary, &mode, &term, &end], 4),
+        (&[&first, &binary, &prime, &mode, &term, &end], 4),
+        (&[&first, &prime, &mode, &binary, &term, &end], 4),
+        (&[&first, &binary, &mode, &binary, &term, &end], 4),
+        (&[&first, &mode, &binary, &term, &end], 4),
+        (&[&first, &binary, &mode, &term, &binary, &end], 4),
+        (&[&first, &binary, &mode, &term, &end, &binary], 4),
+        (&[&binary, &first, &mode, &term, &end], 4),
+        (&[&binary], 4),
+        (&[&first, &ten, &mode, &term, &end], 2),
+        (&[&first, &binary, &ten, &mode, &term, &end], 2),
+    ];
+    for (records, number) in rows {
+        let records = Vec::from_iter(records.iter().map(|&r| r.clone()));
+        is(&route::file_of(&records), number)?;
+    }
+    let whole = route::file_of(&[first.clone(), binary.clone()]);
+    for n in [5, 6, 7, 8] {
+        is(&whole[..n], 3)?;
+    }
+    Ok(rows.len() as u64 + 4)
+}
+
+// 5 before 20 before 7 before 8, as 6 stands between them; and elements at both sides of the size.
+fn order_of_20() -> Outcome {
+    let no_field = Name::Binary { degree: 8, low: 1 };
+    let mut wrong = over(no_field, &[]);
+    is(&route::file_with(&wrong), 20)?;
+    wrong.mode = 4;
+    is(&route::file_with(&wrong), 5)?;
+    wrong.mode = 1;
+    is(&route::file_with(&wrong), 5)?;
+    let mut cases = 3;
+    for field in binary_fields() {
+        is(&route::file_with(&over(field.name, &[])), 7)?;
+        is(&route::file_with(&over(field.name, &[255; 4097])), 7)?;
+        is(
+            &route::file_with(&over(field.name, &[(field.size - 1) as u8])),
+            0,
+        )?;
+        cases += 3;
+        if field.size < 256 {
+            is(
+                &route::file_with(&over(field.name, &[1, field.size as u8])),
+                8,
+            )?;
+            cases += 1;
+        }
+    }
+    Ok(cases)
+}
+
+// 10 and 11 of a file over every field of 2^n: the largest degree is rated, one more refused, and the same of the largest
+// coefficient.
+fn factors_over_2_to_n() -> Outcome {
+    let mut random = Random::of_seed(8);
+    let mut cases = 0;
+    for field in binary_fields() {
+        let last = largest_degree(field);
+        let f = inputs::irreducible(&mut random, field, last);
+        let file = |f: &[u64]| {
+            let mut c = over(field.name, &[0; 40]);
+            (c.mode, c.factors) = (2, vec![factor_of(f, 1)]);
+            route::file_with(&c)
+        };
+        is(&file(&f), 0)?;
+        is(&file(&[&[0], &f[..]].concat()), 10)?;
+        is(&file(&[field.size - 1, 1]), 0)?;
+        cases += 3;
+        if field.size < 256 {
+            is(&file(&[field.size, 1]), 11)?;
+            cases += 1;
+        }
+    }
+    Ok(cases)
+}
+
+// What the reader finds by the words of the request: record n, and beyond the last the end record; or the refusal by 1
+// to 5.
+fn record_found(file: &[u8], n: usize) -> Found {
+    let records = match route::contents(file) {
+        Ok(_) => route::walk(file).unwrap(),
+        Err(status) => {
+            return Found {
+                status,
+                kind: 0,
+                from: 0,
+                length: 0,
+            }
+        }
+    };
+    let before = &records[..n.min(records.len() - 1)];
+    let found = &records[before.len()];
+    Found {
+        status: 0,
+        kind: found.kind as u64,
+        from: 1 + before.iter().map(|r| 1 + r.body.len() as u64).sum::<u64>(),
+        length: found.body.len() as u64,
+    }
+}
+
+// The exported reader on a file, at every record and beyond the last.
+fn reads(file: &[u8]) -> Outcome {
+    let count = route::walk(file).map_or(0, |records| records.len());
+    let beyond = [count, count + 1, 16384, 1 << 32, usize::MAX];
+    for n in (0..count).chain(beyond) {
+        expect(calls::record(file, n), record_found(file, n), || {
+            format!("record {n}, {}", case(file))
+        })?;
+    }
+    Ok(count as u64 + 5)
+}
+
+// The exported reader on good files of all modes and both sorts of field, on damaged ones and on random bytes.
+fn reader() -> Outcome {
+    let mut random = Random::of_seed(9);
+    let (mut cases, mut refused) = (0, BTreeMap::<u64, u64>::new());
+    for i in 0..1500 {
+        let most = random.one_of(&[3, 30, 200]);
+        let mut c = some_contents(&mut random, most);
+        if i % 3 == 1 {
+            spoiled(&mut random, &mut c);
+        }
+        let mut records = records_of(&mut random, &c);
+        if i % 3 == 2 {
+            damaged(&mut random, &mut records);
+        }
+        let mut file = route::file_of(&records);
+        if i % 4 == 3 {
+            changed(&mut random, &mut file);
+        }
+        if i % 50 == 0 {
+            file.resize(16385, 8);
+        }
+        cases += reads(&file)?;
+        *refused.entry(calls::record(&file, 0).status).or_default() += 1;
+        let n = random.below(60) as usize;
+        cases += reads(&random.bytes(n))?;
+    }
+    let met = Vec::from_iter(refused.keys().copied());
+    expect(met, vec![0, 1, 2, 3, 4, 5], || "what the reader met".into())?;
+    Ok(cases)
+}
+
 // A short file of each mode cut at every byte, and with bytes after its end.
 fn cut_files() -> Outcome {
     let mut random = Random::of_seed(4);
     let mut cases = 0;
-    for name in ["a", "e", "h", "k"] {
+    for name in ["a", "e", "h", "k", "gf4"] {
         let file = std::fs::read(format!("examples/{name}.route")).map_err(|e| e.to_string())?;
         for n in 0..=file.len() {
             check(&file[..n])?;
             cases += 1;
         }
-        for kind in 0..=10 {
+        for kind in 0..=11 {
             for n in [0, 1, 4, 8, 34, 35, 64, 70] {
                 let mut longer = file.clone();
                 longer.push(kind);
@@ -469,10 +702,10 @@ fn limit_of_bytes() -> Outcome {
     for n in [16383, 16384, 16385, 16386, 40_000, 1_000_000] {
         // stops of nine bytes fill up a file with terms of one and of 64
         let c = Contents {
-            p: 2,
+            field: Name::Prime(2),
             mode: 3,
             factors: vec![],
-            terms: random.elements(2, 64),
+            terms: random.numbers(2, 64),
         };
         let mut records = records_of(&mut random, &c);
         records.retain(|r| r.kind != 7);
@@ -503,7 +736,7 @@ fn random_bytes() -> Outcome {
         let n = random.below(200) as usize;
         let mut file = random.bytes(n);
         if random.below(2) == 0 {
-            file = file.iter().map(|b| b % 9).collect();
+            file = file.iter().map(|b| b % 10).collect();
         }
         check(&file)?;
     }
@@ -517,7 +750,7 @@ fn pieces() -> Outcome {
     for n in 0..=file.len() {
         compare(&file, &printed_for_pieces(&[&file[..n], &file[n..]])?)?;
     }
-    let c = free_contents(&mut random, 251, 4096);
+    let c = free_contents(&mut random, Field::prime(251), 4096);
     for file in [file_of(&mut random, &c), random.bytes(20_000)] {
         let parts: Vec<&[u8]> = file.chunks(1000).collect();
         compare(&file, &printed_for_pieces(&parts)?)?;
@@ -614,6 +847,11 @@ fn main() {
             ("long files", long_files),
             ("periods several times over", repeated_periods),
             ("refused files", refused_files),
+            ("every name of GF(2^n)", every_binary_name),
+            ("places of kind 9", places_of_a_field),
+            ("5, 20, 7 and 8 in their order", order_of_20),
+            ("factors over GF(2^n)", factors_over_2_to_n),
+            ("the exported reader", reader),
             ("cut and extended files", cut_files),
             ("the limit of bytes", limit_of_bytes),
             ("random bytes", random_bytes),

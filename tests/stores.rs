@@ -5,15 +5,16 @@
 mod common;
 
 use arith::{FieldAnswer, GaloisField};
-use common::calls::Told;
-use common::inputs::{self, dividing, divisor, power, register};
+use common::calls::Figures;
+use common::field::{fields, Field, Name};
+use common::inputs::{self, dividing, divisor, power, register, x_minus_1};
 use common::lent::{answers, answers_by};
 use common::poly::{self, Poly};
 use common::random::Random;
 use common::rater::{self, power_rating, Input, Rating};
-use common::route::{file_of, Factor, Record};
+use common::route::{field_record, file_of, Factor, Record};
 use common::sequence::Terms;
-use common::{expect, primes, run, Outcome};
+use common::{expect, run, Outcome};
 use counting::Counts;
 use meaning::{FieldName, FileOutcome, PowerRating};
 use refusals::numbering::refusal_number;
@@ -21,13 +22,17 @@ use refusals::numbering::refusal_number;
 const ANSWER: usize = 4097 + 13;
 const HALVES: usize = 8192;
 const WORK: usize = HALVES + 13;
-// the only arrays of the search: the 256 sums of a block, of 16 bits each, and over GF(2) 256 of 8, and the files in which
-// they are made
-const SUMS: [(&str, usize); 2] = [("/lent/residues.rs", 512), ("/lent/elements.rs", 256)];
+// the only arrays of the search: the 256 sums of a block, of 16 bits each, in characteristic 2 of 8, and over GF(2^n) the
+// raised coefficients of a factor; and the files in which they are made
+const ARRAYS: [(&str, usize); 3] = [
+    ("/lent/residues.rs", 512),
+    ("/lent/elements.rs", 256),
+    ("/action/lib.rs", 33),
+];
 
 // A period with one factor, and how it is to be rated.
 struct Period {
-    p: u64,
+    field: Field,
     f: Poly,
     terms: Terms,
     rating: Result<Rating, u64>,
@@ -35,32 +40,37 @@ struct Period {
 
 impl Period {
     // A period whose rating is found by the second rater.
-    fn of(p: u64, f: &[u64], terms: &[u64]) -> Self {
+    fn of(field: Field, f: &[u64], terms: &[u64]) -> Self {
         Period {
-            p,
+            field,
             f: f.to_vec(),
             terms: terms.to_vec(),
-            rating: rater::rate(&inputs::period(p, f, terms)),
+            rating: rater::rate(&inputs::period(field, f, terms)),
         }
     }
 
     // n terms, rated with the power r of f.
-    fn with_power(random: &mut Random, p: u64, f: &[u64], r: u64, n: usize) -> Self {
+    fn with_power(random: &mut Random, field: Field, f: &[u64], r: u64, n: usize) -> Self {
         Period {
-            p,
+            field,
             f: f.to_vec(),
-            terms: register(random, p, f, r, n),
-            rating: Ok(power_rating(p, f, r)),
+            terms: register(random, field, f, r, n),
+            rating: Ok(power_rating(field, f, r)),
         }
     }
 
     fn input(&self) -> Input {
-        inputs::period(self.p, &self.f, &self.terms)
+        inputs::period(self.field, &self.f, &self.terms)
+    }
+
+    // The characteristic.
+    fn p(&self) -> usize {
+        self.field.characteristic as usize
     }
 
     // The exponent w of N = p^w·N'.
     fn exponent(&self) -> usize {
-        let (p, mut n, mut w) = (self.p as usize, self.terms.len(), 0);
+        let (p, mut n, mut w) = (self.p(), self.terms.len(), 0);
         while n % p == 0 {
             n /= p;
             w += 1;
@@ -68,9 +78,9 @@ impl Period {
         w
     }
 
-    // The bound of request 2026-04.
+    // The bound of request 2026-04, over GF(2^n) with p as 2.
     fn bound(&self) -> usize {
-        self.terms.len() * (2 + self.exponent() * (self.p as usize - 1))
+        self.terms.len() * (2 + self.exponent() * (self.p() - 1))
     }
 
     // The stores that the search needs at most: it loads the first p^w·deg f terms, and each further power tried leaves
@@ -79,41 +89,49 @@ impl Period {
         if self.rating.is_err() {
             return 0;
         }
-        let (p, w) = (self.p as usize, self.exponent());
+        let (p, w) = (self.p(), self.exponent());
         let loaded = self.terms.len().min(p.pow(w as u32) * (self.f.len() - 1));
         loaded * (1 + w * (p - 1))
     }
 
     fn name(&self) -> String {
-        let (p, n, f) = (self.p, self.terms.len(), &self.f);
+        let (field, n, f) = (self.field, self.terms.len(), &self.f);
         let rated = self.rating.as_ref().map(|rating| rating.powers[0]);
-        format!("p {p}, {n} terms, factor {f:?}, rated {rated:?}")
+        format!("{field}, {n} terms, factor {f:?}, rated {rated:?}")
     }
 }
 
 // A copy's call, as `rate_period`.
 type Call = fn(FieldName, &[u8], &[u8], &mut [u8], &mut [u8]) -> PowerRating;
 
-// What a copy's call tells, in the form in which the exported one does.
-fn told(rating: PowerRating) -> Told {
-    let mut told = Told::marks(0);
+// The name of a field, as a copy's call takes it.
+fn named(name: Name) -> FieldName {
+    match name {
+        Name::Prime(p) => FieldName::Prime(p),
+        Name::Binary { degree, low } => FieldName::Binary { degree, low },
+    }
+}
+
+// What a copy's call returns, in the form in which the exported one does.
+fn returned(rating: PowerRating) -> Figures {
+    let mut figures = Figures::default();
     match rating {
-        PowerRating::Refused(r) => told.status = refusal_number(r),
+        PowerRating::Refused(r) => figures.status = refusal_number(r),
         PowerRating::Rated {
             power,
             degree,
             repeat,
-        } => (told.powers[0], told.degree, told.repeat) = (power, degree, repeat),
+        } => (figures.powers[0], figures.complexity, figures.repeat) = (power, degree, repeat),
     }
-    told
+    figures
 }
 
-// The exported call and the copy's answer as expected, in what they tell and in every lent byte.
+// The exported call and the copy's answer as expected, in what they return and in every lent byte.
 fn same_answers(call: Call, period: &Period) -> Result<(), String> {
     let (input, f) = (period.input(), poly::to_bytes(&period.f));
     answers(&input, &period.rating)?;
     let copy = |input: &Input, answer: &mut [u8], work: &mut [u8]| {
-        told(call(FieldName::Prime(input.p), &f, &input.terms, answer, work))
+        returned(call(named(input.field), &f, &input.terms, answer, work))
     };
     answers_by(copy, &input, &period.rating)
 }
@@ -122,7 +140,8 @@ fn same_answers(call: Call, period: &Period) -> Result<(), String> {
 fn counts(call: Call, period: &Period) -> Counts {
     let (f, terms) = (poly::to_bytes(&period.f), poly::to_bytes(&period.terms));
     let (mut answer, mut work) = ([0xa5; ANSWER], [0xa5; WORK]);
-    let rate = |answer: &mut [u8], work: &mut [u8]| call(FieldName::Prime(period.p), &f, &terms, answer, work);
+    let name = named(period.field.name);
+    let rate = |answer: &mut [u8], work: &mut [u8]| call(name, &f, &terms, answer, work);
     counting::count(&mut answer, &mut work, rate).1
 }
 
@@ -174,7 +193,7 @@ fn search_and_keep_wider(field: GaloisField, work: &mut [u8], f: &[u8], terms: &
 // What is stored while a copy searches, without the checks before and the answer after.
 fn searched(search: Search, period: &Period) -> Counts {
     let (f, terms) = (poly::to_bytes(&period.f), poly::to_bytes(&period.terms));
-    let FieldAnswer::Made(field) = GaloisField::of(FieldName::Prime(period.p)) else {
+    let FieldAnswer::Made(field) = GaloisField::of(named(period.field.name)) else {
         panic!("{}: no field", period.name());
     };
     let mut work = [0xa5; WORK];
@@ -182,18 +201,27 @@ fn searched(search: Search, period: &Period) -> Counts {
     counting::count(&mut [], &mut work, power).1
 }
 
-// The search stores no byte outside of the work bytes, the sums of a block apart.
+// The search stores no byte outside of the work bytes, the sums of a block apart, and over GF(2^n) the coefficients of the
+// factor, which are copied and raised once for each power tried.
 fn no_bytes_elsewhere(search: Search, period: &Period) -> Result<(), String> {
-    expect(searched(search, period).elsewhere, 0, || {
-        format!("{}: bytes elsewhere", period.name())
+    let elsewhere = searched(search, period).elsewhere;
+    let allowed = match period.field.is_prime() {
+        true => 0,
+        false => period.f.len() * (1 + period.exponent()),
+    };
+    expect(elsewhere <= allowed, true, || {
+        format!(
+            "{}: {elsewhere} bytes elsewhere, {allowed} allowed",
+            period.name()
+        )
     })
 }
 
-// The search makes no array but that of the sums of a block.
+// The search makes no array but those of the sums of a block and of raised coefficients.
 fn no_other_array(search: Search, period: &Period) -> Result<(), String> {
     let rooms = searched(search, period).rooms;
     let other = |(file, size): &&(String, usize)| {
-        !SUMS
+        !ARRAYS
             .iter()
             .any(|(name, bytes)| file.ends_with(name) && size == bytes)
     };
@@ -207,7 +235,7 @@ fn file(period: &Period) -> Vec<u8> {
     let factor = Factor::of_polynomial(&poly::to_bytes(&period.f), 0);
     let mut records = vec![
         Record::of(1, &[0, 0, 0, 7]),
-        Record::of(2, &[period.p as u8]),
+        field_record(period.field.name),
         Record::of(3, &[1]),
         Record::of(4, &factor.body()),
     ];
@@ -247,19 +275,26 @@ struct Line {
     periods: Vec<Period>,
 }
 
-fn marked(row: &str, p: u64, f: &[u64], terms: &[u64]) -> Line {
+fn marked(row: &str, field: Field, f: &[u64], terms: &[u64]) -> Line {
     Line {
         input: format!("row {row}"),
-        periods: vec![Period::of(p, f, terms)],
+        periods: vec![Period::of(field, f, terms)],
     }
 }
 
 // Periods of n terms with each of the powers of f.
-fn powers(random: &mut Random, p: u64, f: &[u64], name: &str, n: usize, powers: &[u64]) -> Line {
+fn powers(
+    random: &mut Random,
+    field: Field,
+    f: &[u64],
+    name: &str,
+    n: usize,
+    powers: &[u64],
+) -> Line {
     let words: Vec<String> = powers.iter().map(|r| r.to_string()).collect();
     let periods = powers
         .iter()
-        .map(|&r| Period::with_power(random, p, f, r, n));
+        .map(|&r| Period::with_power(random, field, f, r, n));
     Line {
         periods: periods.collect(),
         input: format!("{name}, r {}", words.join(", ")),
@@ -267,11 +302,11 @@ fn powers(random: &mut Random, p: u64, f: &[u64], name: &str, n: usize, powers: 
 }
 
 // A period of n terms without a rule, which no power of f annihilates.
-fn refused(random: &mut Random, p: u64, f: &[u64], n: usize) -> Period {
+fn refused(random: &mut Random, field: Field, f: &[u64], n: usize) -> Period {
     Period {
-        p,
+        field,
         f: f.to_vec(),
-        terms: inputs::terms(random, p, n),
+        terms: inputs::terms(random, field, n),
         rating: Err(17),
     }
 }
@@ -279,35 +314,36 @@ fn refused(random: &mut Random, p: u64, f: &[u64], n: usize) -> Period {
 // The rows B to F, and long periods: 4,096 terms, or the largest multiple of a power of p below.
 fn lines() -> Vec<Line> {
     let random = &mut Random::of_seed(70);
-    let (one, three) = ([1, 1], [1, 1, 1]);
-    let twelve = divisor(random, 2, 12, 4095);
+    let (two, one, three) = (Field::prime(2), [1, 1], [1, 1, 1]);
+    let twelve = divisor(random, two, 12, 4095);
     let mut lines = vec![
-        marked("B", 2, &one, &[0, 0, 0, 1]),
-        marked("C", 2, &one, &[1, 1, 1, 1]),
-        marked("D", 2, &one, &[0, 0, 0, 0]),
-        marked("E", 3, &[2, 1], &[0, 1, 2]),
-        marked("F", 2, &three, &[0, 0, 0, 1]),
+        marked("B", two, &one, &[0, 0, 0, 1]),
+        marked("C", two, &one, &[1, 1, 1, 1]),
+        marked("D", two, &one, &[0, 0, 0, 0]),
+        marked("E", Field::prime(3), &[2, 1], &[0, 1, 2]),
+        marked("F", two, &three, &[0, 0, 0, 1]),
         powers(
             random,
-            2,
+            two,
             &one,
             "x + 1",
             4096,
             &[4096, 4095, 3000, 2049, 2048, 1],
         ),
-        powers(random, 2, &one, "x + 1", 4096, &[0]),
+        powers(random, two, &one, "x + 1", 4096, &[0]),
         Line {
             input: "x² + x + 1, refused".to_string(),
-            periods: vec![refused(random, 2, &three, 4096)],
+            periods: vec![refused(random, two, &three, 4096)],
         },
-        powers(random, 2, &three, "x² + x + 1", 3072, &[1024, 513, 1]),
-        powers(random, 2, &twelve, "of degree 12", 4095, &[1]),
+        powers(random, two, &three, "x² + x + 1", 3072, &[1024, 513, 1]),
+        powers(random, two, &twelve, "of degree 12", 4095, &[1]),
     ];
-    for p in [3, 5, 61, 251] {
-        lines.push(powers(random, p, &[p - 1, 1], "x − 1", 4096, &[1, 0]));
+    for field in [3, 5, 61, 251].map(Field::prime) {
+        let f = x_minus_1(field);
+        lines.push(powers(random, field, &f, "x − 1", 4096, &[1, 0]));
         lines.push(Line {
             input: "x − 1, refused".to_string(),
-            periods: vec![refused(random, p, &[p - 1, 1], 4096)],
+            periods: vec![refused(random, field, &f, 4096)],
         });
     }
     for (p, n, tried) in [
@@ -316,11 +352,45 @@ fn lines() -> Vec<Line> {
         (61, 3721, [3721, 1861, 1]),
         (251, 4016, [251, 126, 1]),
     ] {
+        let field = Field::prime(p);
         for r in tried {
-            lines.push(powers(random, p, &[p - 1, 1], "x − 1", n, &[r]));
+            lines.push(powers(random, field, &x_minus_1(field), "x − 1", n, &[r]));
         }
     }
+    lines.extend(lines_over_2_to_n(random));
     lines
+}
+
+// The same over GF(4) and GF(256), with coefficients outside GF(2).
+fn lines_over_2_to_n(random: &mut Random) -> Vec<Line> {
+    let (four, large) = (Field::binary(2, 3), Field::binary(8, 27));
+    let (two, six) = ("x + 2 over GF(4)", "x + 6 over GF(256)");
+    let refused = Line {
+        input: format!("{six}, refused"),
+        periods: vec![refused(random, large, &[6, 1], 4080)],
+    };
+    vec![
+        powers(random, four, &[2, 1], two, 6, &[2, 1]),
+        powers(random, four, &[2, 1], two, 3072, &[1024, 513, 1]),
+        powers(
+            random,
+            four,
+            &[2, 1, 1],
+            "x² + x + 2 over GF(4)",
+            3840,
+            &[256, 129, 1],
+        ),
+        powers(random, large, &[6, 1], six, 4080, &[16, 9, 1]),
+        powers(
+            random,
+            large,
+            &[1, 1],
+            "x + 1 over GF(256)",
+            4096,
+            &[4096, 2049, 1],
+        ),
+        refused,
+    ]
 }
 
 // A number with a comma between thousands.
@@ -343,7 +413,7 @@ fn row(line: &Line) -> Result<String, String> {
         format!("{}: equal stores, {found:?}", line.input)
     })?;
     let words = [
-        period.p as usize,
+        period.p(),
         period.terms.len(),
         period.exponent(),
         found[0],
@@ -378,9 +448,7 @@ fn table() -> Outcome {
         .skip(2)
         .take_while(|line| !line.is_empty());
     let shown = Vec::from_iter(shown.map(str::to_string));
-    expect(rows, shown, || {
-        "the table of docs/READING.md".to_string()
-    })?;
+    expect(rows, shown, || "the table of docs/READING.md".to_string())?;
     Ok(lines.len() as u64)
 }
 
@@ -412,22 +480,22 @@ fn only_the_halves() -> Outcome {
     with_each(search_alone)
 }
 
-// Periods with factors of all degrees and any power, for every prime.
+// Periods with factors of all degrees and any power, for every prime and over GF(2^n).
 fn other_periods() -> Outcome {
     const EACH: u64 = 12;
     let mut random = Random::of_seed(71);
-    for p in primes() {
+    for field in fields() {
         for _ in 0..EACH {
-            let (f, e, q) = dividing(&mut random, p, 100, 4096);
+            let (f, e, q) = dividing(&mut random, field, 100, 4096);
             let n = e * q * random.between(1, 4096 / (e * q));
-            let r = power(&mut random, p, q);
-            let period = Period::with_power(&mut random, p, &f, r, n as usize);
+            let r = power(&mut random, field, q);
+            let period = Period::with_power(&mut random, field, &f, r, n as usize);
             same_answers(rate_period::rate_period, &period)?;
             stores_within(rate_period::rate_period, &period)?;
             search_alone(&period)?;
         }
     }
-    Ok(EACH * primes().len() as u64)
+    Ok(EACH * fields().len() as u64)
 }
 
 // The terms of a file are gathered from its records, once each.
@@ -479,7 +547,9 @@ fn kept_elsewhere() -> Outcome {
     let call = keeps_terms_rate_period::rate_period;
     let bytes = |period: &Period| no_bytes_elsewhere(search_and_keep, period);
     caught(call, only_loaded, bytes)?;
-    caught(call, only_loaded, |period| no_other_array(search_and_keep, period))
+    caught(call, only_loaded, |period| {
+        no_other_array(search_and_keep, period)
+    })
 }
 
 fn kept_wider() -> Outcome {

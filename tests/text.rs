@@ -46,7 +46,7 @@ fn examples() -> Outcome {
 }
 
 fn random_record(random: &mut Random) -> Record {
-    let kind = random.one_of(&[1, 2, 3, 4, 4, 5, 5, 6, 6, 7, 8]);
+    let kind = random.one_of(&[1, 2, 3, 4, 4, 5, 5, 6, 6, 7, 8, 9, 9]);
     let mut body = random.bytes(route::body_length(kind).unwrap());
     if kind == 4 && random.below(3) > 0 {
         let degree = random.below(34) as u8;
@@ -89,10 +89,12 @@ fn files_come_back() -> Outcome {
 
 // What each statement writes, by the table of kinds, all in one text.
 fn statements() -> Outcome {
-    let cases: [(&str, Vec<u8>); 11] = [
+    let cases: [(&str, Vec<u8>); 13] = [
         ("", vec![]),
         ("box 258 # a comment", vec![1, 0, 0, 1, 2]),
         ("field 251", vec![2, 251]),
+        ("field 2^8 27\nfield 2^2 3", vec![9, 8, 27, 9, 2, 3]),
+        ("field 2^0 255\nfield 2^255 0", vec![9, 0, 255, 9, 255, 0]),
         (
             "mode period\nmode set\nmode free\nmode 9",
             vec![3, 1, 3, 2, 3, 3, 3, 9],
@@ -131,6 +133,15 @@ fn bad_texts() -> Outcome {
         "box -1",
         "field 256",
         "field x",
+        "field",
+        "field 2 3",
+        "field 2^8",
+        "field 2^8 27 1",
+        "field 2^ 27",
+        "field 2^256 27",
+        "field 2^8 256",
+        "field 2^8 1b",
+        "field 3^2 1",
         "mode other",
         "factor 1 1 1",
         "factor 65536: 1 1",

@@ -11,7 +11,7 @@ mod profile;
 use common::{expect, output_of};
 use std::process::Command;
 
-pub const SHARED: &str = "target/staticlib/libexports.so";
+pub const SHARED: &str = "target/staticlib/libgobashe.so";
 
 // How a tool ended: its status, and what it wrote to its two outputs.
 pub type Ended = (Option<i32>, String, String);

@@ -7,18 +7,31 @@ import sys
 from route_files import MOST_BYTES, say
 
 ROOT = pathlib.Path(__file__).resolve().parent.parent
-LIBRARY = ROOT / "target/staticlib/libexports.so"
+LIBRARY = ROOT / "target/staticlib/libgobashe.so"
 MOST_TERMS = 4096
 REASONS = {
     1: f"it has more than {MOST_BYTES:,} bytes",
-    2: "the kind of a record is not 1 to 8",
+    2: "the kind of a record is not 1 to 9",
     3: "it ends inside a record, or before the end record",
     4: "a record is out of place",
     5: "the mode is not 1, 2 or 3, or the factors do not suit it",
     6: "p is not a prime from 2 to 251",
     7: f"it has no terms, or more than {MOST_TERMS:,}",
-    8: "a term is p or more",
+    8: "a term is no element of the field: p or more, or 2^n or more",
+    20: "n is not 2 to 8, or the reducing polynomial has a bit at or above n or is reducible",
 }
+
+
+class Field(ctypes.Structure):
+    """A field as the calls take it: degree 0 and a prime, or n and the low bits of the polynomial that reduces GF(2^n)."""
+
+    _fields_ = [("degree", ctypes.c_uint64), ("number", ctypes.c_uint64)]
+
+
+class Entry(ctypes.Structure):
+    """What the search of the catalogue returns."""
+
+    _fields_ = [(name, ctypes.c_uint64) for name in ("status", "entry", "power")]
 
 
 class Unmade(Exception):
@@ -42,13 +55,13 @@ def refusal(file):
     return int(result[2]) if result[1] == b"refused" else 0
 
 
-def exported(name, *arguments):
-    """An exported call, from the library as a shared object, which is made first where something changed."""
+def exported(name, result, *arguments):
+    """An exported call with these types, from the library as a shared object, which is made first where something changed."""
     ended(subprocess.run([ROOT / "tools/library", "--shared", "exports"], stdin=subprocess.DEVNULL))
     try:
         call = getattr(ctypes.CDLL(str(LIBRARY)), name)
     except (OSError, AttributeError) as what:
         raise Unmade(what) from what
     call.argtypes = arguments
-    call.restype = ctypes.c_uint64
+    call.restype = result
     return call

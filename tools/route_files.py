@@ -4,7 +4,7 @@ import os
 
 MOST_BYTES = 16384
 MODES = {"period": 1, "set": 2, "free": 3}
-LENGTHS = {1: 4, 2: 1, 3: 1, 4: 35, 5: 64, 6: 1, 7: 8, 8: 0}
+LENGTHS = {1: 4, 2: 1, 3: 1, 4: 35, 5: 64, 6: 1, 7: 8, 8: 0, 9: 2}
 MOST_COEFFICIENTS = 32
 
 
@@ -44,7 +44,11 @@ def write_box(words):
 
 
 def write_field(words):
-    return bytes([2, number(one(words, "field"), 256, "p")])
+    if not words or not words[0].startswith("2^"):
+        return bytes([2, number(one(words, "field"), 256, "p")])
+    if len(words) != 2:
+        raise BadText("a field 2^n takes the low bits of its reducing polynomial as one number after it")
+    return bytes([9, number(words[0][2:], 256, "n"), number(words[1], 256, "the number of the low bits")])
 
 
 def write_mode(words):
@@ -161,6 +165,7 @@ SHOWN = {
     4: shown_factor,
     7: lambda body: f"stop {body.hex(' ')}",
     8: lambda body: "end",
+    9: lambda body: f"field 2^{body[0]} {body[1]}",
 }
 
 
@@ -194,10 +199,18 @@ def shown(file):
 
 
 def payload(file):
-    """p, the mode and the terms of an accepted file."""
+    """The field, the mode and the terms of an accepted file. The field is a degree and a number: 0 and p for GF(p), and for
+    GF(2^n) n and the low bits of the reducing polynomial."""
     records, _ = split(file)
     first = {kind: body for kind, body in reversed(records)}
-    return first[2][0], first[3][0], b"".join(body for kind, body in records if kind in (5, 6))
+    field = tuple(first[9]) if 9 in first else (0, first[2][0])
+    return field, first[3][0], b"".join(body for kind, body in records if kind in (5, 6))
+
+
+def named(field):
+    """The name of a field, as `payload` has it."""
+    degree, number = field
+    return f"GF(2^{degree}) by {number}" if degree else f"GF({number})"
 
 
 # Bytes

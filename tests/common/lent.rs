@@ -1,9 +1,9 @@
 // Rating calls on lent bytes that hold marks: every byte of the answer and of the work is looked at afterwards, and
 // so are the bytes before and after them.
-use super::calls::{self, Told};
+use super::calls::{self, Figures};
 use super::poly;
 use super::random::Random;
-use super::rater::{self, Factor, Input, Rating, Way};
+use super::rater::{self, Factor, Input, Rating};
 use super::{expect, list};
 use std::sync::LazyLock;
 
@@ -56,13 +56,13 @@ pub fn answers(input: &Input, expected: &Result<Rating, u64>) -> Result<(), Stri
 
 // The same of a call that is made otherwise.
 pub fn answers_by(
-    call: impl Fn(&Input, &mut [u8], &mut [u8]) -> Told,
+    call: impl Fn(&Input, &mut [u8], &mut [u8]) -> Figures,
     input: &Input,
     expected: &Result<Rating, u64>,
 ) -> Result<(), String> {
     let (mut answer, mut work) = (Lent::of(input.answer), Lent::of(input.work));
-    let told = call(input, answer.bytes(), work.bytes());
-    expect(told, telling(input.way, expected), || case(input))?;
+    let found = call(input, answer.bytes(), work.bytes());
+    expect(found, figures(expected), || case(input))?;
     let (mut answer_after, mut work_after) = (Lent::of(input.answer), Lent::of(input.work));
     if let Ok(rating) = expected {
         let size = rating.polynomial.len();
@@ -82,21 +82,19 @@ pub fn answers_by(
     })
 }
 
-// What the call has to tell; what it does not write keeps its mark.
-fn telling(way: Way, expected: &Result<Rating, u64>) -> Told {
-    let rating = match expected {
-        Err(number) => return Told::marks(*number),
-        Ok(rating) => rating,
-    };
-    let mut told = Told::marks(0);
-    told.degree = poly::degree(&rating.polynomial) as u64;
-    if way == Way::Set {
-        told.powers = [0; 8];
+// What the call has to return.
+fn figures(expected: &Result<Rating, u64>) -> Figures {
+    let mut figures = Figures::default();
+    match expected {
+        Err(number) => figures.status = *number,
+        Ok(rating) => {
+            figures.complexity = poly::degree(&rating.polynomial) as u64;
+            figures.powers[..rating.powers.len()].copy_from_slice(&rating.powers);
+            figures.repeat = rating.repeat.unwrap_or(0);
+            figures.word = rating.unique.map_or(0, |one| if one { 1 } else { 2 });
+        }
     }
-    told.powers[..rating.powers.len()].copy_from_slice(&rating.powers);
-    told.repeat = rating.repeat.unwrap_or(told.repeat);
-    told.unique = rating.unique.map_or(told.unique, |one| one as u8);
-    told
+    figures
 }
 
 fn case(input: &Input) -> String {
@@ -105,9 +103,9 @@ fn case(input: &Input) -> String {
         Factor::Record { .. } => format!("{f:?}"),
     };
     format!(
-        "{:?}, p {}, factors {:?}, upper powers {:?}, terms {}, {} and {} bytes lent",
+        "{:?}, {}, factors {:?}, upper powers {:?}, terms {}, {} and {} bytes lent",
         input.way,
-        input.p,
+        input.field,
         input.factors.iter().map(factor).collect::<Vec<_>>(),
         input.uppers,
         list(&input.terms),

@@ -1,18 +1,19 @@
 // Tests of the set way: stretches of sequences with known powers of the named factors, and the refusals 14, 15 and
 // 17. Each takes the largest number of factors that it tests with: 1 for a single one, 8 for any number.
+use super::field::{fields, Field};
 use super::inputs::{
-    self, all_terms, factors, factors_but_x, power, registers, total_degree, uppers,
+    self, all_terms, factors, factors_but_x, power, registers, total_degree, uppers, x_minus_1,
 };
 use super::lent::{agrees, answers, refuses};
 use super::poly::{self, degree, Poly};
 use super::random::Random;
 use super::rater::{set_rating, Input};
-use super::sequence::Terms;
-use super::{primes, Outcome};
+use super::sequence::{self, Terms};
+use super::Outcome;
 
 // Named factors with their upper powers, and true powers up to these.
 struct Named {
-    p: u64,
+    field: Field,
     factors: Vec<Poly>,
     uppers: Vec<u64>,
     powers: Vec<u64>,
@@ -20,33 +21,33 @@ struct Named {
 
 impl Named {
     // At most so many random ones of degree at most d, with a total degree of at most `total`.
-    fn of(random: &mut Random, most: u64, p: u64, d: usize, total: usize) -> Self {
+    fn of(random: &mut Random, most: u64, field: Field, d: usize, total: usize) -> Self {
         let n = random.between(1, most) as usize;
-        let mut factors = factors(random, p, n, d);
+        let mut factors = factors(random, field, n, d);
         while total_degree(&factors, &[1; 8]) > total {
             factors.pop();
         }
         if factors.is_empty() {
-            factors.push(vec![p - 1, 1]);
+            factors.push(x_minus_1(field));
         }
-        Named::with(random, p, factors, total)
+        Named::with(random, field, factors, total)
     }
 
     // The same with just this total degree: the last factor is x − 1.
-    fn exactly(random: &mut Random, most: u64, p: u64, d: usize, total: usize) -> Self {
-        let mut factors = Named::of(random, most, p, d, total).factors;
-        let last = vec![p - 1, 1];
+    fn exactly(random: &mut Random, most: u64, field: Field, d: usize, total: usize) -> Self {
+        let mut factors = Named::of(random, most, field, d, total).factors;
+        let last = x_minus_1(field);
         factors.retain(|f| *f != last);
         factors.truncate(most as usize - 1);
         factors.push(last);
-        Named::with(random, p, factors, total)
+        Named::with(random, field, factors, total)
     }
 
-    fn with(random: &mut Random, p: u64, factors: Vec<Poly>, total: usize) -> Self {
+    fn with(random: &mut Random, field: Field, factors: Vec<Poly>, total: usize) -> Self {
         let uppers = uppers(random, &factors, total);
-        let powers = uppers.iter().map(|&v| power(random, p, v)).collect();
+        let powers = uppers.iter().map(|&v| power(random, field, v)).collect();
         Named {
-            p,
+            field,
             factors,
             uppers,
             powers,
@@ -58,16 +59,16 @@ impl Named {
     }
 
     fn terms(&self, random: &mut Random, n: usize) -> Terms {
-        registers(random, self.p, &self.factors, &self.powers, n)
+        registers(random, self.field, &self.factors, &self.powers, n)
     }
 
     fn input(&self, terms: &[u64]) -> Input {
-        inputs::set(self.p, &self.factors, &self.uppers, terms)
+        inputs::set(self.field, &self.factors, &self.uppers, terms)
     }
 
     // The call finds the true powers in n terms.
     fn found(&self, random: &mut Random, n: usize) -> Result<(), String> {
-        let rating = set_rating(self.p, &self.factors, &self.powers);
+        let rating = set_rating(self.field, &self.factors, &self.powers);
         let terms = self.terms(random, n);
         answers(&self.input(&terms), &Ok(rating))
     }
@@ -77,14 +78,21 @@ impl Named {
 // terms.
 pub fn all_short() -> Outcome {
     let mut cases = 0;
-    for (p, largest, longest) in [(2, 3, 8), (3, 2, 5), (5, 1, 4), (7, 1, 3)] {
-        let all = (1..=largest).flat_map(|d| poly::monics(p, d));
-        let all: Vec<Poly> = all.filter(|f| poly::is_irreducible(p, f)).collect();
+    for (field, largest, longest) in [
+        (Field::prime(2), 3, 8),
+        (Field::prime(3), 2, 5),
+        (Field::prime(5), 1, 4),
+        (Field::prime(7), 1, 3),
+        (Field::binary(2, 3), 1, 5),
+        (Field::binary(3, 3), 1, 3),
+    ] {
+        let all = (1..=largest).flat_map(|d| poly::monics(field, d));
+        let all: Vec<Poly> = all.filter(|f| poly::is_irreducible(field, f)).collect();
         for factors in choices(&all).filter(|factors| factors.len() <= 3) {
             for uppers in small_uppers(factors.len(), longest) {
                 let total = total_degree(&factors, &uppers);
-                for terms in all_terms(p, longest).filter(|terms| terms.len() >= total) {
-                    agrees(&inputs::set(p, &factors, &uppers, &terms))?;
+                for terms in all_terms(field, longest).filter(|terms| terms.len() >= total) {
+                    agrees(&inputs::set(field, &factors, &uppers, &terms))?;
                     cases += 1;
                 }
             }
@@ -103,99 +111,102 @@ fn choices(all: &[Poly]) -> impl Iterator<Item = Vec<Poly>> + '_ {
 
 // All lists of n numbers from 1 to `last`.
 fn small_uppers(n: usize, last: usize) -> impl Iterator<Item = Vec<u64>> {
-    let digits = poly::monics(last as u64, n);
-    digits.map(move |digits| digits[..n].iter().map(|c| c + 1).collect())
+    let digits = sequence::all(last as u64, n as u32);
+    digits.map(move |digits| digits.iter().map(|&c| c as u64 + 1).collect())
 }
 
-// Stretches of sequences with known powers, of total degrees up to 2,000, over all primes.
+// Stretches of sequences with known powers, of total degrees up to 2,000, over all fields.
 pub fn made(most: u64) -> Outcome {
     const EACH: u64 = 40;
     let mut random = Random::of_seed(110);
-    for p in primes() {
+    for field in fields() {
         for _ in 0..EACH {
             let d = random.one_of(&[1, 2, 4, 32]);
             let total = random.one_of(&[40, 100, 300, 1000, 2000]);
-            let named = Named::of(&mut random, most, p, d, total);
+            let named = Named::of(&mut random, most, field, d, total);
             let last = random.one_of(&[named.total_degree() as u64 + 10, 4096]);
             let n = random.between(named.total_degree() as u64, last);
             named.found(&mut random, n as usize)?;
         }
     }
-    Ok(EACH * primes().len() as u64)
+    Ok(EACH * fields().len() as u64)
 }
 
 // Short stretches against the second rater, and the same with any one term changed.
 pub fn against_the_second_rater(most: u64) -> Outcome {
     const EACH: u64 = 30;
     let mut random = Random::of_seed(111);
-    for p in primes() {
+    for field in fields() {
         for _ in 0..EACH {
             let d = random.one_of(&[1, 2, 4, 32]);
-            let named = Named::of(&mut random, most, p, d, 60);
+            let named = Named::of(&mut random, most, field, d, 60);
             let n = named.total_degree() + random.between(0, 60) as usize;
             let mut terms = named.terms(&mut random, n);
             agrees(&named.input(&terms))?;
             let place = random.below(n as u64) as usize;
-            terms[place] = (terms[place] + random.between(1, p - 1)) % p;
+            terms[place] = field.add(terms[place], random.unit(field));
             agrees(&named.input(&terms))?;
         }
     }
-    Ok(2 * EACH * primes().len() as u64)
+    Ok(2 * EACH * fields().len() as u64)
 }
 
 // The factor x to a positive power, alone or among others.
 pub fn factor_x(most: u64) -> Outcome {
     const EACH: u64 = 10;
     let mut random = Random::of_seed(116);
-    for p in primes() {
+    for field in fields() {
         for _ in 0..EACH {
             let n = random.between(1, most) as usize;
-            let mut factors = factors_but_x(&mut random, p, n, 4);
+            let mut factors = factors_but_x(&mut random, field, n, 4);
             let place = random.below(n as u64) as usize;
             factors[place] = vec![0, 1];
             let total = random.one_of(&[50, 300, 1000]);
-            let mut named = Named::with(&mut random, p, factors, total);
+            let mut named = Named::with(&mut random, field, factors, total);
             named.powers[place] = random.between(1, named.uppers[place]);
             let n = named.total_degree() + random.between(0, 40) as usize;
             named.found(&mut random, n)?;
         }
     }
-    Ok(EACH * primes().len() as u64)
+    Ok(EACH * fields().len() as u64)
 }
 
 // The largest total degree, with as many terms.
 pub fn largest(most: u64) -> Outcome {
     let mut random = Random::of_seed(112);
-    for p in primes() {
-        let named = Named::exactly(&mut random, most, p, 8, 4096);
+    for field in fields() {
+        let named = Named::exactly(&mut random, most, field, 8, 4096);
         assert_eq!(named.total_degree(), 4096);
         named.found(&mut random, 4096)?;
-        let named = Named::of(&mut random, most, p, 32, 4096);
+        let named = Named::of(&mut random, most, field, 32, 4096);
         named.found(&mut random, 4096)?;
     }
-    Ok(2 * primes().len() as u64)
+    Ok(2 * fields().len() as u64)
 }
 
-// The largest numbers: all terms are 250, of a continuation by polynomials with many large coefficients.
+// The largest numbers: all terms are one less than the size, of a continuation by polynomials with many large
+// coefficients.
 pub fn largest_numbers() -> Outcome {
-    let factors = [vec![249, 1], vec![1, 1]];
-    for total in [1000, 4096] {
-        for n in [1, 2] {
-            let uppers = vec![total / n as u64; n];
-            let terms = vec![250; total as usize];
-            agrees(&inputs::set(251, &factors[..n], &uppers, &terms))?;
+    for field in [Field::prime(251), Field::binary(8, 27)] {
+        let factors = [vec![field.size - 2, 1], vec![1, 1]];
+        for total in [1000, 4096] {
+            for n in [1, 2] {
+                let uppers = vec![total / n as u64; n];
+                let terms = vec![field.size - 1; total as usize];
+                agrees(&inputs::set(field, &factors[..n], &uppers, &terms))?;
+            }
         }
     }
-    Ok(4)
+    Ok(8)
 }
 
 // 14: upper powers of any size, at each place. D is 4,096 at most, and no sum wraps.
 pub fn upper_powers(most: u64) -> Outcome {
     let mut random = Random::of_seed(113);
     let mut cases = 0;
-    for p in primes() {
+    for field in fields() {
         let n = most.min(4) as usize;
-        let factors = factors(&mut random, p, n, 5);
+        let factors = factors(&mut random, field, n, 5);
         for (place, f) in factors.iter().enumerate() {
             let with = |v: u64| {
                 let mut uppers = vec![1; n];
@@ -205,15 +216,15 @@ pub fn upper_powers(most: u64) -> Outcome {
             let d = degree(f);
             let last = ((4096 - total_degree(&factors, &with(0))) / d) as u64;
             for v in beyond(d as u64, last) {
-                let terms = inputs::terms(&mut random, p, 4096);
-                refuses(&inputs::set(p, &factors, &with(v), &terms), 14)?;
+                let terms = inputs::terms(&mut random, field, 4096);
+                refuses(&inputs::set(field, &factors, &with(v), &terms), 14)?;
                 cases += 1;
             }
             for v in [1, last] {
                 let powers = with(v.min(2));
-                let terms = registers(&mut random, p, &factors, &powers, 4096);
-                let rating = set_rating(p, &factors, &powers);
-                answers(&inputs::set(p, &factors, &with(v), &terms), &Ok(rating))?;
+                let terms = registers(&mut random, field, &factors, &powers, 4096);
+                let rating = set_rating(field, &factors, &powers);
+                answers(&inputs::set(field, &factors, &with(v), &terms), &Ok(rating))?;
                 cases += 1;
             }
         }
@@ -245,9 +256,9 @@ fn beyond(d: u64, last: u64) -> Vec<u64> {
 pub fn too_few(most: u64) -> Outcome {
     let mut random = Random::of_seed(114);
     let mut cases = 0;
-    for p in primes() {
+    for field in fields() {
         for total in [2, 3, 5, 10, 33, 300, 4096] {
-            let named = Named::of(&mut random, most, p, 4, total);
+            let named = Named::of(&mut random, most, field, 4, total);
             let n = named.total_degree();
             named.found(&mut random, n)?;
             let terms = named.terms(&mut random, n);
@@ -266,10 +277,10 @@ pub fn too_few(most: u64) -> Outcome {
 pub fn one_term_changed(most: u64) -> Outcome {
     let mut random = Random::of_seed(115);
     let mut cases = 0;
-    for p in primes() {
+    for field in fields() {
         for total in [1, 5, 50, 400, 4000] {
             let d = random.one_of(&[1, 4]);
-            let named = Named::of(&mut random, most, p, d, total);
+            let named = Named::of(&mut random, most, field, d, total);
             let first = named.total_degree() as u64;
             let n = first + random.between(1, 96);
             let terms = named.terms(&mut random, n as usize);
@@ -277,7 +288,7 @@ pub fn one_term_changed(most: u64) -> Outcome {
             for (place, n) in [(first, n), (between, n), (n - 1, n), (first, first + 1)] {
                 let mut changed = terms[..n as usize].to_vec();
                 let term = &mut changed[place as usize];
-                *term = (*term + random.between(1, p - 1)) % p;
+                *term = field.add(*term, random.unit(field));
                 refuses(&named.input(&changed), 17)?;
                 cases += 1;
             }

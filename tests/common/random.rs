@@ -1,4 +1,6 @@
 // Random numbers by splitmix64, the same in every run.
+use super::field::Field;
+
 pub struct Random(u64);
 
 impl Random {
@@ -28,14 +30,24 @@ impl Random {
         of[self.below(of.len() as u64) as usize]
     }
 
-    // n numbers of GF(p).
-    pub fn elements(&mut self, p: u64, n: usize) -> Vec<u8> {
-        (0..n).map(|_| self.below(p) as u8).collect()
+    // n numbers below `size`.
+    pub fn numbers(&mut self, size: u64, n: usize) -> Vec<u8> {
+        (0..n).map(|_| self.below(size) as u8).collect()
     }
 
-    // A monic polynomial of degree d over GF(p), constant first.
-    pub fn monic(&mut self, p: u64, d: usize) -> Vec<u8> {
-        let mut f = self.elements(p, d);
+    // n elements of a field.
+    pub fn elements(&mut self, field: Field, n: usize) -> Vec<u8> {
+        self.numbers(field.size, n)
+    }
+
+    // An element other than 0.
+    pub fn unit(&mut self, field: Field) -> u64 {
+        self.between(1, field.size - 1)
+    }
+
+    // A monic polynomial of degree d, constant first.
+    pub fn monic(&mut self, field: Field, d: usize) -> Vec<u8> {
+        let mut f = self.elements(field, d);
         f.push(1);
         f
     }

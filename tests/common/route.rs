@@ -1,4 +1,5 @@
 // Route files by the words of the request: how they are made, what they hold, and what is printed for them.
+use super::field::Name;
 
 pub const MOST_BYTES: usize = 16384;
 
@@ -33,12 +34,13 @@ pub fn body_length(kind: u8) -> Option<usize> {
         5 => Some(64),
         7 => Some(8),
         8 => Some(0),
+        9 => Some(2),
         _ => None,
     }
 }
 
-// Whether records of these kinds can begin a route: 1, 2 and 3 once each, factors, terms, the end, and stops anywhere
-// between the first and the last of them.
+// Whether records of these kinds can begin a route: 1, then 2 or 9, then 3, once each, factors, terms, the end, and stops
+// anywhere between the first and the last of them.
 fn begins_route(kinds: &[u8]) -> bool {
     if kinds.first() == Some(&7) {
         return false;
@@ -48,10 +50,10 @@ fn begins_route(kinds: &[u8]) -> bool {
         return false;
     }
     let mut rest = kinds.iter().copied().filter(|&k| k != 7).peekable();
-    for first in [1, 2, 3] {
+    for first in [&[1][..], &[2, 9], &[3]] {
         match rest.next() {
             None => return true,
-            Some(k) if k == first => {}
+            Some(k) if first.contains(&k) => {}
             Some(_) => return false,
         }
     }
@@ -62,7 +64,7 @@ fn begins_route(kinds: &[u8]) -> bool {
 }
 
 // The records of a file, or the refusal by 1 to 4.
-fn walk(file: &[u8]) -> Result<Vec<Record>, u64> {
+pub fn walk(file: &[u8]) -> Result<Vec<Record>, u64> {
     if file.len() > MOST_BYTES {
         return Err(1);
     }
@@ -132,17 +134,25 @@ impl Factor {
 // What an accepted walk finds.
 #[derive(Clone, Debug)]
 pub struct Contents {
-    pub p: u8,
+    pub field: Name,
     pub mode: u8,
     pub factors: Vec<Factor>,
     pub terms: Vec<u8>,
+}
+
+// The record of a field, of a name that has bytes alone.
+pub fn field_record(field: Name) -> Record {
+    match field {
+        Name::Prime(p) => Record::of(2, &[p as u8]),
+        Name::Binary { degree, low } => Record::of(9, &[degree as u8, low as u8]),
+    }
 }
 
 // A file that holds this: the terms in blocks, and those left over one by one.
 pub fn file_with(c: &Contents) -> Vec<u8> {
     let mut records = vec![
         Record::of(1, &[0, 0, 0, 7]),
-        Record::of(2, &[c.p]),
+        field_record(c.field),
         Record::of(3, &[c.mode]),
     ];
     records.extend(c.factors.iter().map(|f| Record::of(4, &f.body())));
@@ -157,11 +167,18 @@ pub fn file_with(c: &Contents) -> Vec<u8> {
 // What a file holds, or the refusal by 1 to 5.
 pub fn contents(file: &[u8]) -> Result<Contents, u64> {
     let records = walk(file)?;
-    let byte = |kind: u8| records.iter().find(|r| r.kind == kind).unwrap().body[0];
+    let first = |kind: u8| records.iter().find(|r| r.kind == kind);
+    let field = match first(9) {
+        None => Name::Prime(first(2).unwrap().body[0] as u64),
+        Some(r) => Name::Binary {
+            degree: r.body[0] as u64,
+            low: r.body[1] as u64,
+        },
+    };
     let of_kinds = |kinds: &'static [u8]| records.iter().filter(move |r| kinds.contains(&r.kind));
     let found = Contents {
-        p: byte(2),
-        mode: byte(3),
+        field,
+        mode: first(3).unwrap().body[0],
         factors: of_kinds(&[4]).map(|r| Factor::of_body(&r.body)).collect(),
         terms: of_kinds(&[5, 6]).flat_map(|r| r.body.clone()).collect(),
     };

@@ -1,4 +1,5 @@
 // Tables of expected answers: lines of words, with blanks between them; # begins a comment.
+use super::field::Name;
 use super::poly;
 use super::rater::Rating;
 use super::sequence;
@@ -22,6 +23,20 @@ fn repeated(item: &str) -> Vec<u8> {
     match item.split_once('*') {
         Some((a, n)) => vec![a.parse().unwrap(); n.parse().unwrap()],
         None => vec![item.parse().unwrap()],
+    }
+}
+
+// A field: p, or as 2^8:27 the degree and the low bits of a reducing polynomial. It need not be one.
+pub fn name(word: &str) -> Name {
+    match word
+        .strip_prefix("2^")
+        .and_then(|rest| rest.split_once(':'))
+    {
+        Some((degree, low)) => Name::Binary {
+            degree: degree.parse().unwrap(),
+            low: low.parse().unwrap(),
+        },
+        None => Name::Prime(word.parse().unwrap()),
     }
 }
 

@@ -12,7 +12,7 @@ pub struct Counts {
     pub work: Vec<(usize, u8)>,
     // of single bytes into the answer bytes
     pub answer: usize,
-    // of single bytes into the sums of a block over GF(2)
+    // of single bytes into the sums of a block in characteristic 2
     pub sums: usize,
     // of single bytes anywhere else
     pub elsewhere: usize,
@@ -38,15 +38,16 @@ fn addresses(bytes: &[u8]) -> Range<usize> {
     start..start + bytes.len()
 }
 
-// The source whose stores outside of the lent bytes are sums of a block: over GF(2) they are bytes, and added up by
-// `add_bits`.
-const SUMS: &str = "/arith/field.rs";
+// The sources whose stores outside of the lent bytes are sums of a block, or raised coefficients: in characteristic 2 sums
+// are bytes, and added up by `add_bits` or, over GF(2^n), `add_multiple`.
+const SUMS: [&str; 2] = ["/arith/field.rs", "/arith/extension.rs"];
 
 // A value was stored at the place, by the source that calls this.
 #[track_caller]
 pub fn stored<T: Copy>(place: &T) {
     let address = place as *const T as usize;
-    let sums = Location::caller().file().ends_with(SUMS);
+    let file = Location::caller().file();
+    let sums = SUMS.iter().any(|name| file.ends_with(name));
     COUNTING.with_borrow_mut(|counting| {
         let counts = &mut counting.counts;
         if size_of::<T>() != 1 {

@@ -1,6 +1,7 @@
 // tools/find: known periods as bits and as route files, a line if nothing is found or the file has no binary
 // period or is neither bits nor a route file, and arguments.
 use super::{ended, stops, Ended};
+use crate::common::field::Name;
 use crate::common::route::{file_with, Contents, Factor};
 use crate::common::{expect, Outcome, Test};
 use std::process::Command;
@@ -18,7 +19,11 @@ fn prints(found: Ended, entry: u64, polynomial: &str, power: u64) -> Result<(), 
 }
 
 // A route file with the factor x, which annihilates nothing but zeros.
-fn file(p: u8, mode: u8, terms: &[u8]) -> Vec<u8> {
+fn file(p: u64, mode: u8, terms: &[u8]) -> Vec<u8> {
+    file_over(Name::Prime(p), mode, terms)
+}
+
+fn file_over(field: Name, mode: u8, terms: &[u8]) -> Vec<u8> {
     let factors = match mode {
         1 => vec![Factor::of_polynomial(&[0, 1], 0)],
         2 => vec![Factor::of_polynomial(&[0, 1], 1)],
@@ -26,7 +31,7 @@ fn file(p: u8, mode: u8, terms: &[u8]) -> Vec<u8> {
     };
     let terms = terms.to_vec();
     file_with(&Contents {
-        p,
+        field,
         mode,
         factors,
         terms,
@@ -95,13 +100,13 @@ fn nothing_found() -> Outcome {
         tool(&[], &[1, 0, 0, 0, 7, b'0'])?,
         4,
         &format!("{none}period: refused by 2, "),
-        "1 to 8",
+        "1 to 9",
     )?;
     stops(
         tool(&[], &file(2, 1, &[0, 2]))?,
         4,
         &format!("{none}period: refused by 8, "),
-        "p or more",
+        "p or more, or 2^n or more",
     )?;
     stops(
         tool(&[], &file(2, 3, &[0, 1]))?,
@@ -113,9 +118,16 @@ fn nothing_found() -> Outcome {
         tool(&[], &file(3, 1, &[0, 1]))?,
         4,
         none,
-        "its p is 3, not 2",
+        "its field is GF(3), not GF(2)",
     )?;
-    Ok(10 + texts.len() as u64)
+    let four = Name::Binary { degree: 2, low: 3 };
+    stops(
+        tool(&[], &file_over(four, 1, &[0, 1]))?,
+        4,
+        "find: standard input has no binary period: ",
+        "its field is GF(2^2) by 3, not GF(2)",
+    )?;
+    Ok(11 + texts.len() as u64)
 }
 
 fn arguments() -> Outcome {

@@ -1,4 +1,4 @@
-// tools/library: its help and its names, and a shared object that is not the one that was made.
+// tools/library: its help and its names, and a library or a shared object that is not the one that was made.
 use super::{ended, stops, Ended, SHARED};
 use crate::common::{expect, output_of, Outcome, Test};
 use std::fs;
@@ -7,8 +7,9 @@ use std::process::Command;
 
 const TOOL: &str = "tools/library";
 const FOREIGN: &str = "typedef unsigned long long u64;
-u64 rater_find_entry(char *terms, u64 n, char *work, u64 m, u64 *entry, u64 *power)
-{ *entry = 7; *power = 99; return 0; }";
+typedef struct { u64 status, entry, power; } found;
+found gobashe_find_entry(char *terms, u64 n, char *work, u64 m)
+{ found f = {0, 7, 99}; return f; }";
 
 fn tool(arguments: &[&str]) -> Result<Ended, String> {
     ended(Command::new(TOOL).args(arguments), &[])
@@ -70,7 +71,26 @@ fn another_shared_object() -> Outcome {
     Ok(others.len() as u64 + 1)
 }
 
-pub const TESTS: [(&str, Test); 2] = [
+// The library that others link is the one that rt built; foreign, cut or gone, it is copied anew.
+fn another_copy() -> Outcome {
+    const BUILT: &str = "target/staticlib/libexports.a";
+    const COPY: &str = "target/staticlib/libgobashe.a";
+    let failed = |e: std::io::Error| format!("{COPY}: {e}");
+    let built = fs::read(BUILT).map_err(|e| format!("{BUILT}: {e}"))?;
+    let others = [Some(b"broken\n".to_vec()), Some(built[..built.len() / 2].to_vec()), None];
+    for (i, other) in others.iter().enumerate() {
+        fs::remove_file(COPY).map_err(failed)?;
+        if let Some(bytes) = other {
+            fs::write(COPY, bytes).map_err(failed)?;
+        }
+        expect(tool(&[])?.0, Some(0), || format!("another copy, {i}"))?;
+        expect(fs::read(COPY).map_err(failed)? == built, true, || format!("the copy, {i}"))?;
+    }
+    Ok(others.len() as u64)
+}
+
+pub const TESTS: [(&str, Test); 3] = [
     ("library: arguments", arguments),
+    ("library: another copy", another_copy),
     ("library: another shared object", another_shared_object),
 ];

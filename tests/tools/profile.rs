@@ -1,6 +1,7 @@
 // tools/profile: the shipped example, files against the second rater, a line where a file has no profile,
 // arguments and outputs, and no C compiler.
 use super::{ended, stops, Ended, SHARED};
+use crate::common::field::{binary_fields, Field, Name};
 use crate::common::random::Random;
 use crate::common::route::{self, file_with, Contents, Factor};
 use crate::common::{expect, primes, rater, sequence, Outcome, Test};
@@ -25,10 +26,11 @@ fn rows(columns: &str) -> Vec<Vec<String>> {
 }
 
 // The rows that the second rater gives, from each beginning of the terms.
-fn expected(p: u64, terms: &[u8]) -> Vec<Vec<String>> {
+fn expected(field: Name, terms: &[u8]) -> Vec<Vec<String>> {
+    let field = Field::of(field).unwrap();
     let known = sequence::of_bytes(terms);
     let row = |m: usize| {
-        let rating = rater::free_rating(p, &known[..m]);
+        let rating = rater::free_rating(field, &known[..m]);
         let degree = rating.polynomial.len() - 1;
         let word = if rating.unique == Some(true) {
             "one"
@@ -67,7 +69,7 @@ fn example() -> Outcome {
     expect(jumps, known, || "the jumps".into())?;
     let file = fs::read(EXAMPLE).map_err(|e| e.to_string())?;
     let held = route::contents(&file).map_err(|n| format!("refused {n}"))?;
-    expect(&found, &expected(held.p as u64, &held.terms), || {
+    expect(&found, &expected(held.field, &held.terms), || {
         "the rows".into()
     })?;
     expect(
@@ -90,9 +92,12 @@ fn example() -> Outcome {
 // Files of all modes, whatever their factors: the terms alone decide.
 fn against_the_second_rater() -> Outcome {
     let mut random = Random::of_seed(1);
-    let primes = primes();
+    let (primes, binary) = (primes(), binary_fields());
     for i in 0..RANDOM_FILES {
-        let p = random.one_of(&primes);
+        let field = match i % 2 {
+            0 => Field::prime(random.one_of(&primes)),
+            _ => random.one_of(&binary),
+        };
         let mode = 1 + (i % 3) as u8;
         let factors = match mode {
             1 => vec![Factor::of_polynomial(&[0, 0, 1], 0)],
@@ -100,27 +105,27 @@ fn against_the_second_rater() -> Outcome {
             _ => vec![],
         };
         let count = random.between(1, 200) as usize;
-        let mut terms = random.elements(p, count);
+        let mut terms = random.elements(field, count);
         if random.below(3) == 0 {
             terms[..count / 2].fill(0);
         }
         let held = Contents {
-            p: p as u8,
+            field: field.name,
             mode,
             factors,
             terms,
         };
         let (code, columns, said) = tool(&[], &file_with(&held))?;
         expect((code, said.as_str()), (Some(0), ""), || format!("{held:?}"))?;
-        expect(rows(&columns), expected(p, &held.terms), || {
+        expect(rows(&columns), expected(field.name, &held.terms), || {
             format!("{held:?}")
         })?;
     }
     let held = Contents {
-        p: 251,
+        field: Name::Prime(251),
         mode: 3,
         factors: vec![],
-        terms: random.elements(251, 4096),
+        terms: random.numbers(251, 4096),
     };
     let (code, columns, said) = tool(&[], &file_with(&held))?;
     expect((code, said.as_str()), (Some(0), ""), || {
@@ -130,10 +135,10 @@ fn against_the_second_rater() -> Outcome {
     Ok(RANDOM_FILES + 1)
 }
 
-// A file for each of 1 to 8.
+// A file for each of 1 to 8, and 20.
 fn no_profile() -> Outcome {
     let good = Contents {
-        p: 5,
+        field: Name::Prime(5),
         mode: 3,
         factors: vec![],
         terms: vec![0, 1, 4],
@@ -144,33 +149,55 @@ fn no_profile() -> Outcome {
         change(&mut changed);
         file_with(&changed)
     };
+    let four = Name::Binary { degree: 2, low: 3 };
+    let reducible = Name::Binary { degree: 8, low: 1 };
     let reasons = [
         "16,384 bytes",
-        "1 to 8",
+        "1 to 9",
         "the end record",
         "out of place",
         "do not suit it",
         "a prime from 2 to 251",
         "no terms, or more than 4,096",
-        "p or more",
+        "p or more, or 2^n or more",
     ];
     let cases = [
         (1, [file.clone(), vec![0; route::MOST_BYTES]].concat()),
-        (2, [&file[..file.len() - 1], &[9]].concat()),
+        (2, [&file[..file.len() - 1], &[10]].concat()),
         (3, file[..file.len() - 1].to_vec()),
         (3, vec![]),
         (4, [&file[..], &[8]].concat()),
         (5, with(&|c| c.mode = 4)),
-        (6, with(&|c| c.p = 6)),
+        (6, with(&|c| c.field = Name::Prime(6))),
+        (20, with(&|c| c.field = reducible)),
         (7, with(&|c| c.terms.clear())),
         (7, with(&|c| c.terms.resize(4097, 0))),
         (8, with(&|c| c.terms[1] = 5)),
+        (8, with(&|c| c.field = four)),
     ];
     for &(number, ref file) in &cases {
         let begin = format!("profile: standard input has no profile: refused by {number}, ");
-        stops(tool(&[], file)?, 4, &begin, reasons[number - 1])?;
+        let reason = reasons.get(number - 1).unwrap_or(&"or is reducible");
+        stops(tool(&[], file)?, 4, &begin, reason)?;
     }
     Ok(cases.len() as u64)
+}
+
+// The title of the picture names the field.
+fn titles() -> Outcome {
+    let out = format!("{BUILT}/field.svg");
+    for (name, field) in [
+        ("gf256", "16 terms over GF(2^8) by 27"),
+        ("e", "3 terms over GF(3)"),
+    ] {
+        let path = format!("examples/{name}.route");
+        let drawn = tool(&["--svg", &out, &path], &[])?;
+        expect(drawn.0, Some(0), || drawn.2.clone())?;
+        let picture = fs::read_to_string(&out).map_err(|e| e.to_string())?;
+        let title = format!("<title>Linear complexity profile of {name}.route: {field}</title>");
+        expect(picture.contains(&title), true, || format!("no {title}"))?;
+    }
+    Ok(2)
 }
 
 fn arguments() -> Outcome {
@@ -239,13 +266,14 @@ fn no_compiler() -> Outcome {
     Ok(3)
 }
 
-pub const TESTS: [(&str, Test); 5] = [
+pub const TESTS: [(&str, Test); 6] = [
     ("profile: the example", example),
     (
         "profile: against the second rater",
         against_the_second_rater,
     ),
     ("profile: files without one", no_profile),
+    ("profile: titles", titles),
     ("profile: arguments", arguments),
     ("profile: no C compiler", no_compiler),
 ];

@@ -6,8 +6,7 @@
 --   FieldNamed name f == the name is that of a field, and f is well-formed and stands for it
 --   Declined name r   == the name is that of no field, and r is the refusal that it meets
 --   FieldMade name r  == so the constructor answers the name
---   FieldOfBinary n low f == f is well-formed and stands for GF(2^n) with the reducing polynomial y^n + low
-use Prim.Native.Nat.{ℕ, _/_}
+use Prim.Native.Nat.{_/_}
 use mathlib.Core.Path.{_≡_}
 use mathlib.Core.Logic.{_≢_}
 use mathlib.Core.Bool.{true, false}
@@ -50,7 +49,3 @@ pub record Declined (name : FieldName) (r : Refusal) : Type 0 where
 unfoldable pub FieldMade : FieldName → FieldAnswer → Type 0
 FieldMade name (FieldAnswer.Made f) = FieldNamed name f
 FieldMade name (FieldAnswer.Refused r) = Declined name r
-
-pub record FieldOfBinary (n low : ℕ) (f : GaloisField) : Type 0 where
-  pub wellFormed : WellFormed f
-  pub isField : fieldOf f ≡ binary n low

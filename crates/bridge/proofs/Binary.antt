@@ -6,4 +6,6 @@ pub mod Catalogue
 pub mod CatalogueTable
 pub mod Extension
 pub mod BinaryNumbers
+pub mod NamedFields
+pub mod OneProduct
 pub mod ReducingPolynomials

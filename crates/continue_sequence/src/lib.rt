@@ -11,8 +11,8 @@ use refusals::continue_verdict;
 ghost use Rattle.meaning.specs.Calls.{ContinueCall};
 
 // Fills the buffer, from the place to its end, with the sequence that the polynomial continues the starting
-// terms to, and leaves all before the place as it was; or refuses by 6, 7, 8, 10, 11 or 15, and leaves the
-// buffer as it was. The polynomial stands for its monic multiple.
+// terms to, and leaves all before the place as it was; or refuses by 6 or 20, 7, 8, 10, 11 or 15, and leaves
+// the buffer as it was. The polynomial stands for its monic multiple.
 pub fn continue_sequence(
     name: FieldName,
     polynomial: &[u8],

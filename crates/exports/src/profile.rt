@@ -1,7 +1,8 @@
 // The meter for programs in other languages: the whole profile of a sequence by one call. The meter and the
 // bytes that it works in live inside.
+use crate::field::named_by;
 use lent::smaller;
-use meaning::FieldName;
+use meaning::FieldNumbers;
 use meaning::FreeRating;
 use meaning::Meter;
 use meaning::MeterStart;
@@ -10,9 +11,8 @@ ghost use mathlib.Core.Path.{_≡_};
 ghost use mathlib.Core.List.{[], _∷_};
 ghost use Prim.Native.Nat.{_/_, _%_};
 ghost use lib.ListN.{length};
-ghost use Rattle.meaning.specs.declared.FieldName.{FieldName};
 ghost use Rattle.meaning.specs.Answers.{toldFree};
-ghost use Rattle.meaning.specs.Exports.{statusOf, ProfileExported};
+ghost use Rattle.meaning.specs.Exports.{namedBy, statusOf, ProfileExported};
 ghost use Rattle.exports.specs.profile.Entries.{EntryWritten, TermEntered, ProfileWritten};
 
 // The status of a reading, in a byte.
@@ -92,18 +92,18 @@ fn write_profile(
     }
 }
 
-// The profile of a sequence: a meter is started for GF(p) and takes the terms one after another, as many as
-// there is room for at four bytes each. The four bytes of a term are its status, 0 or the number of its
+// The profile of a sequence: a meter is started for the field and takes the terms one after another, as many
+// as there is room for at four bytes each. The four bytes of a term are its status, 0 or the number of its
 // refusal, the degree that the meter shows after it in two bytes, the less significant first, and 1 for the
 // word `one` or 0 for `some`. A refused term changes nothing: its entry repeats the degree and the word from
 // before it. Where the start is refused, and beyond the last entry, the lent bytes stay as they were.
 #[no_mangle]
-pub extern "C" fn rater_profile(p: u64, terms: &[u8], profile: &mut [u8]) -> u64
-    ensures { λ r. ⌜ ProfileExported (FieldName.Prime p) (now (terms .entry)) (now (profile .entry)) r
+pub extern "C" fn gobashe_profile(field: FieldNumbers, terms: &[u8], profile: &mut [u8]) -> u64
+    ensures { λ r. ⌜ ProfileExported (namedBy field) (now (terms .entry)) (now (profile .entry)) r
         (now (profile .exit)) ⌝ }
 {
     let mut work = [0u8; 8192];
-    match rater::start_meter(FieldName::Prime(p), &mut work) {
+    match rater::start_meter(named_by(field), &mut work) {
         MeterStart::Started(meter) => {
             let mut held = [0u8; 4096];
             write_profile(meter, terms, &mut held, &mut work, profile);

@@ -15,13 +15,12 @@ use Rattle.meaning.specs.Field.{Field}
 use Rattle.meaning.specs.Polynomial.{Polynomial}
 use Rattle.meaning.specs.Conditions.{factorDegreeOutOfRange, notMonic, isReducible}
 use Rattle.bridge.proofs.Lists.Irreducibles.{accepted-irreducible}
-use Rattle.bridge.proofs.Basics.Searches.{T-and, T-true}
+use Rattle.bridge.proofs.Basics.Searches.{T-and, T-true, not-true}
 use Rattle.arith.specs.Represented.{fieldOf, WellFormed}
 use Rattle.arith.specs.declared.field.GaloisField.{GaloisField}
 use Rattle.repeat.specs.orders.Orders.{Suited}
 use Rattle.repeat.proofs.orders.Accepted.{accepted-suited}
 use Rattle.leaves.specs.Orderly.{isSuited, small}
-use Rattle.leaves.proofs.Suiting.{not-true}
 
 pub limit-beyond : (b : Bool) {n : ℕ} → 65536 < n → (leb n 65536 && b) ≡ false
 limit-beyond b {n} l = rw (lt-leb n 65536 l)

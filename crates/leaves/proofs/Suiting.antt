@@ -11,7 +11,7 @@
 -- Assumes nothing.
 use Prim.Native.Nat.{ℕ, _≤_, _<_}
 use mathlib.Core.Path.{_≡_, refl, sym, ap, subst, _∙_}
-use mathlib.Core.Bool.{Bool, true, false, not, _&&_}
+use mathlib.Core.Bool.{Bool, true, false, _&&_}
 use lib.Dec.{T, leb, leb→le}
 use borrow.Author.Tests.{lt-leb, le-leb}
 use Rattle.meaning.specs.declared.FieldName.{FieldName}
@@ -19,17 +19,10 @@ use Rattle.meaning.specs.declared.Refusal.{Refusal}
 use Rattle.meaning.specs.Field.{Field, prime, primeInRange}
 use Rattle.meaning.specs.Conditions.{notPrime}
 use Rattle.meaning.specs.FieldNames.{namedField, notField}
-use Rattle.bridge.proofs.Basics.Searches.{T-and, T-true, false-T, not-false}
+use Rattle.bridge.proofs.Basics.Searches.{T-and, not-true, not-not-true}
 use Rattle.arith.specs.Represented.{fieldOf, FieldNamed, Declined}
 use Rattle.arith.specs.declared.field.GaloisField.{GaloisField}
 use Rattle.leaves.specs.Suited.{suited, whereSuited}
-
-pub not-true : (b : Bool) → not b ≡ true → b ≡ false
-not-true true e = absurd (false-T (sym e) tt)
-not-true false e = refl
-
-pub not-not-true : (b : Bool) → not b ≡ false → b ≡ true
-not-not-true b e = T-true {b = b} (not-false b e)
 
 -- A number that names a field
 module _ {p : ℕ} {field : GaloisField} (h : FieldNamed (FieldName.Prime p) field) where

@@ -1,19 +1,22 @@
 // Leaves of the fields of 2^n elements. The degree n and the bits of the reducing polynomial below y^n name
 // the field. Where they name none, the answer is 0 or false, and all bytes stay as they were.
 use crate::suits;
+use arith::FieldAnswer;
 use arith::GaloisField;
 use arith::reducing::names_binary_field;
 use lent::blocks::act_block;
+use meaning::FieldName;
 use refusals::conditions::lists::term_out_of_field;
 ghost use mathlib.Core.Path.{_≡_};
 ghost use mathlib.Core.Bool.{not, _&&_};
 ghost use lib.ListN.{length};
+ghost use Rattle.meaning.specs.declared.FieldName.{FieldName};
 ghost use Rattle.meaning.specs.Sequence.{actAt, known};
 ghost use Rattle.meaning.specs.Extension.{binary};
 ghost use Rattle.meaning.specs.Conditions.{notBinary};
 ghost use Rattle.arith.specs.Inverse.{inverse};
 ghost use Rattle.arith.specs.Slices.{combined};
-ghost use Rattle.arith.specs.Represented.{fieldOf, WellFormed};
+ghost use Rattle.arith.specs.Represented.{fieldOf, WellFormed, FieldMade};
 ghost use Rattle.leaves.specs.Suited.{suited, whereSuited};
 ghost use Rattle.leaves.specs.binary.Squares.{squares};
 ghost use Rattle.leaves.specs.binary.Acted.{hasRoom, Acted};
@@ -26,15 +29,21 @@ pub extern "C" fn leaf_names_binary(degree: u64, low: u64) -> bool
     names_binary_field(degree, low)
 }
 
+// The field that the two numbers name, or the refusal.
+fn named(degree: u64, low: u64) -> FieldAnswer
+    ensures { λ r. ⌜ FieldMade (FieldName.Binary degree low) r ⌝ }
+{
+    GaloisField::of(FieldName::Binary { degree, low })
+}
+
 // a + b
 #[no_mangle]
 pub extern "C" fn leaf_binary_sum(degree: u64, low: u64, a: u8, b: u8) -> u8
     ensures { λ r. ⌜ r ≡ whereSuited (not (notBinary degree low)) ((binary degree low .add) a b) 0 ⌝ }
 {
-    if names_binary_field(degree, low) {
-        GaloisField::of_binary(degree, low).sum(a, b)
-    } else {
-        0
+    match named(degree, low) {
+        FieldAnswer::Made(field) => field.sum(a, b),
+        FieldAnswer::Refused(_) => 0,
     }
 }
 
@@ -43,10 +52,9 @@ pub extern "C" fn leaf_binary_sum(degree: u64, low: u64, a: u8, b: u8) -> u8
 pub extern "C" fn leaf_binary_product(degree: u64, low: u64, a: u8, b: u8) -> u8
     ensures { λ r. ⌜ r ≡ whereSuited (not (notBinary degree low)) ((binary degree low .mul) a b) 0 ⌝ }
 {
-    if names_binary_field(degree, low) {
-        GaloisField::of_binary(degree, low).product(a, b)
-    } else {
-        0
+    match named(degree, low) {
+        FieldAnswer::Made(field) => field.product(a, b),
+        FieldAnswer::Refused(_) => 0,
     }
 }
 
@@ -55,10 +63,9 @@ pub extern "C" fn leaf_binary_product(degree: u64, low: u64, a: u8, b: u8) -> u8
 pub extern "C" fn leaf_binary_inverse(degree: u64, low: u64, a: u8) -> u8
     ensures { λ r. ⌜ r ≡ whereSuited (not (notBinary degree low)) (inverse (binary degree low) a) 0 ⌝ }
 {
-    if names_binary_field(degree, low) {
-        GaloisField::of_binary(degree, low).inverse(a)
-    } else {
-        0
+    match named(degree, low) {
+        FieldAnswer::Made(field) => field.inverse(a),
+        FieldAnswer::Refused(_) => 0,
     }
 }
 
@@ -72,10 +79,9 @@ pub extern "C" fn leaf_binary_dot(degree: u64, low: u64, c: &[u8], s: &[u8]) -> 
     if !suits(c.len(), s.len()) {
         return 0;
     }
-    if names_binary_field(degree, low) {
-        GaloisField::of_binary(degree, low).dot(c, s)
-    } else {
-        0
+    match named(degree, low) {
+        FieldAnswer::Made(field) => field.dot(c, s),
+        FieldAnswer::Refused(_) => 0,
     }
 }
 
@@ -89,8 +95,8 @@ pub extern "C" fn leaf_binary_update(degree: u64, low: u64, a: &mut [u8], c: u8,
     if !suits(b.len(), a.len()) {
         return;
     }
-    if names_binary_field(degree, low) {
-        GaloisField::of_binary(degree, low).add_multiple(a, c, b);
+    if let FieldAnswer::Made(field) = named(degree, low) {
+        field.add_multiple(a, c, b);
     }
 }
 
@@ -112,8 +118,8 @@ pub extern "C" fn leaf_binary_squares(degree: u64, low: u64, a: &mut [u8])
         ≡ whereSuited (not (notBinary degree low)) (squares (binary degree low) (now (a .entry)))
         (now (a .entry)) ⌝ }
 {
-    if names_binary_field(degree, low) {
-        frobenius_in(GaloisField::of_binary(degree, low), a);
+    if let FieldAnswer::Made(field) = named(degree, low) {
+        frobenius_in(field, a);
     }
 }
 
@@ -148,9 +154,8 @@ pub extern "C" fn leaf_binary_act(
     if !has_room(n, w.len()) {
         return false;
     }
-    if names_binary_field(degree, low) {
-        act_block(GaloisField::of_binary(degree, low), w, 0, n, 0, f, q, n, n)
-    } else {
-        false
+    match named(degree, low) {
+        FieldAnswer::Made(field) => act_block(field, w, 0, n, 0, f, q, n, n),
+        FieldAnswer::Refused(_) => false,
     }
 }

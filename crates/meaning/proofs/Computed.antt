@@ -52,6 +52,8 @@ use Rattle.meaning.specs.Answers.{numberOf, toldIrreducible, toldFilling
 use Rattle.meaning.specs.Answers.{setFiguresTold, toldFile, labelTold, fileFiguresTold, toldRecord}
 use Rattle.meaning.specs.Answers.{padded, setPadded, labelPowers, filePadded}
 use Rattle.meaning.specs.Calls.{bufferAfter, bodyAfter}
+use Rattle.meaning.specs.Exports.{version, namedBy, statusOf, periodTold, setTold, wordNumber, freeTold}
+use Rattle.meaning.specs.Exports.{entryTold, answerTold, bodyStart, recordTold}
 
 abbrev pub GF : ℕ → FieldName
 GF p = FieldName.Prime p
@@ -185,6 +187,11 @@ unfoldable pub openCalls : Unit {0}
 unfolding bufferAfter bodyAfter
 openCalls = tt
 
+unfoldable pub openExports : Unit {0}
+unfolding version namedBy statusOf periodTold setTold wordNumber freeTold entryTold answerTold bodyStart
+    recordTold
+openExports = tt
+
 unfoldable pub opened-1 : Unit {0}
 unfolding openSearch openField openPolynomial-1 openPolynomial-2 openExtension openSequence-1
 opened-1 = tt
@@ -202,7 +209,7 @@ unfolding openCatalogue openContinuation openIrreducibility openRoute-1 openRout
 opened-4 = tt
 
 unfoldable pub opened-5 : Unit {0}
-unfolding openFile-2 openPrint openAnswers-1 openAnswers-2 openCalls
+unfolding openFile-2 openPrint openAnswers-1 openAnswers-2 openCalls openExports
 opened-5 = tt
 
 unfoldable pub computed : Unit {0}

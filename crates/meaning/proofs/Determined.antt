@@ -1,7 +1,7 @@
 -- What an answer tells determines it: no two answers tell the same. With the equations of the contracts,
 -- whatever meets a contract is one answer.
 --
---   refusalOf n   == the refusal with the number n, none for a number that is not 1 to 19
+--   refusalOf n   == the refusal with the number n, none for a number that is not 1 to 20
 --   refusal-number, refusal-found == the numbers of the list are those of the refusals
 --   …-determined  == two answers that tell the same are the same
 --   period-call-determined and its like == two runs of a call on the same input agree in the answer and in
@@ -36,7 +36,7 @@ use Rattle.meaning.specs.declared.Refusal.the-variants.{DegreeOutOfRange
 use Rattle.meaning.specs.declared.Refusal.the-variants.{Reducible}
 use Rattle.meaning.specs.declared.Refusal.the-variants.{EqualFactors, UpperPowers, TooFewTerms}
 use Rattle.meaning.specs.declared.Refusal.the-variants.{LentTooShort, NotAnnihilated, MeterFull}
-use Rattle.meaning.specs.declared.Refusal.the-variants.{NoEntry}
+use Rattle.meaning.specs.declared.Refusal.the-variants.{NoEntry, NotBinaryField}
 use Rattle.meaning.specs.Search.{mapOption, holdsForAll}
 use Rattle.meaning.specs.Route.{lookUp}
 use Rattle.meaning.specs.Result.{Result, refused, answered, Rated}
@@ -73,6 +73,7 @@ refusals =
     ∷ (17, NotAnnihilated)
     ∷ (18, MeterFull)
     ∷ (19, NoEntry)
+    ∷ (20, NotBinaryField)
     ∷ []
 
 unfoldable pub refusalOf : ℕ → Option Refusal
@@ -99,6 +100,7 @@ refusal-number LentTooShort = refl
 refusal-number NotAnnihilated = refl
 refusal-number MeterFull = refl
 refusal-number NoEntry = refl
+refusal-number NotBinaryField = refl
 
 some-same : {A : Type 0} (a b : A) → some a ≡ some b → a ≡ b
 some-same a b e = cc

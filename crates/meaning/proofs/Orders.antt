@@ -86,11 +86,11 @@ pub record Orders : Type 0 where
       (headed 2 2 (factor 2 1 (1 ∷ []) ++ (factor 1 1 (2 ∷ []) ++ (term 0 ++ end))))
       ≡ some 11
   -- files: the first bad record decides, and at a record 2, 3 and 4 are tried in turn
-  pub longBeforeKind : ofFile (9 ∷ replicate 16384 9) ≡ some 1
-  pub kindBeforeCut : ofFile (box 7 ++ (9 ∷ [])) ≡ some 2
+  pub longBeforeKind : ofFile (10 ∷ replicate 16384 10) ≡ some 1
+  pub kindBeforeCut : ofFile (box 7 ++ (10 ∷ [])) ≡ some 2
   pub cutBeforePlace : ofFile (box 7 ++ (3 ∷ [])) ≡ some 3
   pub placeBeforeMissingEnd : ofFile (box 7 ++ mode 1) ≡ some 4
-  pub placeBeforeLaterKind : ofFile (mode 1 ++ (9 ∷ [])) ≡ some 4
+  pub placeBeforeLaterKind : ofFile (mode 1 ++ (10 ∷ [])) ≡ some 4
   pub overAtStart : ofFile [] ≡ some 3
   pub overAfterBox : ofFile (box 7) ≡ some 3
   pub overAfterField : ofFile (box 7 ++ field 2) ≡ some 3

@@ -21,7 +21,7 @@ use Rattle.meaning.proofs.Rows.{x²+x+1}
 pub record Refusals : Type 0 where
   -- files
   pub file1 : numberIn (rateFile (replicate 16385 0) 4097 8192) ≡ some 1
-  pub file2 : numberIn (rateFile (9 ∷ []) 4097 8192) ≡ some 2
+  pub file2 : numberIn (rateFile (10 ∷ []) 4097 8192) ≡ some 2
   pub file3 : numberIn (rateFile ([]) 4097 8192) ≡ some 3
   pub file4 : numberIn (rateFile (field 2) 4097 8192) ≡ some 4
   pub file5 : numberIn (rateFile (headed 2 4 end) 4097 8192) ≡ some 5
@@ -101,11 +101,11 @@ pub record Refusals : Type 0 where
   pub ask11 : numberIn (askIrreducible (GF 2) []) ≡ some 11
   -- the reader refuses the whole file, whatever number is asked for
   pub read1 : numberIn (readRecord (replicate 16385 0) 0) ≡ some 1
-  pub read2 : numberIn (readRecord (box 7 ++ (9 ∷ [])) 0) ≡ some 2
+  pub read2 : numberIn (readRecord (box 7 ++ (10 ∷ [])) 0) ≡ some 2
   pub read3 : numberIn (readRecord (box 7) 0) ≡ some 3
   pub read4 : numberIn (readRecord (box 7 ++ end) 0) ≡ some 4
   pub read5 : numberIn (readRecord (headed 2 4 end) 0) ≡ some 5
-  -- factors are accepted when 6 and 9 to 14 do not turn them down
+  -- factors are accepted when 6 or 20 and 9 to 14 do not turn them down
   pub accepted : acceptedFactors (GF 2) (x+1 ∷ x²+x+1 ∷ []) (1 ∷ 1 ∷ []) ≡ true
   pub accepted6 : acceptedFactors (GF 4) (x+1 ∷ x²+x+1 ∷ []) (1 ∷ 1 ∷ []) ≡ false
   pub accepted9 : acceptedFactors (GF 2) [] [] ≡ false

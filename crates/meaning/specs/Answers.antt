@@ -22,7 +22,7 @@ use Rattle.meaning.specs.declared.Refusal.the-variants.{DegreeOutOfRange
 use Rattle.meaning.specs.declared.Refusal.the-variants.{Reducible}
 use Rattle.meaning.specs.declared.Refusal.the-variants.{EqualFactors, UpperPowers, TooFewTerms}
 use Rattle.meaning.specs.declared.Refusal.the-variants.{LentTooShort, NotAnnihilated, MeterFull}
-use Rattle.meaning.specs.declared.Refusal.the-variants.{NoEntry}
+use Rattle.meaning.specs.declared.Refusal.the-variants.{NoEntry, NotBinaryField}
 use Rattle.meaning.specs.declared.Irreducibility.{Irreducibility}
 use Rattle.meaning.specs.declared.PowerRating.{PowerRating}
 use Rattle.meaning.specs.declared.SetOutcome.{SetOutcome}
@@ -60,6 +60,7 @@ numberOf LentTooShort = 16
 numberOf NotAnnihilated = 17
 numberOf MeterFull = 18
 numberOf NoEntry = 19
+numberOf NotBinaryField = 20
 
 unfoldable pub toldIrreducible : Irreducibility → Result Bool
 toldIrreducible Irreducibility.Irreducible = answered true

@@ -1,5 +1,5 @@
--- The conditions 6 to 16 of the numbered list of refusals. (1 to 5 are in Route, 17 is in each way that meets
--- it, 18 in Meter, 19 in Catalogue.) Each is a test on numbers and lists of any size. A pair is a factor with
+-- The conditions 6 to 16 and 20 of the numbered list of refusals. (1 to 5 are in Route, 17 is in each way that
+-- meets it, 18 in Meter, 19 in Catalogue.) Each is a test on numbers and lists of any size. A pair is a factor with
 -- its upper power.
 --
 --   named factors uppers == each factor with its upper power, in order; 0 for a factor without one; further
@@ -28,7 +28,7 @@ totalDegree (f ∷ l) = f .1 * degree (f .0) + totalDegree l
 unfoldable pub notPrime : ℕ → Bool
 notPrime p = not (primeInRange p)
 
--- whether n and low name no field of 2^n elements: n is not 2 to 8, low has a bit at or above n, or the
+-- 20: n and low name no field of 2^n elements: n is not 2 to 8, low has a bit at or above n, or the
 -- reducing polynomial is reducible
 unfoldable pub leastExtension : ℕ
 leastExtension = 2

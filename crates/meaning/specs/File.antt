@@ -12,7 +12,7 @@
 --   FileFigures         == the degree (complexity), the denominator of the density, which is the repeat
 --                          length in the period mode and else the number of terms given, and the label
 --   rateMode m F fs ts answer work == the answer of the mode's way in the field F
---   fieldIn rs          == the name of the field that the records hold
+--   fieldIn rs          == the name of the field that the records hold: by kind 9, or else by kind 2
 --   rateRecords rs answer work == the answer of the mode's way on what the records hold
 --   rateFile file answer work  == the answer for a file: the refusals 1 to 5, then those of its mode
 use Prim.Native.Nat.{ℕ}
@@ -115,7 +115,11 @@ rateMode setMode F fs ts answer work =
 rateMode freeMode F fs ts answer work = ofFree (length ts) (freeIn F ts answer work)
 
 unfoldable pub fieldIn : List RouteRecord → FieldName
-fieldIn rs = FieldName.Prime (byteOf 2 rs)
+fieldIn rs =
+    elim (bodies 9 rs) [
+      | [] ↦ FieldName.Prime (byteOf 2 rs)
+      | body ∷ _ ↦ FieldName.Binary (getD body 0 0) (getD body 1 0)
+    ]
 
 unfoldable pub rateRecords : List RouteRecord → ℕ → ℕ → Result (Rated FileFigures)
 rateRecords rs answer work =

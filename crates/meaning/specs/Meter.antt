@@ -1,7 +1,7 @@
 -- The meter: the free way's figures after each term.
 --
 --   freeFigures F ts   == the degree that the free way gives for the terms, and whether the word is `one`
---   startMeter name    == a meter is started for the field with this name, or 6
+--   startMeter name    == a meter is started for the field with this name, or 6 or 20
 --   termTable F n t    == what a term t meets where n terms are held: 8, then 18
 --   takeTerm F ts t    == the figures after the term, or its refusal
 --   meterReading F ts  == the figures that a meter shows which holds the terms ts; for none 0 and `one`

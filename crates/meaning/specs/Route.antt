@@ -3,8 +3,8 @@
 --   lookUp k l        == the value beside the first k of a list of pairs, or none
 --   bodyLengths       == the kinds of record with the lengths of their bodies
 --   Stage             == how far the order of records has come
---   admitted stage    == the kinds that may stand next, each with the stage after it: 1, 2, 3 once each, then
---                        factors, then terms, then the end; a stop (7) anywhere between 1 and 8; nothing
+--   admitted stage    == the kinds that may stand next, each with the stage after it: 1, 2 or 9, 3 once each,
+--                        then factors, then terms, then the end; a stop (7) anywhere between 1 and 8; nothing
 --                        after the end
 --   RouteRecord       == a record by its kind and its body
 --   walk bytes skip stage == the records from here on, where `skip` bytes are left of the body before: at
@@ -35,7 +35,7 @@ lookUp k [] = none
 lookUp k (e ∷ l) = elim (eqb k (e .0)) [ true ↦ some (e .1) | false ↦ lookUp k l ]
 
 unfoldable pub bodyLengths : List (ℕ × ℕ)
-bodyLengths = (1, 4) ∷ (2, 1) ∷ (3, 1) ∷ (4, 35) ∷ (5, 64) ∷ (6, 1) ∷ (7, 8) ∷ (8, 0) ∷ []
+bodyLengths = (1, 4) ∷ (2, 1) ∷ (3, 1) ∷ (4, 35) ∷ (5, 64) ∷ (6, 1) ∷ (7, 8) ∷ (8, 0) ∷ (9, 2) ∷ []
 
 pub data Stage : Type 0 where
   atStart : Stage
@@ -47,7 +47,7 @@ pub data Stage : Type 0 where
 
 unfoldable pub admitted : Stage → List (ℕ × Stage)
 admitted atStart = (1, afterBox) ∷ []
-admitted afterBox = (2, afterField) ∷ (7, afterBox) ∷ []
+admitted afterBox = (2, afterField) ∷ (7, afterBox) ∷ (9, afterField) ∷ []
 admitted afterField = (3, inFactors) ∷ (7, afterField) ∷ []
 admitted inFactors = (4, inFactors) ∷ (5, inTerms) ∷ (6, inTerms) ∷ (7, inFactors) ∷ (8, afterEnd) ∷ []
 admitted inTerms = (5, inTerms) ∷ (6, inTerms) ∷ (7, inTerms) ∷ (8, afterEnd) ∷ []

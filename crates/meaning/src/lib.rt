@@ -2,18 +2,18 @@
 // through the definitions of specs/Answers.antt, which give each case the number and the values of paper 01.
 
 // The name of a field: GF(p) by its prime p, GF(2^n) by its degree n and the coefficients of its reducing
-// polynomial below y^n, as the bits of a number. Any numbers are a name, and 6 turns down those of no field
-// in range. It turns down every name of the second kind as yet.
+// polynomial below y^n, as the bits of a number. Any numbers are a name; 6 turns down those of the first kind
+// that name no field in range, and 20 those of the second.
 pub enum FieldName {
     Prime(u64),
     Binary { degree: u64, low: u64 },
 }
 
-// Why a call is turned down, in the order of the numbered list (1 to 19).
+// Why a call is turned down, in the order of the numbered list (1 to 20).
 pub enum Refusal {
     // 1: the file has more than 16,384 bytes
     FileTooLong,
-    // 2: the kind byte of a record is not 1 to 8
+    // 2: the kind byte of a record is not 1 to 9
     UnknownKind,
     // 3: the file ends inside a body or before the end record
     FileCutShort,
@@ -50,6 +50,8 @@ pub enum Refusal {
     MeterFull,
     // 19: no entry of the catalogue has a power that annihilates the period
     NoEntry,
+    // 20: n is not 2 to 8, or the reducing polynomial has a bit at or above n or is reducible
+    NotBinaryField,
 }
 
 // Whether a polynomial is irreducible.
@@ -170,4 +172,51 @@ pub enum RecordOutcome {
 pub struct FoundRecord<'a> {
     pub outcome: RecordOutcome,
     pub body: &'a [u8],
+}
+
+// FOR OTHER LANGUAGES: what the exported calls take and return by value, laid out as C lays it out. The
+// status is 0, or the number of the refusal; then every other number is 0.
+
+// A field by two numbers: GF(number) where the degree is 0, and else GF(2^degree), reduced by y^degree and
+// the bits of the number.
+#[repr(C)]
+pub struct FieldNumbers {
+    pub degree: u64,
+    pub number: u64,
+}
+
+// A rating. The powers stand in the order of the factors, then zeros; the word of the free way is 1 for
+// `one` and 2 for `some`. What a way does not tell is 0.
+#[repr(C)]
+pub struct Rating {
+    pub status: u64,
+    pub complexity: u64,
+    pub repeat: u64,
+    pub word: u64,
+    pub powers: [u64; 8],
+}
+
+// The answer to a question: 1 for yes, 0 for no.
+#[repr(C)]
+pub struct Answer {
+    pub status: u64,
+    pub yes: u64,
+}
+
+// What a search of the catalogue finds.
+#[repr(C)]
+pub struct Entry {
+    pub status: u64,
+    pub entry: u64,
+    pub power: u64,
+}
+
+// What the route reader finds: the body of the record is the part of the file that begins at `from` and has
+// `length` bytes.
+#[repr(C)]
+pub struct Found {
+    pub status: u64,
+    pub kind: u64,
+    pub from: u64,
+    pub length: u64,
 }

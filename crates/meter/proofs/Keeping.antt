@@ -28,8 +28,9 @@ use Rattle.meaning.specs.FieldNames.{namedField}
 use Rattle.meaning.specs.Free.{isUnique}
 use Rattle.meaning.specs.Meter.{Remembers, Holding, meterReading}
 use Rattle.bridge.proofs.Basics.Searches.{T-true}
-use Rattle.bridge.proofs.Basics.Interpretation.{IsField, named-isField}
+use Rattle.bridge.proofs.Basics.Interpretation.{IsField}
 use Rattle.bridge.proofs.Basics.Padding.{pad, length-pad}
+use Rattle.bridge.proofs.Binary.NamedFields.{named-isField}
 use Rattle.bridge.proofs.Massey.Steps.{MasseyState, masseyAfter, massey-sizes, massey-half, after-local}
 use Rattle.bridge.proofs.Massey.Answer.{massey-least, massey-reading}
 use Rattle.bridge.proofs.Massey.Meters.{take-stored}

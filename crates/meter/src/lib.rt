@@ -49,8 +49,8 @@ fn recurrence_of(meter: Meter) -> Recurrence
     }
 }
 
-// A meter for terms of the field with this name that holds none, or the refusal by 6. If it starts, it clears
-// the work bytes.
+// A meter for terms of the field with this name that holds none, or the refusal by 6 or 20. If it starts, it
+// clears the work bytes.
 pub fn start_meter(name: FieldName, work: &mut [u8; 8192]) -> MeterStart
     ensures { λ r. ⌜ StartCall meterModel name (now (work .entry)) r (now (work .exit)) ⌝ }
 {

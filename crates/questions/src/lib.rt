@@ -54,7 +54,7 @@ fn ask(field: GaloisField, coefficients: &[u8]) -> Irreducibility
 }
 
 // Whether the polynomial with these coefficients, constant first, is irreducible over the field with this
-// name, or the refusal by 6, 10 or 11. It stands for its monic multiple.
+// name, or the refusal by 6 or 20, 10 or 11. It stands for its monic multiple.
 pub fn is_irreducible(name: FieldName, coefficients: &[u8]) -> Irreducibility
     ensures { λ r. ⌜ IrreducibleCall name (now (coefficients .entry)) r ⌝ }
 {

@@ -10,21 +10,38 @@ use meaning::FieldName;
 use meaning::FileRating;
 use refusals::Verdict;
 use refusals::terms_verdict;
+use route::framing::body_of;
 use route::framing::count_of;
+use route::payload::byte_at;
 use route::payload::byte_of;
 ghost use mathlib.Core.Path.{_≡_};
-ghost use lib.ListN.{length, take};
+ghost use lib.ListN.{length, getD, take};
+ghost use Rattle.meaning.specs.declared.FieldName.{FieldName};
 ghost use Rattle.meaning.specs.File.{fieldIn, termsOf, rateRecords};
 ghost use Rattle.arith.specs.Represented.{fieldOf, WellFormed};
 ghost use Rattle.route.specs.framing.Framing.{recordsFrom};
 ghost use Rattle.rate_file.specs.outcomes.Outcomes.{RatedFile};
 ghost use Rattle.rate_file.specs.records.Accepted.{AcceptedRecords, Rateable, ratedIn};
 
+// The name of a field of 2^n elements by the body of kind 9.
+fn binary_name(body: &[u8]) -> FieldName
+    ensures { λ r. ⌜ r ≡ FieldName.Binary (getD (now (body .entry)) 0 0) (getD (now (body .entry)) 1 0) ⌝ }
+{
+    FieldName::Binary {
+        degree: byte_at(body, 0) as u64,
+        low: byte_at(body, 1) as u64,
+    }
+}
+
 // The name of the field that a file holds.
 fn field_name(file: &[u8]) -> FieldName
     ensures { λ r. ⌜ r ≡ fieldIn (recordsFrom (now (file .entry)) 0) ⌝ }
 {
-    FieldName::Prime(byte_of(file, 2) as u64)
+    if count_of(file, 9) == 0 {
+        FieldName::Prime(byte_of(file, 2) as u64)
+    } else {
+        binary_name(body_of(file, 9, 0))
+    }
 }
 
 // The rating of an accepted file in a field, once 7 and 8 accept the terms: 10 and 11 as a file meets them,

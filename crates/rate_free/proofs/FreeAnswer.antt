@@ -1,7 +1,7 @@
 -- The contract of the free way, by its two ends: the verdict refuses, or the shortest recurrence answers.
 --
---   checked-verdict   == where 6, 7 and 8 let pass, 16 alone decides
---   terms-refused     == the contract where one of 6, 7 and 8 refuses
+--   checked-verdict   == where the name, 7 and 8 let pass, 16 alone decides
+--   terms-refused     == the contract where 7 or 8 refuses
 --   FreeAccepted F ts answer work == what holds where no refusal of the free way does
 --   verdict-open      == where the verdict accepts, none of the refusals holds
 --   verdict-accepted  == and so what they exclude does not either

@@ -54,8 +54,8 @@ fn rate_in(field: GaloisField, terms: &[u8], answer: &mut [u8], work: &mut [u8])
 }
 
 // The least degree L of a monic polynomial over the field with this name that annihilates the m terms, and
-// whether 2L is at most m, so that only one of that degree does; or the refusal by 6, 7, 8 or 16. If it
-// accepts, it writes the first of these polynomials at the front of the answer (two are compared from the
+// whether 2L is at most m, so that only one of that degree does; or the refusal by 6 or 20, 7, 8 or 16. If
+// it accepts, it writes the first of these polynomials at the front of the answer (two are compared from the
 // coefficient of degree L − 1 downwards) and clears the first 8,192 work bytes. Every other lent byte stays
 // as it was.
 pub fn rate_free(name: FieldName, terms: &[u8], answer: &mut [u8], work: &mut [u8]) -> FreeRating

@@ -27,5 +27,6 @@ pub fn refusal_number(r: Refusal) -> u64
         Refusal::NotAnnihilated => 17,
         Refusal::MeterFull => 18,
         Refusal::NoEntry => 19,
+        Refusal::NotBinaryField => 20,
     }
 }

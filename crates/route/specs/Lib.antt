@@ -1,3 +1,4 @@
 pub mod framing
 pub mod payload
 pub mod walk
+pub mod reader

@@ -11,15 +11,15 @@ ghost use Rattle.route.specs.framing.Framing.{bodyLength, recordsFrom, N
 // The length that stands for a kind that there is not.
 pub const NO_KIND: usize = 255;
 
-// The lengths of the bodies by kind, 1 to 8.
-const LENGTHS: [usize; 9] = [NO_KIND, 4, 1, 1, 35, 64, 1, 8, 0];
+// The lengths of the bodies by kind, 1 to 9.
+const LENGTHS: [usize; 10] = [NO_KIND, 4, 1, 1, 35, 64, 1, 8, 0, 2];
 
 // The length of the body of a record by its kind.
 pub fn body_length(kind: u8) -> usize
     ensures { λ r. ⌜ r ≡ bodyLength kind ⌝ }
 {
     let k = kind as usize;
-    if k <= 8 { LENGTHS[k] } else { NO_KIND }
+    if k <= 9 { LENGTHS[k] } else { NO_KIND }
 }
 
 // The part of at most `count` bytes from the place `from` on, cut where the bytes end.

@@ -1,6 +1,6 @@
-// What a file holds, by its records with nothing checked: the box that sent it, the bytes p and mode, its
-// factors and its terms. Each function answers for every file; only `gather_terms` and `lay_factor` write,
-// and only into the bytes lent for it.
+// What a file holds, by its records with nothing checked: the box that sent it, the bytes of its field and
+// mode, its factors and its terms. Each function answers for every file; only `gather_terms` and `lay_factor`
+// write, and only into the bytes lent for it.
 use crate::framing::body_at;
 use crate::framing::body_of;
 use crate::framing::count_of;
@@ -45,18 +45,18 @@ pub fn box_of(file: &[u8]) -> u64
     big_endian(part(file, 1, 4))
 }
 
-// The first byte; 0 where there is none. That of the body of a factor is its degree.
-fn first_byte(bytes: &[u8]) -> u8
-    ensures { λ r. ⌜ r ≡ getD (now (bytes .entry)) 0 0 ⌝ }
+// Byte i of a body; 0 beyond the last. Byte 0 of a factor is its degree.
+pub fn byte_at(bytes: &[u8], i: usize) -> u8
+    ensures { λ r. ⌜ r ≡ getD (now (bytes .entry)) i 0 ⌝ }
 {
-    if 0 < bytes.len() { bytes[0] } else { 0 }
+    if i < bytes.len() { bytes[i] } else { 0 }
 }
 
 // The one byte of the first record of the kind; 0 where there is none.
 pub fn byte_of(file: &[u8], kind: u8) -> u8
     ensures { λ r. ⌜ r ≡ byteOf kind (recordsFrom (now (file .entry)) 0) ⌝ }
 {
-    first_byte(body_of(file, kind, 0))
+    byte_at(body_of(file, kind, 0), 0)
 }
 
 // The upper power that the body of a factor names.
@@ -145,7 +145,7 @@ pub fn lay_factor(body: &[u8], to: &mut [u8], at: usize) -> usize
     requires { ⌜ at ≤ length (now to) ⌝ }
     ensures { λ r. ⌜ LaidFactor (now (body .entry)) at (now (to .entry)) r (now (to .exit)) ⌝ }
 {
-    let degree = first_byte(body);
+    let degree = byte_at(body, 0);
     let low = part(body, 3, degree as usize);
     lay(low, to, at);
     let one = [1u8; 1];

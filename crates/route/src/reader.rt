@@ -12,6 +12,7 @@ ghost use Rattle.meaning.specs.Answers.{toldRecord};
 ghost use Rattle.meaning.specs.Calls.{bodyAfter, RecordCall};
 ghost use Rattle.meaning.specs.Result.{mapResult};
 ghost use Rattle.meaning.specs.Route.{readRecord};
+ghost use Rattle.route.specs.reader.Starting.{BodyStart};
 
 // The kind of record n, counted from 0, or the refusal of the file; beyond the last record that of the end
 // record.
@@ -35,6 +36,15 @@ pub fn record_body(file: &[u8], n: usize) -> &[u8]
         Verdict::Refused(_) => &file[0..0],
         Verdict::Accepted => body_at(file, place_of(file, n)),
     }
+}
+
+// The place in the file where the body of record n begins, if the file is accepted; beyond the last record
+// the end of the file.
+pub fn body_start(file: &[u8], n: usize) -> usize
+    ensures { λ r. ⌜ BodyStart (now (file .entry)) n r ⌝ }
+{
+    let at = place_of(file, n);
+    if at < file.len() { at + 1 } else { file.len() }
 }
 
 // Record n, counted from 0: its kind or the refusal of the file, and its body as a part of the file.

@@ -19,20 +19,20 @@ pub enum Step {
 // The number that stands for no stage.
 const NO_STAGE: u8 = 6;
 
-// The stage after a record, by the stage before it (a row) and the kind of the record (a column, 0 to 8).
-const AFTER: [[u8; 9]; 6] = [
+// The stage after a record, by the stage before it (a row) and the kind of the record (a column, 0 to 9).
+const AFTER: [[u8; 10]; 6] = [
     // at the start: the box
-    [6, 1, 6, 6, 6, 6, 6, 6, 6],
-    // after the box: p, or a stop
-    [6, 6, 2, 6, 6, 6, 6, 1, 6],
-    // after p: the mode, or a stop
-    [6, 6, 6, 3, 6, 6, 6, 2, 6],
+    [6, 1, 6, 6, 6, 6, 6, 6, 6, 6],
+    // after the box: the field, by either kind, or a stop
+    [6, 6, 2, 6, 6, 6, 6, 1, 6, 2],
+    // after the field: the mode, or a stop
+    [6, 6, 6, 3, 6, 6, 6, 2, 6, 6],
     // in the factors: a factor, terms, a stop, or the end
-    [6, 6, 6, 6, 3, 4, 4, 3, 5],
+    [6, 6, 6, 6, 3, 4, 4, 3, 5, 6],
     // in the terms: terms, a stop, or the end
-    [6, 6, 6, 6, 6, 4, 4, 4, 5],
+    [6, 6, 6, 6, 6, 4, 4, 4, 5, 6],
     // after the end: nothing
-    [6, 6, 6, 6, 6, 6, 6, 6, 6],
+    [6, 6, 6, 6, 6, 6, 6, 6, 6, 6],
 ];
 
 // The stage after a record of the kind, by number; NO_STAGE where the record is out of place.
@@ -44,7 +44,7 @@ fn stage_after(stage: u8, kind: u8) -> u8
     if 5 < s {
         return NO_STAGE;
     }
-    if 8 < k {
+    if 9 < k {
         return NO_STAGE;
     }
     AFTER[s][k]

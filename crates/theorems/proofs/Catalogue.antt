@@ -4,12 +4,12 @@ use Prim.Native.Nat.{ℕ, suc, _+_, _-_, _≤_, _<_}
 use native.Mathlib.Omega.{arith}
 use mathlib.Core.Path.{_≡_, refl, sym, ap, subst, subst₂, _∙_}
 use mathlib.Core.Logic.{_⊎_, inl, inr}
-use mathlib.Core.Bool.{Bool, true, false, _||_}
+use mathlib.Core.Bool.{Bool, true, false, not, _||_}
 use mathlib.Core.List.{List}
 use mathlib.Core.Option.{Option, none, some}
 use lib.ListN.{length, getD, take, drop, List·getD-eq-default}
 use borrow.Author.Tests.{ltb-true, lt-ltb}
-use lib.Dec.{T, eqb, eqb→eq, eqb-refl, leb, leb→le}
+use lib.Dec.{T, eqb, eqb→eq, eqb-refl}
 use Rattle.meaning.specs.declared.EntryRating.{EntryRating}
 use Rattle.meaning.specs.Search.{holdsForAll, holdsForSome, isNone}
 use Rattle.meaning.specs.Polynomial.{degree, NotAProduct}
@@ -21,11 +21,12 @@ use Rattle.meaning.specs.Period.{NoPower}
 use Rattle.meaning.specs.Catalogue.{EntryFigures, entryPolynomial, catalogue, entryPower, firstEntry}
 use Rattle.meaning.specs.Catalogue.{entryTable, findEntry}
 use Rattle.meaning.specs.Answers.{toldEntry}
+use Rattle.meaning.specs.Exports.{statusOf, entryTold}
 use Rattle.meaning.proofs.Tables.{isNone-none}
 use Rattle.meaning.proofs.Determined.{refusals, refusalOf, entry-call-determined, catalogue-call-determined}
 use Rattle.meaning.proofs.CatalogueRows.{zero-entry}
-use Rattle.bridge.proofs.Basics.Searches.{true-T, some-member, member-some, all-member, settle-answered}
-use Rattle.bridge.proofs.Basics.Searches.{settle-refused}
+use Rattle.bridge.proofs.Basics.Searches.{true-T, false-T, some-member, member-some, all-member}
+use Rattle.bridge.proofs.Basics.Searches.{settle-answered, settle-refused}
 use Rattle.bridge.proofs.Lists.Irreducibles.{irreducible-words, words-irreducible}
 use Rattle.bridge.proofs.Binary.Words.{value}
 use Rattle.bridge.proofs.Binary.Bits.{binary-isField}
@@ -173,22 +174,27 @@ search-lent ts work (inl (a, e)) =
 search-lent ts work (inr e) =
     lent-enough 4097 work (settle-refused _ (entryTable ts work) (omega arith) e .0 .lentEnough) .1
 
--- a number of the search is 19, or at most 16
-low-or-last : (n : ℕ) → OneOf n searchNumbers → (n ≤ 16) ⊎ (n ≡ 19)
-unfolding holdsForAll
-low-or-last n h =
+search-clears : T (holdsForAll (λ k. not (clears k) || eqb k 19) searchNumbers)
+unfolding holdsForAll clears clearing holdsForSome
+search-clears = tt
+
+-- a number of the search is 19, or one after which the work bytes are kept
+kept-or-last : (n : ℕ) → OneOf n searchNumbers → (OneOf n clearing → ⊥) ⊎ (n ≡ 19)
+unfolding clears
+kept-or-last n h =
     let (k, m, z) = some-member (eqb n) searchNumbers h in
-    subst (λ j. (j ≤ 16) ⊎ (j ≡ 19)) (sym (eqb→eq n k z))
-    (by k (leb k 16) refl (all-member (λ k. leb k 16 || eqb k 19) searchNumbers tt k m))
+    subst (λ j. (OneOf j clearing → ⊥) ⊎ (j ≡ 19)) (sym (eqb→eq n k z))
+    (by k (clears k) refl (all-member (λ k. not (clears k) || eqb k 19) searchNumbers search-clears k m))
   where
-    by : (k : ℕ) (b : Bool) → leb k 16 ≡ b → T (leb k 16 || eqb k 19) → (k ≤ 16) ⊎ (k ≡ 19)
-    by k true e t = inl (leb→le k 16 (true-T e))
-    by k false e t = inr (eqb→eq k 19 (subst (λ b. T (b || eqb k 19)) e t))
+    by : (k : ℕ) (b : Bool) → clears k ≡ b → T (not (clears k) || eqb k 19)
+        → (OneOf k clearing → ⊥) ⊎ (k ≡ 19)
+    by k true e t = inr (eqb→eq k 19 (subst (λ b. T (not b || eqb k 19)) e t))
+    by k false e t = inl (false-T e)
 
 cleared-or-kept : (told : Result EntryFigures) → Tells searchNumbers told
-    → (Answered told ⊎ (told ≡ refused 19)) ⊎ ((n : ℕ) × (told ≡ refused n) × (n ≤ 16))
+    → (Answered told ⊎ (told ≡ refused 19)) ⊎ ((n : ℕ) × (told ≡ refused n) × (OneOf n clearing → ⊥))
 cleared-or-kept told (inl a) = inl (inl a)
-cleared-or-kept told (inr (n, e, h)) = elim (low-or-last n h) [
+cleared-or-kept told (inr (n, e, h)) = elim (kept-or-last n h) [
   | inl l ↦ inr (n, e, l)
   | inr q ↦ inl (inr (e ∙ ap refused q))
 ]
@@ -201,7 +207,7 @@ module _ (ts : List ℕ) (told : Result EntryFigures) (work work′ : List ℕ) 
     search-cleared (inl (a, e)) = w ∙ ap (λ x. workAfter x work) e
     search-cleared (inr e) = w ∙ ap (λ x. workAfter x work) e
 
-    search-kept : (n : ℕ) → told ≡ refused n → n ≤ 16 → work′ ≡ work
+    search-kept : (n : ℕ) → told ≡ refused n → (OneOf n clearing → ⊥) → work′ ≡ work
     search-kept n e l = w ∙ ap (λ x. workAfter x work) e ∙ work-untouched EntryFigures n work l
 
     search-leaves : Tells searchNumbers told → Decided (searchConditions ts (length work)) told
@@ -290,34 +296,31 @@ pub entry-promise : EntryPromise
 entry-promise ts work r work′ c = entry-right ts (length work) (toldEntry r) (c .finding)
 
 -- OTHER LANGUAGES
+entry-status : (x : Result EntryFigures) → entryTold x .status ≡ statusOf x
+unfolding entryTold statusOf
+entry-status (refused n) = refl
+entry-status (answered a) = refl
+
 pub search-export : SearchExport
 unfolding holdsForSome
-search-export ts work entry power status work′ entry′ power′ x =
+search-export ts work r work′ x =
     let result = findEntry ts (length work) in
     record {
       told = result;
       status-told =
-          status-told searchNumbers result status (no-zero searchNumbers tt) (search-tells ts (length work))
-          (x .figures .told);
-      figures-told = x .figures;
+          status-told searchNumbers result (r .status) (no-zero searchNumbers tt)
+          (search-tells ts (length work)) (ap (λ t. t .status) (x .told) ∙ entry-status result);
+      entry-told = x .told;
       answers = search-each ts work result work′ refl (x .workBytes);
       right = entry-right ts (length work) result refl;
     }
 
 pub search-export-answers : SearchExportAnswers
-search-export-answers ts work entry power =
+search-export-answers ts work =
     record {
-      some = (
-        _,
-        record {
-          figures = record { told = refl; entryAfter = refl; powerAfter = refl };
-          workBytes = refl;
-        },
-      );
+      some = (_, record { told = refl; workBytes = refl });
       one = λ r s c d.
-          let status = c .figures .told ∙ sym (d .figures .told) in
+          let tolds = c .told ∙ sym (d .told) in
           let works = c .workBytes ∙ sym (d .workBytes) in
-          let entries = c .figures .entryAfter ∙ sym (d .figures .entryAfter) in
-          let powers = c .figures .powerAfter ∙ sym (d .figures .powerAfter) in
-          λ i. (status i, works i, entries i, powers i);
+          λ i. (tolds i, works i);
     }

@@ -1,22 +1,30 @@
 -- The tests of the conditions are the words of the numbered list. Assumes nothing.
 use Prim.Native.Nat.{ℕ, _-_, _/_, _^_, _≤_, _<_}
-use mathlib.Core.Path.{_≡_, subst}
+use mathlib.Core.Path.{_≡_, refl, sym, subst}
 use mathlib.Core.Logic.{_↔_, _⊎_, inl, inr, _≢_}
 use mathlib.Core.Bool.{Bool, true, false, not, _||_}
 use mathlib.Core.List.{List}
 use native.Mathlib.Omega.{arith}
 use lib.ListN.{length, getD}
-use lib.Dec.{T, eqb, ltb, T-not, not-T, ltb→lt, nltb→le, eqb→eq, eqb-refl}
+use borrow.Author.Tests.{le-leb}
+use lib.Dec.{T, eqb, ltb, leb, T-not, not-T, ltb→lt, nltb→le, eqb→eq, eqb-refl}
 use Rattle.meaning.specs.declared.FieldName.{FieldName}
-use Rattle.meaning.specs.Field.{Field, PrimeNumber, primeInRange, areElements}
-use Rattle.meaning.specs.Polynomial.{Polynomial, degree, leading}
-use Rattle.meaning.specs.Conditions.{notPrime, countOutOfRange, placeOutOfRange, termOutOfField}
+use Rattle.meaning.specs.Field.{Field, prime, PrimeNumber, primeInRange, areElements}
+use Rattle.meaning.specs.Polynomial.{Polynomial, degree, leading, irreducible, NotAProduct}
+use Rattle.meaning.specs.Extension.{reducing}
+use Rattle.meaning.specs.Conditions.{notPrime, notBinary, leastExtension, largestExtension}
+use Rattle.meaning.specs.Conditions.{countOutOfRange, placeOutOfRange, termOutOfField}
 use Rattle.meaning.specs.Conditions.{factorCountOutOfRange, degreeOutOfRange, continuationDegreeOutOfRange}
 use Rattle.meaning.specs.Conditions.{coefficientOutOfRange, fewerTermsThan, startUnlikeDegree, lentTooShort}
 use Rattle.meaning.specs.FieldNames.{notField}
 use Rattle.theorems.specs.Ratings.{ConditionWords}
 use Rattle.bridge.proofs.Basics.Interpretation.{inRange-prime, prime-inRange, prime-meaning, meaning-prime}
+use Rattle.bridge.proofs.Basics.Searches.{T-true, false-T}
 use Rattle.bridge.proofs.Lists.Polynomials.{elements-getD, getD-elements}
+use Rattle.bridge.proofs.Lists.Irreducibles.{irreducible-words, words-irreducible}
+use Rattle.bridge.proofs.Binary.Bits.{binary-isField}
+use Rattle.bridge.proofs.Binary.Extension.{degree-reducing, reducing-monic}
+use Rattle.bridge.proofs.Binary.BinaryNumbers.{binary-name}
 
 either : {A B : Type 0} (a b : Bool) → T a ↔ A → T b ↔ B → T (a || b) ↔ (A ⊎ B)
 either true b f g = (λ h. inl (f .0 tt), λ h. tt)
@@ -85,11 +93,44 @@ six-words : (p : ℕ) → T (notField (FieldName.Prime p)) ↔ ((PrimeNumber p �
 unfolding notField notPrime
 six-words p = neither (primeInRange p) (in-range p)
 
+-- 20 holds of none of the names in range, and of every other
+named-passes : (n low : ℕ) → 2 ≤ n → n ≤ 8 → low < 2 ^ n → T (irreducible (prime 2) (reducing n low))
+    → notBinary n low ≡ false
+unfolding notBinary leastExtension largestExtension
+named-passes n low l m s i =
+    let below : ltb low (2 ^ n) ≡ true = T-true (lt-intro low (2 ^ n) s) in
+    let whole : irreducible (prime 2) (reducing n low) ≡ true = T-true i in
+    rw (notBinary, le-leb 2 n l, le-leb n 8 m, below, whole)
+
+twenty-words : (n low : ℕ)
+    → T (notField (FieldName.Binary n low))
+    ↔ (((2 ≤ n) × (n ≤ 8) × (low < 2 ^ n) × NotAProduct (prime 2) (reducing n low)) → ⊥)
+unfolding notField
+twenty-words n low = (
+  λ h (l, m, s, i). false-T (named-passes n low l m s (words-irreducible binary-isField _ i)) h,
+  λ h. go (notBinary n low) refl h,
+)
+  where
+    go : (b : Bool) → notBinary n low ≡ b
+        → (((2 ≤ n) × (n ≤ 8) × (low < 2 ^ n) × NotAProduct (prime 2) (reducing n low)) → ⊥)
+        → T b
+    go true e h = tt
+    go false e h =
+        let b = binary-name n low e in
+        h (
+          b .least,
+          b .most,
+          b .small,
+          irreducible-words binary-isField (reducing n low) (reducing-monic n low)
+              (subst (λ k. 1 ≤ k) (sym (degree-reducing n low)) (omega (arith, b .least))) (b .isIrreducible),
+        )
+
 pub condition-words : ConditionWords
 unfolding placeOutOfRange termOutOfField factorCountOutOfRange fewerTermsThan lentTooShort
 condition-words =
     record {
       six = six-words;
+      twenty = twenty-words;
       seven = count-words;
       seven-place =
           λ size place. either (ltb size place) (countOutOfRange (size - place)) (less size place)

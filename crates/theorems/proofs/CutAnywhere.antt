@@ -34,9 +34,10 @@ use Rattle.bridge.proofs.Basics.Interpretation.{IsField}
 use Rattle.bridge.proofs.Lists.Polynomials.{monic-nonempty}
 use Rattle.bridge.proofs.Lists.Products.{MonicFactors, monics-nonempty, factorsOf-named, length-factorsOf}
 use Rattle.bridge.proofs.Lists.Products.{product-elements, product-single, named-one}
-use Rattle.bridge.proofs.Lists.Irreducibles.{Factors, factors-monics, accepted-isField, accepted-different}
+use Rattle.bridge.proofs.Lists.Irreducibles.{Factors, factors-monics}
 use Rattle.bridge.proofs.Lists.Multiples.{associates-annihilate, associates-product, multiples-total}
 use Rattle.bridge.proofs.Basics.Searches.{or-false, false-T, some-head}
+use Rattle.bridge.proofs.Binary.NamedFields.{accepted-isField, accepted-different}
 use Rattle.bridge.proofs.Sequences.Actions.{length-cut, cut-elements, endless-known, periodic-cut}
 use Rattle.bridge.proofs.Sequences.Actions.{actAt-shift}
 use Rattle.bridge.proofs.Sequences.Minimal.{minimal-unique, leastPower-exists}

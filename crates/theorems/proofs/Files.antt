@@ -34,7 +34,8 @@ use Rattle.meaning.specs.Answers.{labelPowers, padded}
 use Rattle.meaning.specs.Calls.{FileCall}
 use Rattle.bridge.proofs.Basics.Searches.{settle-answered, settle-refused, map-answered, map-refused}
 use Rattle.bridge.proofs.Basics.Searches.{in-answered, never-answered, refused-same}
-use Rattle.bridge.proofs.Basics.Interpretation.{IsField, named-isField}
+use Rattle.bridge.proofs.Basics.Interpretation.{IsField}
+use Rattle.bridge.proofs.Binary.NamedFields.{named-isField}
 use Rattle.bridge.proofs.Files.Records.{records-suited, records-whole, records-number}
 use Rattle.bridge.proofs.Files.WrittenFactors.{AllFull, all-full, period-lists, set-lists, first-itself}
 use Rattle.bridge.proofs.Files.WrittenFactors.{lists-themselves}

@@ -1,4 +1,5 @@
 pub mod Words
+pub mod Fields
 pub mod Conditions
 pub mod Deciding
 pub mod Telling

@@ -31,6 +31,7 @@ use Rattle.meaning.specs.Meter.{MeterModel, Remembers, Holding, freeFigures, st
 use Rattle.meaning.specs.Meter.{meterReading}
 use Rattle.meaning.specs.Meter.{unlessRefused, meterFull, profileEntry, profileOf}
 use Rattle.meaning.specs.Answers.{toldFree, toldStart}
+use Rattle.meaning.specs.Exports.{namedBy}
 use Rattle.meaning.specs.Calls.{TermTaken, TermCall, ReadingCall}
 use Rattle.meaning.proofs.Determined.{refusals, refusalOf, start-call-determined, term-call-determined}
 use Rattle.meaning.proofs.Determined.{reading-call-determined}
@@ -42,7 +43,8 @@ use Rattle.bridge.proofs.Basics.Searches.{refused-same, some-mapOption, mapOpti
 use Rattle.bridge.proofs.Basics.Searches.{answered-settle, T-not-false, T-false}
 use Rattle.bridge.proofs.Lists.Polynomials.{elements-nil, elements-cons, elements-uncons}
 use Rattle.bridge.proofs.Sequences.Continuations.{take-elements}
-use Rattle.bridge.proofs.Basics.Interpretation.{IsField, named-isField}
+use Rattle.bridge.proofs.Basics.Interpretation.{IsField}
+use Rattle.bridge.proofs.Binary.NamedFields.{named-isField}
 use Rattle.bridge.proofs.Ways.Accepted.{AcceptedTerms, accepts-free, terms-accepted}
 use Rattle.bridge.proofs.Ways.Fitting.{free-rated, leastDegree-some}
 use Rattle.bridge.proofs.Massey.Meters.{holding-none, holding-more}
@@ -507,7 +509,7 @@ module _ (name : FieldName) (ts profile : List ℕ) (exists : notField name ≡ 
 
 pub profile-export : ProfileExport
 unfolding unlessRefused written startMeter
-profile-export p ts profile status profile′ x =
+profile-export field ts profile status profile′ x =
     let numbers = startNumbers name in
     let s =
     status-told numbers (startMeter name) status (keeping-zero numbers (start-keeping name)) (start-told name)
@@ -528,14 +530,14 @@ profile-export p ts profile status profile′ x =
     }
   where
     name : FieldName
-    name = FieldName.Prime p
+    name = namedBy field
 
     left : Result (Unit {0}) → List ℕ
     left r =
         unlessRefused r profile (written (profileOf (GF name) [] (take (length profile / 4) ts)) profile)
 
 pub profile-answers : ProfileAnswers
-profile-answers p ts profile =
+profile-answers field ts profile =
     record {
       some = (_, record { told = refl; lent = refl });
       one = λ r s c d.

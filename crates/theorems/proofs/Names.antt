@@ -24,7 +24,8 @@ use Rattle.meaning.proofs.Determined.{refusals, refusalOf}
 use Rattle.meaning.proofs.Tables.{in-field, no-field, number-keeps}
 use Rattle.bridge.proofs.Basics.Searches.{true-T, false-T, some-head, some-tail}
 use Rattle.bridge.proofs.Basics.Searches.{some-uncons, in-answered, in-refused}
-use Rattle.bridge.proofs.Basics.Interpretation.{IsField, named-isField}
+use Rattle.bridge.proofs.Basics.Interpretation.{IsField}
+use Rattle.bridge.proofs.Binary.NamedFields.{named-isField}
 use Rattle.theorems.specs.Ratings.{GF}
 use Rattle.theorems.specs.Answering.{Answered, Tells, Condition, Decided}
 use Rattle.theorems.proofs.Deciding.{refused-decided, append-decided}

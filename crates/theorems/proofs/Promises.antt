@@ -16,6 +16,7 @@ use Rattle.theorems.proofs.Answering.{continue-keeping, irreducible-kee
 use Rattle.theorems.proofs.FileAnswers.{file-answers, record-answers, program-answers, file-tells}
 use Rattle.theorems.proofs.FileAnswers.{read-tells, file-keeping}
 use Rattle.theorems.proofs.Words.{name-words, prime-words, irreducible-words, prime-promise}
+use Rattle.theorems.proofs.Fields.{field-promise}
 use Rattle.theorems.proofs.Conditions.{condition-words}
 use Rattle.theorems.proofs.Words.{irreducible-promise, continue-promise, multiple-promise}
 use Rattle.theorems.proofs.Words.{multiples-promise}
@@ -25,7 +26,8 @@ use Rattle.theorems.proofs.Files.{file-promise}
 use Rattle.theorems.proofs.Program.{record-promise, program-as-call, program-promise}
 use Rattle.theorems.proofs.Density.{density-promise}
 use Rattle.theorems.proofs.OtherLanguages.{period-export, set-export, free-export}
-use Rattle.theorems.proofs.OtherLanguages.{continue-export, irreducible-export, export-answers}
+use Rattle.theorems.proofs.OtherLanguages.{continue-export, irreducible-export, record-export}
+use Rattle.theorems.proofs.OtherLanguages.{export-answers}
 use Rattle.theorems.proofs.Meters.{start-answers, meter-promise, profile-export, profile-answers}
 use Rattle.theorems.proofs.Catalogue.{search-answers, search-tells, entry-answers, catalogue-promise}
 use Rattle.theorems.proofs.Catalogue.{entry-promise, search-export, search-export-answers}
@@ -88,6 +90,7 @@ promises =
       multiple = multiple-promise;
       multiples = multiples-promise;
       name-words = name-words;
+      fields = field-promise;
       prime-words = prime-words;
       irreducible-words = irreducible-words;
       condition-words = condition-words;
@@ -105,6 +108,7 @@ promises =
       free-export = free-export;
       continue-export = continue-export;
       irreducible-export = irreducible-export;
+      record-export = record-export;
       profile-export = profile-export;
       search-export = search-export;
       export-answers = export-answers;

@@ -30,7 +30,7 @@ use Rattle.meaning.specs.Calls.{LentAfter}
 use Rattle.meaning.proofs.Determined.{refusalOf, refusal-found}
 use Rattle.meaning.proofs.Tables.{firstOf-skip, firstOf-stop, settle-none, keeps-low}
 use Rattle.meaning.proofs.Passes.{Passes, firstOf-passes}
-use Rattle.bridge.proofs.Basics.Searches.{T-and, some-head, some-tail, some-member, all-member}
+use Rattle.bridge.proofs.Basics.Searches.{T-and, T-false, some-head, some-tail, some-member, all-member}
 use Rattle.bridge.proofs.Basics.Searches.{never-answered, refused-same, answered-same}
 use Rattle.theorems.specs.Answering.{Answered, OneOf, Tells, Condition, Decided, RatingAnswers}
 use Rattle.theorems.proofs.Deciding.{answered-decided, refused-decided}
@@ -160,8 +160,15 @@ work-kept : (A : Type 0) (n : ℕ) (work : List ℕ)
 unfolding workAfter
 work-kept A n work e = rw (e, workAfter)
 
-pub work-untouched : (A : Type 0) (n : ℕ) (work : List ℕ) → n ≤ 16 → workAfter {A = A} (refused n) work ≡ work
-work-untouched A n work l = work-kept A n work (keeps-low n l)
+pub work-untouched : (A : Type 0) (n : ℕ) (work : List ℕ)
+    → (OneOf n clearing → ⊥)
+    → workAfter {A = A} (refused n) work ≡ work
+unfolding clears
+work-untouched A n work h = work-kept A n work (T-false h)
+
+pub seventeen-clears : {n : ℕ} → n ≡ 17 → OneOf n clearing
+unfolding clearing holdsForSome
+seventeen-clears e = subst (λ k. OneOf k clearing) (sym e) tt
 
 work-17 : (A : Type 0) (n : ℕ) (work : List ℕ) → n ≡ 17 → workAfter {A = A} (refused n) work ≡ cleared work
 unfolding workAfter clears clearing holdsForSome
@@ -205,9 +212,9 @@ refused-lent numbers conditions degreeIn n told answer work answer′ work′ e 
       answer-after = λ a q. never-answered (sym e ∙ q);
       answer-length = ap length kept;
       work-kept =
-          λ k q l.
+          λ k q h.
           let same : k ≡ n = refused-same (sym q ∙ e) in
-          other (λ z. omega arith);
+          other (λ z. h (seventeen-clears (same ∙ z)));
       work-cleared =
           λ x. elim x [
             | inl (a, q) ↦ never-answered (sym e ∙ q)

@@ -40,7 +40,7 @@ use Rattle.theorems.specs.Ratings.{SetPromise, SetAnswered, SingleAnswer
 use Rattle.theorems.specs.Ratings.{FreePromise, FreeAnswered, NoneBegins}
 use Rattle.bridge.proofs.Basics.Searches.{settle-answered, settle-refused, map-answered, map-refused}
 use Rattle.bridge.proofs.Basics.Searches.{in-answered, true-T, not-false, some-mapOption}
-use Rattle.bridge.proofs.Basics.Interpretation.{IsField, named-isField}
+use Rattle.bridge.proofs.Basics.Interpretation.{IsField}
 use Rattle.bridge.proofs.Lists.Polynomials.{monic-nonempty}
 use Rattle.bridge.proofs.Sequences.Minimal.{minimal-degree}
 use Rattle.bridge.proofs.Lists.Products.{Nonempties, MonicFactors, length-named, powerAt-named}
@@ -48,9 +48,10 @@ use Rattle.bridge.proofs.Lists.Products.{degree-power, degree-product, product-
 use Rattle.bridge.proofs.Lists.Products.{accepted-monic, factorsOf-named, monics-nonempty, product-single}
 use Rattle.bridge.proofs.Lists.Products.{total-one}
 use Rattle.bridge.proofs.Lists.Irreducibles.{Factors, accepted-degree, accepted-irreducible, factors-monics}
-use Rattle.bridge.proofs.Lists.Irreducibles.{multiples-factors, single-factor, accepted-isField}
+use Rattle.bridge.proofs.Lists.Irreducibles.{multiples-factors, single-factor}
 use Rattle.bridge.proofs.Lists.Multiples.{coefficients-lead, multiple-ten, multiple-eleven, multiples-ten}
 use Rattle.bridge.proofs.Lists.Multiples.{multiples-eleven}
+use Rattle.bridge.proofs.Binary.NamedFields.{named-isField, accepted-isField}
 use Rattle.bridge.proofs.Ways.Portions.{setPowers-minimal, annihilated-agrees, nothing-continues}
 use Rattle.bridge.proofs.Ways.Portions.{portion-least}
 use Rattle.bridge.proofs.Ways.Portions.{onward-continues, onward-unique, leastAt-upper}

@@ -6,11 +6,13 @@
 --   …-promise, …-words == the promises
 -- Assumes nothing.
 use Prim.Native.Nat.{ℕ}
+use native.Mathlib.Omega.{arith}
 use mathlib.Core.Path.{_≡_, refl, sym, ap, subst, _∙_}
 use mathlib.Core.Logic.{_↔_}
-use mathlib.Core.Bool.{Bool, false, true≢false}
+use mathlib.Core.Bool.{Bool, false}
 use mathlib.Core.List.{List}
 use mathlib.Core.Option.{Option·some-injective}
+use borrow.Author.Tests.{eq-eqb, ne-eqb}
 use lib.ListN.{length}
 use lib.Dec.{T, eqb, eqb→eq}
 use Rattle.meaning.specs.declared.FieldName.{FieldName}
@@ -24,6 +26,7 @@ use Rattle.meaning.specs.FieldNames.{namedField, notField, fieldNumber}
 use Rattle.meaning.specs.Continuation.{continueTable, filled, continueIn, continueSequence}
 use Rattle.meaning.specs.Irreducibility.{irreducibleTable, irreducibleIn, askIrreducible}
 use Rattle.meaning.specs.File.{fieldIn}
+use Rattle.meaning.specs.Exports.{namedBy}
 use Rattle.meaning.specs.Calls.{bufferAfter}
 use Rattle.theorems.specs.Ratings.{GF, NamesField, NameWords, PrimeWords, IrreducibleWords}
 use Rattle.theorems.specs.Ratings.{PrimePromise, IrreduciblePromise, ContinueFilled, ContinuePromise}
@@ -31,7 +34,7 @@ use Rattle.theorems.specs.Ratings.{MultiplePromise, MultiplesPromise}
 use Rattle.bridge.proofs.Lists.Multiples.{Leads}
 use Rattle.bridge.proofs.Basics.Searches.{and-T, not-false, settle-answered, in-answered, map-answered}
 use Rattle.bridge.proofs.Basics.Searches.{map-refused}
-use Rattle.bridge.proofs.Basics.Interpretation.{IsField, prime-isField, named-isField, inRange-prime}
+use Rattle.bridge.proofs.Basics.Interpretation.{IsField, prime-isField, inRange-prime}
 use Rattle.bridge.proofs.Basics.Interpretation.{prime-inRange, isPrime-prime, prime-isPrime, isPrime-meaning}
 use Rattle.bridge.proofs.Basics.Interpretation.{meaning-isPrime}
 use Rattle.bridge.proofs.Basics.Interpretation.{prime-meaning, meaning-prime}
@@ -41,6 +44,9 @@ use Rattle.bridge.proofs.Lists.Multiples.{multiple-degree, multiple-product, pr
 use Rattle.bridge.proofs.Lists.Multiples.{multiple-self, multiple-associates, associates-power}
 use Rattle.bridge.proofs.Lists.Multiples.{associates-annihilate, associates-product, multiples-total}
 use Rattle.bridge.proofs.Lists.Irreducibles as bridge
+use Rattle.bridge.proofs.Binary.Extension.{extension-isField}
+use Rattle.bridge.proofs.Binary.BinaryNumbers.{binary-name}
+use Rattle.bridge.proofs.Binary.NamedFields.{named-isField}
 use Rattle.bridge.proofs.Sequences.Continuations.{continuation-continues, continues-unique}
 use Rattle.bridge.proofs.Ways.Accepted.{terms-accepted}
 
@@ -48,22 +54,26 @@ use Rattle.bridge.proofs.Ways.Accepted.{terms-accepted}
 pub field-of : (name : FieldName) → NamesField name → IsField (GF name)
 unfolding namedField
 field-of (FieldName.Prime p) h = prime-isField (isPrime-prime p h)
-field-of (FieldName.Binary n low) h = absurd h
+field-of (FieldName.Binary n low) h = extension-isField n low (h .0) (h .1)
 
 admitted : (name : FieldName) → notField name ≡ false → NamesField name
 unfolding notField notPrime
 admitted (FieldName.Prime p) h = prime-isPrime (inRange-prime p (not-false (primeInRange p) h) .1)
-admitted (FieldName.Binary n low) h = absurd (true≢false h)
+admitted (FieldName.Binary n low) h =
+    let b = binary-name n low h in (omega (arith, b .least), b .isIrreducible)
 
 pub name-words : NameWords
-unfolding namedField fieldNumber fieldIn
+unfolding namedField fieldNumber fieldIn namedBy
 name-words =
     record {
       prime-field = λ p. refl;
       prime-number = λ p. refl;
       binary-field = λ n low. refl;
       binary-number = λ n low. refl;
-      file-name = λ rs. refl;
+      file-prime = λ rs e. rw (fieldIn, e);
+      file-binary = λ rs body rest e. rw (fieldIn, e);
+      numbers-prime = λ f e. rw (namedBy, eq-eqb _ _ e);
+      numbers-binary = λ f e. rw (namedBy, ne-eqb _ _ e);
       admitted = admitted;
     }
 

@@ -8,7 +8,7 @@
 --                       name, and then those in the field
 --   periodConditions F …, … == the conditions of the call in the field F, in their order
 --   periodNumbers name, … == the numbers by which paper 01 lets the call refuse: that of the name (6 of a
---                       prime), and then those of the conditions in the field
+--                       prime, 20 of 2^n), and then those of the conditions in the field
 --   OneOf n numbers  == n is one of the numbers
 --   Tells numbers told == what is told is an answer, or a refusal by one of the numbers
 --   RatingAnswers …  == what a rating tells, and what it leaves in the lent bytes
@@ -35,7 +35,7 @@ use Rattle.meaning.specs.Search.{holdsForSome}
 use Rattle.meaning.specs.Field.{Field}
 use Rattle.meaning.specs.Polynomial.{Polynomial, product, monicMultiple}
 use Rattle.meaning.specs.Sequence.{annihilatesKnown}
-use Rattle.meaning.specs.Result.{Result, refused, answered}
+use Rattle.meaning.specs.Result.{Result, refused, answered, clearing}
 use Rattle.meaning.specs.Conditions.{named, totalDegree, countOutOfRange, placeOutOfRange}
 use Rattle.meaning.specs.Conditions.{termOutOfField, factorCountOutOfRange, factorDegreeOutOfRange}
 use Rattle.meaning.specs.Conditions.{continuationDegreeOutOfRange, coefficientOutOfRange, isReducible}
@@ -264,8 +264,9 @@ fileConditions file answer work = readerConditions file ++ laterConditions (reco
 -- WHAT IS LEFT IN THE LENT BYTES
 
 -- The answer bytes are as they were where the call is refused, and else as they were after the coefficients.
--- The work bytes are as they were after 1 to 16; after 17 and after an answer their first 8,192 are 0; those
--- beyond are as they were in every case. Lent bytes keep their number.
+-- The work bytes are as they were after every refusal but those of `clearing`; after 17, which is one of
+-- these, and after an answer their first 8,192 are 0; those beyond are as they were in every case. Lent
+-- bytes keep their number.
 pub record RatingAnswers {A : Type 0} (numbers : List ℕ) (conditions : List Condition) (degreeIn : A → ℕ)
     (told : Result A) (answer work answer′ work′ : List ℕ) : Type 0 where
   pub tells : Tells numbers told
@@ -275,7 +276,7 @@ pub record RatingAnswers {A : Type 0} (numbers : List ℕ) (conditions : List Co
       → told ≡ answered a
       → drop (suc (degreeIn a)) answer′ ≡ drop (suc (degreeIn a)) answer
   pub answer-length : length answer′ ≡ length answer
-  pub work-kept : (n : ℕ) → told ≡ refused n → n ≤ 16 → work′ ≡ work
+  pub work-kept : (n : ℕ) → told ≡ refused n → (OneOf n clearing → ⊥) → work′ ≡ work
   pub work-cleared : Answered told ⊎ (told ≡ refused 17) → take 8192 work′ ≡ replicate 8192 0
   pub work-beyond : drop 8192 work′ ≡ drop 8192 work
   pub work-length : length work′ ≡ length work

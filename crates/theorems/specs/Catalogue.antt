@@ -19,17 +19,18 @@ use mathlib.Core.Logic.{_⊎_, _↔_}
 use mathlib.Core.List.{List, [], _∷_}
 use lib.ListN.{length, getD, take, drop, replicate}
 use lib.Dec.{T}
+use Rattle.meaning.specs.declared.Entry as struct
 use Rattle.meaning.specs.declared.EntryRating.{EntryRating}
 use Rattle.meaning.specs.Field.{Field, prime}
 use Rattle.meaning.specs.Polynomial.{Polynomial, degree, isMonicOver, NotAProduct}
 use Rattle.meaning.specs.Sequence.{periodic, LeastPower}
-use Rattle.meaning.specs.Result.{Result, refused, answered}
+use Rattle.meaning.specs.Result.{Result, refused, answered, clearing}
 use Rattle.meaning.specs.Conditions.{countOutOfRange, termOutOfField}
 use Rattle.meaning.specs.Period.{NoPower}
 use Rattle.meaning.specs.Catalogue.{EntryFigures, entryPolynomial, catalogue}
 use Rattle.meaning.specs.Answers.{toldEntry}
 use Rattle.meaning.specs.Calls.{EntryCall, CatalogueCall}
-use Rattle.meaning.specs.Exports.{EntryTold, EntryExported}
+use Rattle.meaning.specs.Exports.{entryTold, EntryExported}
 use Rattle.theorems.specs.Answering.{Answered, OneOf, Tells, Condition, Decided}
 use Rattle.theorems.specs.OtherLanguages.{StatusTold, ExactlyOne}
 
@@ -51,13 +52,13 @@ searchConditions ts work =
     ∷ (19, ((n : ℕ) → Entry n → NoPower GF2 (entryPolynomial n) ts))
     ∷ []
 
--- DEMAND 1. The work bytes are as they were after 7, 8 and 16; after 19 and after an answer their first 8,192
--- are 0; those beyond are as they were in every case.
+-- DEMAND 1. The work bytes are as they were after every refusal but those of `clearing`, so after 7, 8 and
+-- 16; after 19 and after an answer their first 8,192 are 0; those beyond are as they were in every case.
 
 pub record SearchLeaves (ts : List ℕ) (told : Result EntryFigures) (work work′ : List ℕ) : Type 0 where
   pub tells : Tells searchNumbers told
   pub decided : Decided (searchConditions ts (length work)) told
-  pub work-kept : (n : ℕ) → told ≡ refused n → n ≤ 16 → work′ ≡ work
+  pub work-kept : (n : ℕ) → told ≡ refused n → (OneOf n clearing → ⊥) → work′ ≡ work
   pub work-cleared : Answered told ⊎ (told ≡ refused 19) → take 8192 work′ ≡ replicate 8192 0
   pub work-beyond : drop 8192 work′ ≡ drop 8192 work
   pub work-length : length work′ ≡ length work
@@ -128,23 +129,21 @@ EntryPromise =
     → EntryCall ts work r work′
     → EntryRight ts (length work) (toldEntry r)
 
--- OTHER LANGUAGES: the entry and the power are lent numbers
+-- OTHER LANGUAGES: `struct.Entry` is what the exported search returns
 
-pub record SearchExportRight (ts work : List ℕ) (entry power status : ℕ) (work′ : List ℕ) (entry′ power′ : ℕ)
-    : Type 0 where
+pub record SearchExportRight (ts work : List ℕ) (r : struct.Entry) (work′ : List ℕ) : Type 0 where
   pub told : Result EntryFigures
-  pub status-told : StatusTold told status
-  pub figures-told : EntryTold told entry power status entry′ power′
+  pub status-told : StatusTold told (r .status)
+  pub entry-told : r ≡ entryTold told
   pub answers : SearchLeaves ts told work work′
   pub right : EntryRight ts (length work) told
 
 abbrev pub SearchExport : Type 0
 SearchExport =
-    (ts work : List ℕ) (entry power status : ℕ) (work′ : List ℕ) (entry′ power′ : ℕ)
-    → EntryExported ts work entry power status work′ entry′ power′
-    → SearchExportRight ts work entry power status work′ entry′ power′
+    (ts work : List ℕ) (r : struct.Entry) (work′ : List ℕ)
+    → EntryExported ts work r work′
+    → SearchExportRight ts work r work′
 
 abbrev pub SearchExportAnswers : Type 0
 SearchExportAnswers =
-    (ts work : List ℕ) (entry power : ℕ)
-    → ExactlyOne {R = ℕ × List ℕ × ℕ × ℕ} (λ r. EntryExported ts work entry power (r .0) (r .1) (r .2) (r .3))
+    (ts work : List ℕ) → ExactlyOne {R = struct.Entry × List ℕ} (λ r. EntryExported ts work (r .0) (r .1))

@@ -1,4 +1,5 @@
 pub mod Ratings
+pub mod Fields
 pub mod CutAnywhere
 pub mod Answering
 pub mod Files

@@ -19,6 +19,7 @@ use mathlib.Core.List.{List, [], _∷_, _++_}
 use lib.ListN.{length, take, drop}
 use lib.Dec.{T}
 use Rattle.meaning.specs.declared.FieldName.{FieldName}
+use Rattle.meaning.specs.declared.FieldNumbers.{FieldNumbers}
 use Rattle.meaning.specs.declared.FreeRating.{FreeRating}
 use Rattle.meaning.specs.declared.Meter.{Meter}
 use Rattle.meaning.specs.declared.MeterStart.{MeterStart}
@@ -31,7 +32,7 @@ use Rattle.meaning.specs.Free.{FreeFigures}
 use Rattle.meaning.specs.Meter.{MeterModel, Remembers, startMeter, profileEntry}
 use Rattle.meaning.specs.Answers.{toldFree, toldStart}
 use Rattle.meaning.specs.Calls.{FreeCall, StartCall, TermCall, ReadingCall}
-use Rattle.meaning.specs.Exports.{ProfileExported}
+use Rattle.meaning.specs.Exports.{namedBy, ProfileExported}
 use Rattle.theorems.specs.Answering.{Tells, Condition, Decided, underName}
 use Rattle.theorems.specs.Ratings.{GF}
 use Rattle.theorems.specs.OtherLanguages.{StatusTold, ExactlyOne}
@@ -151,9 +152,9 @@ MeterPromise =
     → Run model name ts m terms work
     → MeterRight model name ts m terms work
 
--- OTHER LANGUAGES: the call is given a number p, and the meter the name `FieldName.Prime p`. Where all terms
--- are elements and they are at most 4,096, each entry that there is room for has the figures of the free way
--- for the terms up to it
+-- OTHER LANGUAGES: the call is given the numbers of a field, and the meter the name that they make. Where all
+-- terms are elements and they are at most 4,096, each entry that there is room for has the figures of the
+-- free way for the terms up to it
 
 pub record ProfileRight (name : FieldName) (ts profile : List ℕ) (status : ℕ) (profile′ : List ℕ)
     : Type 0 where
@@ -172,11 +173,11 @@ pub record ProfileRight (name : FieldName) (ts profile : List ℕ) (status : ℕ
 
 abbrev pub ProfileExport : Type 0
 ProfileExport =
-    (p : ℕ) (ts profile : List ℕ) (status : ℕ) (profile′ : List ℕ)
-    → ProfileExported (FieldName.Prime p) ts profile status profile′
-    → ProfileRight (FieldName.Prime p) ts profile status profile′
+    (field : FieldNumbers) (ts profile : List ℕ) (status : ℕ) (profile′ : List ℕ)
+    → ProfileExported (namedBy field) ts profile status profile′
+    → ProfileRight (namedBy field) ts profile status profile′
 
 abbrev pub ProfileAnswers : Type 0
 ProfileAnswers =
-    (p : ℕ) (ts profile : List ℕ)
-    → ExactlyOne {R = ℕ × List ℕ} (λ r. ProfileExported (FieldName.Prime p) ts profile (r .0) (r .1))
+    (field : FieldNumbers) (ts profile : List ℕ)
+    → ExactlyOne {R = ℕ × List ℕ} (λ r. ProfileExported (namedBy field) ts profile (r .0) (r .1))

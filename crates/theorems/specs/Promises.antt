@@ -4,6 +4,7 @@
 --   Answering        == demand 1: every call gives an answer or one of its numbered refusals, on every input
 --   Ratings          == demand 2: the polynomial is the minimal polynomial, the repeat length the least
 --                       period; the two questions
+--   Fields           == the laws of the fields, in plain numbers
 --   CutAnywhere      == demand 3: the same polynomial wherever the stretch is cut
 --   Files            == route files, the reader, the program
 --   Density          == the density of a period
@@ -18,7 +19,7 @@
 --   A → ⊥, a ≢ b     == A never holds; a is not b
 --   T b              == the test b passes
 --   x .name          == the part of x that has this name
---   answer, answer′  == lent bytes as a call begins, and as it returns; so with work, buffer and lent numbers
+--   answer, answer′  == lent bytes as a call begins, and as it returns; so with work and buffer
 --   f ∷ []           == the list of f alone; (f, v): f with its upper power v
 --
 -- `name` is the name of a field and `GF name` that field (`NameWords`); F any field; f a factor, which stands
@@ -33,11 +34,13 @@ use Rattle.theorems.specs.Ratings.{PeriodPromise, SetPromise, FreePromis
 use Rattle.theorems.specs.Ratings.{ContinuePromise, IrreduciblePromise, PrimePromise}
 use Rattle.theorems.specs.Ratings.{MultiplePromise, MultiplesPromise, PrimeWords, IrreducibleWords}
 use Rattle.theorems.specs.Ratings.{NameWords, ConditionWords}
+use Rattle.theorems.specs.Fields.{FieldPromise}
 use Rattle.theorems.specs.CutAnywhere.{CutAnywherePromise}
 use Rattle.theorems.specs.Files.{FilePromise, RecordPromise, ProgramAsCall, ProgramPromise}
 use Rattle.theorems.specs.Density.{DensityPromise}
 use Rattle.theorems.specs.OtherLanguages.{PeriodExport, SetExport, FreeExport}
-use Rattle.theorems.specs.OtherLanguages.{ContinueExport, IrreducibleExport, ExportAnswers}
+use Rattle.theorems.specs.OtherLanguages.{ContinueExport, IrreducibleExport, RecordExport}
+use Rattle.theorems.specs.OtherLanguages.{ExportAnswers}
 use Rattle.theorems.specs.Meters.{StartAnswers, MeterPromise, ProfileExport, ProfileAnswers}
 use Rattle.theorems.specs.Catalogue.{SearchAnswers, EntryAnswers, CataloguePromise, EntryPromise}
 use Rattle.theorems.specs.Catalogue.{SearchExport, SearchExportAnswers}
@@ -67,6 +70,7 @@ pub record Promises : Type 0 where
   pub multiple : MultiplePromise
   pub multiples : MultiplesPromise
   pub name-words : NameWords
+  pub fields : FieldPromise
   pub prime-words : PrimeWords
   pub irreducible-words : IrreducibleWords
   pub condition-words : ConditionWords
@@ -89,6 +93,7 @@ pub record Promises : Type 0 where
   pub free-export : FreeExport
   pub continue-export : ContinueExport
   pub irreducible-export : IrreducibleExport
+  pub record-export : RecordExport
   pub profile-export : ProfileExport
   pub search-export : SearchExport
   pub export-answers : ExportAnswers

@@ -28,13 +28,14 @@ use mathlib.Core.List.{List, [], _∷_, _++_, map}
 use lib.ListN.{length, getD, take}
 use lib.Dec.{T}
 use Rattle.meaning.specs.declared.FieldName.{FieldName}
+use Rattle.meaning.specs.declared.FieldNumbers.{FieldNumbers}
 use Rattle.meaning.specs.declared.PowerRating.{PowerRating}
 use Rattle.meaning.specs.declared.SetRating.{SetRating}
 use Rattle.meaning.specs.declared.FreeRating.{FreeRating}
 use Rattle.meaning.specs.declared.Filling.{Filling}
 use Rattle.meaning.specs.declared.Irreducibility.{Irreducibility}
 use Rattle.meaning.specs.Field.{Field, prime, PrimeNumber, isPrime, areElements}
-use Rattle.meaning.specs.Extension.{binary}
+use Rattle.meaning.specs.Extension.{reducing, binary}
 use Rattle.meaning.specs.Polynomial.{Polynomial, degree, leading, isMonicOver, scale, power, product}
 use Rattle.meaning.specs.Polynomial.{irreducible, monicMultiple, NotAProduct}
 use Rattle.meaning.specs.Sequence.{Sequence, periodic, cut, LeastPeriod, Continues}
@@ -51,18 +52,20 @@ use Rattle.meaning.specs.Power.{PowerFigures}
 use Rattle.meaning.specs.Period.{NoPower}
 use Rattle.meaning.specs.Portion.{onward, SetMeaning, PortionMeaning, Agrees}
 use Rattle.meaning.specs.Free.{FreeFigures, IsLeastDegree, Fits, Precedes}
-use Rattle.meaning.specs.Route.{RouteRecord, byteOf}
+use Rattle.meaning.specs.Route.{RouteRecord, bodies, byteOf}
 use Rattle.meaning.specs.File.{fieldIn}
 use Rattle.meaning.specs.Answers.{SetTold, toldPower, toldSet, toldFree, toldFilling, toldIrreducible, padded}
+use Rattle.meaning.specs.Exports.{namedBy}
 use Rattle.meaning.specs.Calls.{PrimeCall, IrreducibleCall, PeriodCall, SetCall, FreeCall, ContinueCall}
 
 abbrev pub GF : FieldName → Field
 GF name = namedField name
 
--- The name is that of a field, however large: of GF(p), p is a prime number. No name of GF(2^n) is, as yet.
+-- The name is that of a field, however large: of GF(p), p is a prime number; of GF(2^n), y^n + low is
+-- irreducible over GF(2).
 abbrev pub NamesField : FieldName → Type 0
 NamesField (FieldName.Prime p) = T (isPrime p)
-NamesField (FieldName.Binary n low) = ⊥
+NamesField (FieldName.Binary n low) = (1 ≤ n) × T (irreducible (prime 2) (reducing n low))
 
 -- THE POLYNOMIAL THAT A CALL RETURNS
 
@@ -265,24 +268,34 @@ MultiplesPromise =
 -- THE WORDS OF THE REQUEST
 
 -- What a name stands for: that of a prime p for the field of the p residues modulo p, that of n and low for
--- the polynomials in y over GF(2) modulo y^n + low; and 6 is the number by which it is refused. A name that
--- is not refused is that of a field. The name that a file holds is that of its prime.
+-- the polynomials in y over GF(2) modulo y^n + low; and the number by which it is refused. A name that is not
+-- refused is that of a field (`FieldPromise` has its laws). A file names its field by a record of kind 9, n
+-- and then low, and where there is none by that of kind 2, its prime; a program in another language by two
+-- numbers, of which the first is 0 for a prime and else n.
 pub record NameWords : Type 0 where
   pub prime-field : (p : ℕ) → namedField (FieldName.Prime p) ≡ prime p
   pub prime-number : (p : ℕ) → fieldNumber (FieldName.Prime p) ≡ 6
   pub binary-field : (n low : ℕ) → namedField (FieldName.Binary n low) ≡ binary n low
-  pub binary-number : (n low : ℕ) → fieldNumber (FieldName.Binary n low) ≡ 6
-  pub file-name : (rs : List RouteRecord) → fieldIn rs ≡ FieldName.Prime (byteOf 2 rs)
+  pub binary-number : (n low : ℕ) → fieldNumber (FieldName.Binary n low) ≡ 20
+  pub file-prime : (rs : List RouteRecord) → bodies 9 rs ≡ [] → fieldIn rs ≡ FieldName.Prime (byteOf 2 rs)
+  pub file-binary : (rs : List RouteRecord) (body : List ℕ) (rest : List (List ℕ))
+      → bodies 9 rs ≡ body ∷ rest
+      → fieldIn rs ≡ FieldName.Binary (getD body 0 0) (getD body 1 0)
+  pub numbers-prime : (f : FieldNumbers) → f .degree ≡ 0 → namedBy f ≡ FieldName.Prime (f .number)
+  pub numbers-binary : (f : FieldNumbers) → f .degree ≢ 0 → namedBy f ≡ FieldName.Binary (f .degree) (f .number)
   pub admitted : (name : FieldName) → notField name ≡ false → NamesField name
 
 abbrev pub PrimeWords : Type 0
 PrimeWords = (n : ℕ) → T (isPrime n) ↔ PrimeNumber n
 
 -- The conditions of the numbered list, in words: 6, of the name of a prime; 7, of a count and of a place; 8;
--- 9; 10, of a degree and for a continuation; 11; 15, of terms and for a continuation; 16. (12 is
--- `IrreducibleWords`, of monic lists.)
+-- 9; 10, of a degree and for a continuation; 11; 15, of terms and for a continuation; 16; 20, of the name of
+-- a field of 2^n elements. (12 is `IrreducibleWords`, of monic lists.)
 pub record ConditionWords : Type 0 where
   pub six : (p : ℕ) → T (notField (FieldName.Prime p)) ↔ ((PrimeNumber p × (p ≤ 251)) → ⊥)
+  pub twenty : (n low : ℕ)
+      → T (notField (FieldName.Binary n low))
+      ↔ (((2 ≤ n) × (n ≤ 8) × (low < 2 ^ n) × NotAProduct (prime 2) (reducing n low)) → ⊥)
   pub seven : (n : ℕ) → T (countOutOfRange n) ↔ ((n ≡ 0) ⊎ (4096 < n))
   pub seven-place : (size place : ℕ)
       → T (placeOutOfRange size place) ↔ ((size < place) ⊎ (size - place ≡ 0) ⊎ (4096 < size - place))

@@ -5,7 +5,7 @@
 --   well-isField      == it is a field
 --   residues-formed, extension-formed == the struct of its sort is well-formed and stands for the same field
 --   prime-made, binary-made == what the constructors make
---   not-prime-declined, binary-declined == what the constructor answers a name that it refuses
+--   not-prime-declined, not-binary-declined == what the constructor answers a name that it refuses
 --   own-negative      == in GF(2^n) an element is its own negative
 --   prime-raised      == in GF(p) the power p of an element is the element itself
 --   prime-characteristic, binary-characteristic == the characteristic of either sort
@@ -14,14 +14,14 @@
 use Prim.Native.Nat.{ℕ, zero, suc, _*_, _/_, _%_, _^_, _≤_}
 use mathlib.Core.Path.{_≡_, refl, sym, ap, subst, _∙_}
 use mathlib.Core.Logic.{_≢_}
-use mathlib.Core.Bool.{false, not}
+use mathlib.Core.Bool.{true, false, not}
 use mathlib.Core.List.{List, map}
 use native.Mathlib.Nat.{pow-suc, pow-zero, one-mul, zero-mul, mod-lt, div-add-mod'}
 use native.Mathlib.Omega.{arith}
 use lib.Dec.{T}
 use borrow.Author.Tests.{eq-eqb, ne-eqb}
 use Rattle.meaning.specs.declared.FieldName.{FieldName}
-use Rattle.meaning.specs.declared.Refusal.the-variants.{NotPrime}
+use Rattle.meaning.specs.declared.Refusal.the-variants.{NotPrime, NotBinaryField}
 use Rattle.meaning.specs.Field.{prime, primeInRange, negative, areElements}
 use Rattle.meaning.specs.Extension.{binary}
 use Rattle.meaning.specs.Conditions.{notPrime, notBinary}
@@ -38,7 +38,7 @@ use Rattle.arith.specs.declared.prime_field.PrimeField.{PrimeField}
 use Rattle.arith.specs.declared.extension.ExtensionField.{ExtensionField}
 use Rattle.arith.specs.extension.Extension.{extensionOf, WellFormedExtension}
 use Rattle.arith.specs.declared.field.GaloisField.{GaloisField}
-use Rattle.arith.specs.Represented.{fieldOf, WellFormed, FieldNamed, Declined, FieldOfBinary}
+use Rattle.arith.specs.Represented.{fieldOf, WellFormed, FieldNamed, Declined}
 
 zero? : (n : ℕ) → Dec (n ≡ 0)
 zero? zero = yes refl
@@ -126,9 +126,10 @@ pub not-prime-declined : (p : ℕ) → primeInRange p ≡ false → Declined (Fi
 unfolding notField notPrime fieldNumber numberOf
 not-prime-declined p e = record { holds = ap not e; number = refl }
 
-pub binary-declined : (n low : ℕ) → Declined (FieldName.Binary n low) NotPrime
+pub not-binary-declined :
+    (n low : ℕ) → notBinary n low ≡ true → Declined (FieldName.Binary n low) NotBinaryField
 unfolding notField fieldNumber numberOf
-binary-declined n low = record { holds = refl; number = refl }
+not-binary-declined n low e = record { holds = e; number = refl }
 
 -- What the constructors make
 pub prime-made :
@@ -176,9 +177,11 @@ pub binary-made :
     → f .degree ≡ n
     → f .multiplier ≡ 0
     → f .low ≡ low
-    → FieldOfBinary n low f
+    → FieldNamed (FieldName.Binary n low) f
+unfolding namedField notField
 binary-made n low f h s c d m l =
     record {
+      exists = h;
       wellFormed =
           record {
             ofPrime = λ e. absurd (e m);

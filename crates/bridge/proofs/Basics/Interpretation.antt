@@ -22,7 +22,7 @@
 use Prim.Native.Nat.{ℕ, zero, suc, _+_, _*_, _-_, _^_, _/_, _%_, _≤_, _<_, zero-le, _∣_}
 use mathlib.Core.Path.{_≡_, refl, sym, ap, subst, _∙_}
 use mathlib.Core.Logic.{_≢_, inl, inr, ∥∥₁-elim}
-use mathlib.Core.Bool.{Bool, true, false, not, true≢false}
+use mathlib.Core.Bool.{Bool, true, false, not}
 use mathlib.Core.List.{map, List·Mem, List·Memᴰ, mem-map-of-mem}
 use mathlib.Mathlib.Data.List.Nodup.{map-on}
 use native.Mathlib.Nat.{mod-eq-of-lt, dvd-of-mod-eq-zero, mul-div-cancel', dvd-refl, ℕ-set, pow-zero, pow-suc}
@@ -31,12 +31,9 @@ use native.Mathlib.Decide.{decLt}
 use native.Mathlib.Omega.{arith}
 use lib.ListN.{length-map}
 use lib.Dec.{T, leb, eqb, leb→le, le→leb, eqb→eq, eqb-refl, T-not, not-T}
-use Rattle.meaning.specs.declared.FieldName.{FieldName}
 use Rattle.meaning.specs.Search.{range, holdsForAll}
 use Rattle.meaning.specs.Field.{Field, prime, isPrime, primeInRange, largestPrime, multiple, negative}
 use Rattle.meaning.specs.Field.{PrimeNumber}
-use Rattle.meaning.specs.Conditions.{notPrime}
-use Rattle.meaning.specs.FieldNames.{namedField, notField}
 use Rattle.algebra.proofs.Rings.Ring.{Ring, Field as AlgebraField, neg-unique, one-mul, mul-zero, zero-add}
 use Rattle.algebra.proofs.Rings.Ring.{mul-neg, mul-nonzero}
 use Rattle.algebra.proofs.Numbers.Number.{prime-by-remainders, prime-factors}
@@ -49,7 +46,7 @@ use Rattle.algebra.proofs.FiniteFields.PrimeField.{prime-characteristic}
 use Rattle.algebra.proofs.FiniteFields.PrimeField.{value-residue, residue-value, residue-add, residue-mul}
 use Rattle.algebra.proofs.FiniteFields.PrimeField.{residue-zero, residue-one}
 use Rattle.bridge.proofs.Basics.Searches.{T-true, true-T, T-and, and-T, all-range, range-all}
-use Rattle.bridge.proofs.Basics.Searches.{range-once, not-false}
+use Rattle.bridge.proofs.Basics.Searches.{range-once}
 use Rattle.bridge.proofs.Basics.Searches.{range-member, member-range, length-range}
 -- what code proofs take of primes and remainders
 pub use Rattle.algebra.proofs.Numbers.Number.{Prime, prime-pos, prime-by-trial, mod-mul-mod, mul-mod-mod}
@@ -217,12 +214,6 @@ prime-inRange {p} l P = rw (T-true {b = leb p 251} (le→leb p 251 l), primeInRa
 
 pub inRange-isField : (p : ℕ) → T (primeInRange p) → IsField (prime p)
 inRange-isField p h = prime-isField (inRange-prime p h .1)
-
--- a name that 6 lets pass is that of a field
-pub named-isField : (name : FieldName) → notField name ≡ false → IsField (namedField name)
-unfolding namedField notField notPrime
-named-isField (FieldName.Prime p) h = inRange-isField p (not-false (primeInRange p) h)
-named-isField (FieldName.Binary n low) h = absurd (true≢false h)
 
 -- Any field
 module _ {F : Field} (I : IsField F) where

@@ -2,6 +2,7 @@
 --
 --   T-true, true-T, T-false, false-T == a test that passes is `true`, one that fails is `false`
 --   T-same         == two tests that pass together are equal
+--   not-false, not-true, not-not-true, T-not-false == a test and its negation
 --   all-member, member-all   == a test passes on the whole of a list exactly where it passes on each member
 --   some-member, member-some == it passes on some element exactly where it passes on a member, given with it
 --   none-cons, none-uncons == no element passes: neither the first nor one of the others
@@ -75,6 +76,13 @@ T-same {b = false} {c} f g = sym (T-false g)
 pub not-false : (b : Bool) → not b ≡ false → T b
 not-false true e = tt
 not-false false e = absurd (false-T e tt)
+
+pub not-true : (b : Bool) → not b ≡ true → b ≡ false
+not-true true e = absurd (false-T (sym e) tt)
+not-true false e = refl
+
+pub not-not-true : (b : Bool) → not b ≡ false → b ≡ true
+not-not-true b e = T-true {b = b} (not-false b e)
 
 pub T-not-false : (b : Bool) → T b → not b ≡ false
 T-not-false b h = ap not (T-true {b = b} h)

@@ -35,10 +35,11 @@ use Rattle.meaning.specs.File.{fieldIn, rateFile}
 use Rattle.bridge.proofs.Basics.Searches.{settle-answered, map-answered, some-bind, some-mapOption}
 use Rattle.bridge.proofs.Basics.Searches.{not-false}
 use Rattle.bridge.proofs.Basics.Searches.{T-and, never-answered, in-answered}
-use Rattle.bridge.proofs.Basics.Interpretation.{IsField, named-isField}
+use Rattle.bridge.proofs.Basics.Interpretation.{IsField}
 use Rattle.bridge.proofs.Lists.Polynomials.{degree-length, monic-nonempty}
 use Rattle.bridge.proofs.Lists.Products.{power-nonempty, product-nonempty, Nonempties, factorsOf-named}
 use Rattle.bridge.proofs.Lists.Products.{factorAt-factorsOf, length-factorsOf, length-named}
+use Rattle.bridge.proofs.Binary.NamedFields.{named-isField}
 use Rattle.bridge.proofs.Ways.Fitting.{free-rated}
 use Rattle.bridge.proofs.Files.Records.{records-suited}
 

@@ -13,8 +13,8 @@
 --   irreducible-constant == an irreducible list other than x has a constant term other than 0, so that
 --                        `irreducible-x` tells x by its constant term
 --   Factors F fs      == monic irreducible lists of positive degree, no two of them equal
---   reducible-asked   == 12 of a factor that 6, 10 and 11 let pass
---   accepted-factors  == monic factors that 6 and 10 to 13 let pass are so; `multiples-factors` says it of
+--   reducible-asked   == 12 of a factor that 10 and 11 let pass
+--   accepted-factors  == monic factors that 10 to 13 let pass are so; `multiples-factors` says it of
 --                        the multiples of factors, `accepted-different` where `acceptedFactors` accepts these
 --   factors-atoms     == and their polynomials are coprime atoms
 --
@@ -30,7 +30,6 @@ use native.Mathlib.Decide.{decLe}
 use native.Mathlib.Omega.{arith}
 use lib.ListN.{length, getD, length-map, List·getD-map}
 use lib.Dec.{T, eqb, T-not, eqb-refl, eqb→eq}
-use Rattle.meaning.specs.declared.FieldName.{FieldName}
 use Rattle.meaning.specs.Search.{range, holdsForSome}
 use Rattle.meaning.specs.Field.{Field, areElements}
 use Rattle.meaning.specs.Polynomial.{Polynomial, degree, isMonicOver, plus, scale, times, monics, same}
@@ -38,9 +37,7 @@ use Rattle.meaning.specs.Polynomial.{hasFactorOf, leading, irreducible, NotAPro
 use Rattle.meaning.specs.Power.{isX}
 use Rattle.meaning.specs.Conditions.{factorDegreeOutOfRange, degreeOutOfRange, notMonic}
 use Rattle.meaning.specs.Conditions.{coefficientOutOfRange, isAsked, isReducible, twoEqual}
-use Rattle.meaning.specs.FieldNames.{namedField}
-use Rattle.meaning.specs.Portion.{factorsOf, factorTable, acceptedFactors}
-use Rattle.meaning.proofs.Passes.{accepted-field, accepted-passes}
+use Rattle.meaning.specs.Portion.{factorsOf}
 use Rattle.algebra.proofs.Rings.Ring.{Ring, zero-add}
 use Rattle.algebra.proofs.Polynomials.Polynomial.{X, constant, constant-polynomial-hom}
 use Rattle.algebra.proofs.Polynomials.Irreducible.{Reducible, Irreducible, irreducible-degrees}
@@ -49,7 +46,7 @@ use Rattle.algebra.proofs.Rings.PowerProduct.{CoprimeAtoms}
 use Rattle.bridge.proofs.Basics.Searches.{T-same, T-decided, false-T, not-false, some-range}
 use Rattle.bridge.proofs.Basics.Searches.{range-some, none-member, none-at, getD-member}
 use Rattle.bridge.proofs.Basics.Interpretation.{IsField, size-positive, mul-below, number-add-zero}
-use Rattle.bridge.proofs.Basics.Interpretation.{number-zero-mul, named-isField}
+use Rattle.bridge.proofs.Basics.Interpretation.{number-zero-mul}
 use Rattle.bridge.proofs.Lists.Multiples.{multiples-ten, multiples-eleven}
 use Rattle.bridge.proofs.Lists.Polynomials.{polyRing, poly, poly-times, monic-poly, monic-list}
 use Rattle.bridge.proofs.Lists.Polynomials.{monic-equal, times-monic, degree-times, monic-nonempty}
@@ -565,19 +562,6 @@ single-factor F f m l i =
     only : (P : Polynomial → Type 0) → P f → (i : ℕ) → i < 1 → P (getD (f ∷ []) i [])
     only P h zero l = h
     only P h (suc i) l = absurd (omega arith)
-
--- the factors that `acceptedFactors` accepts
-module _ (name : FieldName) (fs : List Polynomial) (us : List ℕ) (accepted : T (acceptedFactors name fs us))
-  where
-    pub accepted-isField : IsField (namedField name)
-    accepted-isField = named-isField name (accepted-field name fs us accepted)
-
-    pub accepted-different : Factors (namedField name) (map (monicMultiple (namedField name)) fs)
-    unfolding factorTable
-    accepted-different =
-        let x = accepted-passes name fs us accepted in
-        multiples-factors accepted-isField fs (x .degreesInRange) (x .coefficientsInRange) (x .irreducible)
-        (x .different)
 
 module _ {F : Field} (I : IsField F) where
   pub factors-atoms :

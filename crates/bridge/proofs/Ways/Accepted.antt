@@ -38,9 +38,9 @@ use Rattle.meaning.proofs.Passes.{Passes, _&_, nothing, accepted-field, accepte
 use Rattle.bridge.proofs.Basics.Searches.{T-false, T-not-false, answered-settle, bind-some}
 use Rattle.bridge.proofs.Basics.Searches.{mapOption-some}
 use Rattle.bridge.proofs.Basics.Searches.{false-T, not-false, or-false, some-bind, some-mapOption}
-use Rattle.bridge.proofs.Basics.Interpretation.{named-isField}
 use Rattle.bridge.proofs.Lists.Products.{factorsOf-named, length-named}
 use Rattle.bridge.proofs.Lists.Multiples.{multiples-uppers}
+use Rattle.bridge.proofs.Binary.NamedFields.{named-isField}
 
 -- terms that 7 and 8 do not turn down
 pub record AcceptedTerms (F : Field) (ts : List ℕ) : Type 0 where

@@ -74,6 +74,7 @@ number-byte Refusal.LentTooShort = omega arith
 number-byte Refusal.NotAnnihilated = omega arith
 number-byte Refusal.MeterFull = omega arith
 number-byte Refusal.NoEntry = omega arith
+number-byte Refusal.NotBinaryField = omega arith
 
 module _ {a : FreeRating} where
   pub status-unique : {d : ℕ} → a ≡ FreeRating.Unique d → 0 ≡ statusOf (toldFree a)

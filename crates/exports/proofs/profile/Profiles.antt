@@ -6,6 +6,7 @@
 --                       front of the profile, and the rest of it is as it was
 --   entered-none, entered-more, entered-all == before the first term, after one more, after all
 --   profile-refused, profile-told == the exported call
+--   profile-renamed  == the same with an equal name
 -- Assumes nothing.
 use Prim.Native.Nat.{ℕ, _+_, _*_, _-_, _/_, _<_, _≤_, min}
 use mathlib.Core.Path.{_≡_, refl, sym, ap, ap₂, subst, _∙_}
@@ -204,3 +205,10 @@ module _ {name : FieldName} {ts profile work work′ : List ℕ} {a : MeterStart
             w .entries name h
             ∙ sym (ap (λ r. unlessRefused r profile (profiled name ts profile)) e);
       }
+
+pub profile-renamed : {name name′ : FieldName} {ts profile : List ℕ} {k : ℕ} {profile′ : List ℕ}
+    → name ≡ name′
+    → ProfileExported name ts profile k profile′
+    → ProfileExported name′ ts profile k profile′
+profile-renamed {ts = ts} {profile} {k} {profile′} n x =
+    subst (λ m. ProfileExported m ts profile k profile′) n x

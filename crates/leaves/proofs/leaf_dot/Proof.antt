@@ -9,7 +9,8 @@ use Rattle.meaning.specs.declared.FieldName.{FieldName}
 use Rattle.meaning.specs.Sequence.{actAt, known}
 use Rattle.arith.specs.Represented.{FieldMade, FieldNamed}
 use Rattle.leaves.specs.Suited.{suited}
-use Rattle.leaves.proofs.Suiting.{not-true, not-not-true, suited-first, suited-few}
+use Rattle.bridge.proofs.Basics.Searches.{not-true, not-not-true}
+use Rattle.leaves.proofs.Suiting.{suited-first, suited-few}
 use Rattle.leaves.proofs.Suiting.{answer-unsuited, answer-declined, answer-named}
 use Rattle.leaves.proofs.leaf_dot.Statement.{statement}
 use Rattle.leaves.proofs.leaf_dot.Tie as tie

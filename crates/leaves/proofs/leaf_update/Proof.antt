@@ -9,7 +9,8 @@ use Rattle.meaning.specs.declared.FieldName.{FieldName}
 use Rattle.arith.specs.Slices.{combined}
 use Rattle.arith.specs.Represented.{FieldMade, FieldNamed}
 use Rattle.leaves.specs.Suited.{suited}
-use Rattle.leaves.proofs.Suiting.{not-true, not-not-true, suited-first}
+use Rattle.bridge.proofs.Basics.Searches.{not-true, not-not-true}
+use Rattle.leaves.proofs.Suiting.{suited-first}
 use Rattle.leaves.proofs.Suiting.{answer-unsuited, answer-declined, answer-named}
 use Rattle.leaves.proofs.leaf_update.Statement.{statement}
 use Rattle.leaves.proofs.leaf_update.Tie as tie

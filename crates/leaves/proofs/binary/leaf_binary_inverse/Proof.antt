@@ -1,38 +1,50 @@
 -- `binary::leaf_binary_inverse` meets its contract.
 -- Assumes nothing.
-use mathlib.Core.Path.{refl}
+use mathlib.Core.Path.{refl, subst}
 use mathlib.Core.Bool.{true}
 use borrow.Author.Needs.{needs}
+use Rattle.meaning.specs.declared.FieldName.{FieldName}
 use Rattle.arith.specs.Inverse.{inverse}
-use Rattle.leaves.proofs.binary.Naming.{is-binary, answer-unnamed, answer-binary}
+use Rattle.arith.specs.Represented.{FieldMade, FieldNamed}
+use Rattle.leaves.proofs.binary.Naming.{answer-unnamed, answer-binary}
 use Rattle.leaves.proofs.binary.leaf_binary_inverse.Statement.{statement}
 use Rattle.leaves.proofs.binary.leaf_binary_inverse.Tie as tie
 
-names-binary-field-requires : tie.Need-names-binary-field-requires
-names-binary-field-requires c κs = search needs
+-- the entry, from the place where the field is made
+abbrev entry : tie.After-field → tie.Start
+entry f = f .before .before .before
 
-of-binary-requires : tie.Need-of-binary-requires
-of-binary-requires c κs = is-binary _ _ (c .before .names-binary-field .ensures) (c .if1 .taken)
+made : (f : tie.After-field)
+    → FieldNamed (FieldName.Binary (entry f .args .degree) (entry f .args .low)) (f .field .given .0 .0)
+unfolding FieldMade
+made f = subst (FieldMade _) (f .field .given .1) (f .before .before .named .ensures)
+
+named-requires : tie.Need-named-requires
+named-requires c κs = search needs
+
+enum-known-field : tie.Need-enum-known-field
+enum-known-field c = search needs
 
 inverse-requires : tie.Need-inverse-requires
-inverse-requires c κs = c .of-binary .ensures .wellFormed
+inverse-requires c κs = made (c .before) .wellFormed
+
+enum-told : tie.Need-enum-told
+enum-told c = search needs
 
 returns : tie.Need-returns
 returns c =
-    let m = c .before in
-    let t = m .before in
-    let a = t .before .before .args in
-    answer-binary (a .degree) (a .low) true (λ F. inverse F (a .a)) 0
-    (t .before .names-binary-field .ensures) refl (t .if1 .taken) (m .of-binary .ensures)
-    (c .inverse .ensures)
+    let f = c .before .before in
+    let a = entry f .args in
+    answer-binary _ _ true (λ F. inverse F (a .a)) 0 refl (made f) (c .inverse .ensures)
 
 returns-2 : tie.Need-returns-2
+unfolding FieldMade
 returns-2 c =
-    let a = c .before .before .args in
-    answer-unnamed (a .degree) (a .low) true (λ F. inverse F (a .a)) 0
-    (c .before .names-binary-field .ensures) (c .if1 .left)
+    let a = c .before .before .before .args in
+    answer-unnamed _ _ true (λ F. inverse F (a .a)) 0
+    (subst (FieldMade _) (c .enum-told .given .1) (c .before .before .named .ensures))
 
 pub leaf-binary-inverse-spec : {M : Type 1} → statement M
 leaf-binary-inverse-spec =
     tie.close
-    (tie.spec names-binary-field-requires of-binary-requires inverse-requires returns returns-2)
+    (tie.spec named-requires enum-known-field inverse-requires enum-told returns returns-2)

@@ -1,19 +1,32 @@
 -- `binary::leaf_binary_update` meets its contract.
 -- Assumes nothing.
-use mathlib.Core.Path.{sym, _∙_}
+use mathlib.Core.Path.{sym, subst, _∙_}
 use lib.ListN.{length}
 use denote.Ref.{now}
 use borrow.Author.Needs.{needs}
+use Rattle.meaning.specs.declared.FieldName.{FieldName}
 use Rattle.arith.specs.Slices.{combined}
+use Rattle.arith.specs.Represented.{FieldMade, FieldNamed}
 use Rattle.leaves.specs.Suited.{suited}
-use Rattle.leaves.proofs.Suiting.{not-true, not-not-true, suited-first}
-use Rattle.leaves.proofs.binary.Naming.{is-binary, answer-misfit, answer-unnamed, answer-binary}
+use Rattle.bridge.proofs.Basics.Searches.{not-true, not-not-true}
+use Rattle.leaves.proofs.Suiting.{suited-first}
+use Rattle.leaves.proofs.binary.Naming.{answer-misfit, answer-unnamed, answer-binary}
 use Rattle.leaves.proofs.binary.leaf_binary_update.Statement.{statement}
 use Rattle.leaves.proofs.binary.leaf_binary_update.Tie as tie
 
--- the entry, from the place where the numbers are suited
+-- where the numbers are suited, from the place where the field is made; and the entry
+abbrev passed : tie.After-field → tie.Else1
+passed f = f .before .before .before
+
 abbrev entry : tie.Else1 → tie.Start
 entry u = u .before .before .before .before
+
+abbrev name : tie.After-field → FieldName
+name f = let a = entry (passed f) .args in FieldName.Binary (a .degree) (a .low)
+
+made : (f : tie.After-field) → FieldNamed (name f) (f .field .given .0 .0)
+unfolding FieldMade
+made f = subst (FieldMade _) (f .field .given .1) (f .before .before .named .ensures)
 
 suits-requires : tie.Need-suits-requires
 suits-requires c κs = search needs
@@ -24,40 +37,40 @@ returns c =
     answer-misfit (a .degree) (a .low) _ (λ F. combined F (now (a .a)) (a .c) (now (a .b))) (now (a .a))
     (sym (c .before .suits .ensures) ∙ not-true _ (c .if1 .taken))
 
-names-binary-field-requires : tie.Need-names-binary-field-requires
-names-binary-field-requires c κs = search needs
+named-requires : tie.Need-named-requires
+named-requires c κs = search needs
 
-of-binary-requires : tie.Need-of-binary-requires
-of-binary-requires c κs = is-binary _ _ (c .before .names-binary-field .ensures) (c .if2 .taken)
+enum-known-field : tie.Need-enum-known-field
+enum-known-field c = search needs
 
 add-multiple-requires : tie.Need-add-multiple-requires
 add-multiple-requires c κs =
-    let m = c .before in
-    let u = m .before .before .before in (
-      m .of-binary .ensures .wellFormed,
-      suited-first _ _ (u .before .suits .ensures) (not-not-true _ (u .if1 .left)),
-    )
+    let f = c .before .before in
+    let u = passed f in
+    (made f .wellFormed, suited-first _ _ (u .before .suits .ensures) (not-not-true _ (u .if1 .left)))
+
+enum-told : tie.Need-enum-told
+enum-told c = search needs
 
 same-length : tie.Need-same-length
 same-length c = search needs
 
 returns-2 : tie.Need-returns-2
 returns-2 c =
-    let r = c .before .before in
-    let m = r .before .before in
-    let t = m .before in
-    let u = t .before .before in
+    let m = c .before .before in
+    let f = m .before .before .before in
+    let u = passed f in
     let a = entry u .args in
-    answer-binary (a .degree) (a .low) _ (λ F. combined F (now (a .a)) (a .c) (now (a .b))) (now (a .a))
-    (t .before .names-binary-field .ensures) (sym (u .before .suits .ensures) ∙ not-not-true _ (u .if1 .left))
-    (t .if2 .taken) (m .of-binary .ensures) (r .add-multiple .ensures)
+    answer-binary _ _ _ (λ F. combined F (now (a .a)) (a .c) (now (a .b))) (now (a .a))
+    (sym (u .before .suits .ensures) ∙ not-not-true _ (u .if1 .left)) (made f) (m .add-multiple .ensures)
 
 returns-3 : tie.Need-returns-3
+unfolding FieldMade
 returns-3 c =
-    let a = entry (c .before .before) .args in
-    answer-unnamed (a .degree) (a .low) (suited (length (now (a .b))) (length (now (a .a))))
+    let a = entry (c .before .before .before) .args in
+    answer-unnamed _ _ (suited (length (now (a .b))) (length (now (a .a))))
     (λ F. combined F (now (a .a)) (a .c) (now (a .b))) (now (a .a))
-    (c .before .names-binary-field .ensures) (c .if2 .left)
+    (subst (FieldMade _) (c .enum-told .given .1) (c .before .before .named .ensures))
 
 pub leaf-binary-update-spec : {M : Type 1} → statement M
 leaf-binary-update-spec =
@@ -65,9 +78,10 @@ leaf-binary-update-spec =
     (tie.spec
     suits-requires
     returns
-    names-binary-field-requires
-    of-binary-requires
+    named-requires
+    enum-known-field
     add-multiple-requires
+    enum-told
     same-length
     returns-2
     returns-3)

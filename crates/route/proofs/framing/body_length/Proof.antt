@@ -1,4 +1,4 @@
--- `framing::body_length` meets its contract: the rule of the table is a test at each of its nine entries,
+-- `framing::body_length` meets its contract: the rule of the table is a test at each of its ten entries,
 -- which computes.
 -- Assumes nothing.
 use Prim.Native.Nat.{ℕ}
@@ -15,7 +15,7 @@ use Rattle.route.proofs.framing.body_length.Statement.{statement}
 use Rattle.route.proofs.framing.body_length.Tie as tie
 
 lengths : List ℕ
-lengths = 255 ∷ 4 ∷ 1 ∷ 1 ∷ 35 ∷ 64 ∷ 1 ∷ 8 ∷ 0 ∷ []
+lengths = 255 ∷ 4 ∷ 1 ∷ 1 ∷ 35 ∷ 64 ∷ 1 ∷ 8 ∷ 0 ∷ 2 ∷ []
 
 length-right : ℕ → ℕ → Bool
 length-right k n = eqb n (bodyLength k)
@@ -34,7 +34,7 @@ returns c =
 
 returns-2 : tie.Need-returns-2
 unfolding bodyLength orElse bodyLengths
-returns-2 c = rw (lookUp-beyond 9 (c .before .args .kind) bodyLengths tt (search needs), orElse)
+returns-2 c = rw (lookUp-beyond 10 (c .before .args .kind) bodyLengths tt (search needs), orElse)
 
 pub body-length-spec : {M : Type 1} → statement M
 body-length-spec = tie.close (tie.spec mul-result array-read-result returns returns-2)

@@ -17,11 +17,11 @@ laid c = c .before .before .before .before
 abbrev part : tie.After-lay → tie.After-part
 part c = c .before .before
 
-first-byte-requires : tie.Need-first-byte-requires
-first-byte-requires c κs = search needs
+byte-at-requires : tie.Need-byte-at-requires
+byte-at-requires c κs = search needs
 
 cast-part : tie.Need-cast-part
-cast-part c = omega (arith, c .first-byte .ok)
+cast-part c = omega (arith, c .byte-at .ok)
 
 part-requires : tie.Need-part-requires
 part-requires c κs = search needs
@@ -53,7 +53,7 @@ returns c =
     let l = laid (o .before) in
     let p = part l in
     let a = at-part p .args in
-    factor-laid (a .body .now) (p .before .first-byte .result) (p .before .first-byte .ensures)
+    factor-laid (a .body .now) (p .before .byte-at .result) (p .before .byte-at .ensures)
     (p .part .result .now) (p .part .ensures) (a .to .now) _ _ (a .at) (l .lay .ensures)
     (o .lay2 .ensures)
 
@@ -61,7 +61,7 @@ pub lay-factor-spec : {M : Type 1} → statement M
 lay-factor-spec =
     tie.close
     (tie.spec
-    first-byte-requires
+    byte-at-requires
     cast-part
     part-requires
     lay-requires

@@ -1,3 +1,0 @@
-pub mod NineFactors
-pub mod Numbered
-pub mod SetStatus
