@@ -2,6 +2,7 @@ pub mod Actions
 pub mod Orders
 pub mod Continuations
 pub mod Minimal
+pub mod Impulse
 pub mod KnownActions
 pub mod Repeats
 pub mod CommonOrders

@@ -4,9 +4,11 @@
 -- Assumes nothing.
 use mathlib.Core.Path.{_≡_, refl}
 use mathlib.Core.Bool.{true, false}
-use mathlib.Core.List.{[], _∷_, _++_}
+use mathlib.Core.List.{List, [], _∷_, _++_}
 use mathlib.Core.Option.{some}
 use lib.ListN.{replicate}
+use Rattle.meaning.specs.declared.FieldName.{FieldName}
+use Rattle.meaning.specs.Polynomial.{Polynomial}
 use Rattle.meaning.specs.Period.{ratePeriod}
 use Rattle.meaning.specs.Portion.{rateSet, acceptedFactors}
 use Rattle.meaning.specs.Free.{rateFree}
@@ -17,6 +19,12 @@ use Rattle.meaning.specs.File.{rateFile}
 use Rattle.meaning.proofs.Computed.{GF, computed}
 use Rattle.meaning.proofs.Rows.{numberIn, box, field, factor, term, terms, end, headed, x+1, x²+1}
 use Rattle.meaning.proofs.Rows.{x²+x+1}
+
+-- x, x + 1 and so on over GF(11), the last four times 2
+abbrev eightFactors : List Polynomial
+eightFactors =
+    (0 ∷ 1 ∷ []) ∷ (1 ∷ 1 ∷ []) ∷ (2 ∷ 1 ∷ []) ∷ (3 ∷ 1 ∷ []) ∷ (8 ∷ 2 ∷ []) ∷ (10 ∷ 2 ∷ []) ∷ (1 ∷ 2 ∷ [])
+    ∷ (3 ∷ 2 ∷ []) ∷ []
 
 pub record Refusals : Type 0 where
   -- files
@@ -114,6 +122,12 @@ pub record Refusals : Type 0 where
   pub accepted12 : acceptedFactors (GF 2) (x²+1 ∷ []) (1 ∷ []) ≡ false
   pub accepted13 : acceptedFactors (GF 2) (x+1 ∷ x+1 ∷ []) (1 ∷ 1 ∷ []) ≡ false
   pub accepted14 : acceptedFactors (GF 2) (x+1 ∷ x²+x+1 ∷ []) (1 ∷ 0 ∷ []) ≡ false
+  pub accepted20 : acceptedFactors (FieldName.Binary 1 1) (x+1 ∷ []) (1 ∷ []) ≡ false
+  -- and all others are: eight factors of total degree 4,096, x and multiples among them, and no more
+  pub acceptedMost : acceptedFactors (GF 11) eightFactors (512 ∷ 512 ∷ 512 ∷ 512 ∷ 512 ∷ 512 ∷ 512 ∷ 512 ∷ [])
+      ≡ true
+  pub acceptedMore : acceptedFactors (GF 11) eightFactors (513 ∷ 512 ∷ 512 ∷ 512 ∷ 512 ∷ 512 ∷ 512 ∷ 512 ∷ [])
+      ≡ false
 
 pub refusals : Refusals
 unfolding computed
@@ -186,4 +200,7 @@ refusals =
       accepted12 = refl;
       accepted13 = refl;
       accepted14 = refl;
+      accepted20 = refl;
+      acceptedMost = refl;
+      acceptedMore = refl;
     }

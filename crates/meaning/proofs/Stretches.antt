@@ -1,10 +1,12 @@
 -- Computed rows: three sequences over GF(2), and contracts that are met on stretches of them. The factor is
--- x + 1, or x for the last of them.
+-- x + 1, or x for the last of them. Factors over GF(3), one of them a multiple of x, and over GF(4).
 --
 --   alternating, ones, oneThenZeros == 1, 0, 1, 0, …; 1, 1, 1, …; 1 and then zeros
 --   …-inField             == it is a sequence of GF(2)
 --   …-annihilated         == the factor to its upper power annihilates it
 --   accepted-…            == the factor with its upper power is accepted; `plain`: its multiple is not x
+--   multiples, factor4    == the factors over GF(3) and GF(4)
+--   …-product             == the product of the monic multiples of factors to their upper powers
 --   lent                  == the lent bytes are accepted
 --   …-set, …-period, …-free == the call of that way is met on a stretch, by an answer with its bytes
 --   three-…               == of the terms 0, 1, 0: their least degree is 2, two polynomials fit them, and the
@@ -17,6 +19,7 @@ use mathlib.Core.List.{List, [], _∷_, map}
 use mathlib.Core.Option.{some}
 use lib.ListN.{length, replicate}
 use lib.Dec.{lit≤, T}
+use Rattle.meaning.specs.declared.FieldName.{FieldName}
 use Rattle.meaning.specs.declared.Refusal.{Refusal}
 use Rattle.meaning.specs.declared.PowerRating.{PowerRating}
 use Rattle.meaning.specs.declared.SetRating.{SetRating}
@@ -24,6 +27,7 @@ use Rattle.meaning.specs.declared.SetOutcome.{SetOutcome}
 use Rattle.meaning.specs.declared.FreeRating.{FreeRating}
 use Rattle.meaning.specs.Search.{holdsForSome}
 use Rattle.meaning.specs.Field.{prime}
+use Rattle.meaning.specs.Extension.{binary}
 use Rattle.meaning.specs.Polynomial.{Polynomial, product, monicMultiple}
 use Rattle.meaning.specs.Sequence.{Sequence, InField, AnnihilatesEndless, cut}
 use Rattle.meaning.specs.Conditions.{named, acceptedLent}
@@ -34,7 +38,7 @@ use Rattle.meaning.specs.Calls.{PeriodCall, SetCall, FreeCall}
 use Rattle.meaning.proofs.Computed.{GF, computed}
 use Rattle.meaning.proofs.Rows.{x+1}
 
--- the lent bytes, the work bytes afterwards, and the answer bytes after x² + 1, x + 1, x², x and 1
+-- the lent bytes, the work bytes afterwards, and the answer bytes after x² + 1, x², x and 1
 abbrev pub answer : List ℕ
 answer = replicate 4097 7
 
@@ -46,9 +50,6 @@ clean = replicate 8192 0
 
 abbrev pub after-x²+1 : List ℕ
 after-x²+1 = 1 ∷ 0 ∷ 1 ∷ replicate 4094 7
-
-abbrev pub after-x+1 : List ℕ
-after-x+1 = 1 ∷ 1 ∷ replicate 4095 7
 
 abbrev pub after-x² : List ℕ
 after-x² = 0 ∷ 0 ∷ 1 ∷ replicate 4094 7
@@ -137,21 +138,9 @@ unfolding computed alternating
 alternating-short =
     record { rating = refl; powers = refl; lent = record { answerBytes = refl; workBytes = refl } }
 
--- 1, 1, 1, … with the upper power 2: two terms, and one too few
+-- 1, 1, 1, … with the upper power 2: one term, which is too few
 unfoldable pub ones : Sequence
 ones k = 1
-
-pub ones-inField : InField (prime 2) ones
-unfolding computed ones
-ones-inField k = lit≤ tt
-
-pub ones-annihilated : AnnihilatesEndless (prime 2) (product (prime 2) (named factors (2 ∷ []))) ones
-unfolding computed ones
-ones-annihilated k = refl
-
-pub ones-set : SetCall (GF 2) factors (2 ∷ []) (cut ones 0 2) answer work (rated 1 1 1) after-x+1 clean
-unfolding computed ones
-ones-set = record { rating = refl; powers = refl; lent = record { answerBytes = refl; workBytes = refl } }
 
 pub ones-refused : SetCall (GF 2) factors (2 ∷ []) (cut ones 0 1) answer work tooFewTerms answer work
 unfolding computed ones
@@ -192,6 +181,32 @@ pub oneThenZeros-set-1 : SetCall (GF 2) x (1 ∷ []) (cut oneThenZeros 1 1) answ
 unfolding computed oneThenZeros
 oneThenZeros-set-1 =
     record { rating = refl; powers = refl; lent = record { answerBytes = refl; workBytes = refl } }
+
+-- MULTIPLES OF x AND x + 2 over GF(3): 2x and 2x + 1, to the powers 2 and 1
+abbrev pub multiples : List Polynomial
+multiples = (0 ∷ 2 ∷ []) ∷ (1 ∷ 2 ∷ []) ∷ []
+
+pub accepted-multiples : T (acceptedFactors (GF 3) multiples (2 ∷ 1 ∷ []))
+unfolding computed
+accepted-multiples = tt
+
+pub multiples-product :
+    product (prime 3) (named (map (monicMultiple (prime 3)) multiples) (2 ∷ 1 ∷ [])) ≡ 0 ∷ 0 ∷ 2 ∷ 1 ∷ []
+unfolding computed
+multiples-product = refl
+
+-- OVER GF(4): 2·x + 3, which stands for x + 2, to the power 2
+abbrev pub factor4 : List Polynomial
+factor4 = (3 ∷ 2 ∷ []) ∷ []
+
+pub accepted-over4 : T (acceptedFactors (FieldName.Binary 2 3) factor4 (2 ∷ []))
+unfolding computed
+accepted-over4 = tt
+
+pub over4-product :
+    product (binary 2 3) (named (map (monicMultiple (binary 2 3)) factor4) (2 ∷ [])) ≡ 3 ∷ 0 ∷ 1 ∷ []
+unfolding computed
+over4-product = refl
 
 -- THE TERMS 0, 1, 0 of 1, 0, 1, 0, …
 abbrev pub three : List ℕ

@@ -61,15 +61,15 @@ nonzero-upper f v l h e =
     false-T (z .0)
     (some-head (λ (g : Polynomial × ℕ). eqb (g .1) 0) (f, v) l (subst (λ n. T (eqb n 0)) (sym e) tt))
 
-positive :
+pub total-positive :
     (name : FieldName) (fs : List Polynomial) (vs : List ℕ)
     → T (acceptedFactors name fs vs)
     → 1 ≤ totalDegree (named (map (monicMultiple (GF name)) fs) vs)
 unfolding named totalDegree factorCountOutOfRange factorTable
-positive name [] vs h = absurd (true≢false (accepted-passes name [] vs h .factorCount))
-positive name (f ∷ fs) [] h =
+total-positive name [] vs h = absurd (true≢false (accepted-passes name [] vs h .factorCount))
+total-positive name (f ∷ fs) [] h =
     absurd (nonzero-upper f 0 (named fs []) (accepted-passes name (f ∷ fs) [] h .uppersInRange) refl)
-positive name (f ∷ fs) (v ∷ vs) h =
+total-positive name (f ∷ fs) (v ∷ vs) h =
     let u = nonzero-upper f v (named fs vs) (accepted-passes name (f ∷ fs) (v ∷ vs) h .uppersInRange) in
     let d = accepted-different name (f ∷ fs) (v ∷ vs) h .positive 0 (omega arith) in
     omega (arith, mul-pos {m = v} {n = degree (monicMultiple (GF name) f)} (omega arith) d)
@@ -158,9 +158,6 @@ module _
     same-as-g h k x = minimal-unique I h g (shifted s k) x (minimal-from k)
 
     -- THE SET WAY
-    total-positive : 1 ≤ totalDegree l
-    total-positive = positive name fs vs accepted
-
     terms : (k m : ℕ) → 1 ≤ m → m ≤ 4096 → AcceptedTerms F (cut s k m)
     terms k m few many =
         record {
@@ -177,7 +174,7 @@ module _
     set-way k m e few answer work lent r answer′ work′ c =
         let result =
         set-answer name fs vs (cut s k m) (length answer) (length work) accepted
-        (terms k m (le-trans total-positive e) few)
+        (terms k m (le-trans (total-positive name fs vs accepted) e) few)
         lent (enough k m e) (known-annihilated k m) (powers k m .1) in (
           _,
           c .rating ∙ ap (λ x. mapResult setFiguresTold (figuresOf x)) result,

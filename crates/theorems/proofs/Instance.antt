@@ -5,8 +5,7 @@
 --
 --   two        == the name of GF(2)
 --   instance   == the theorem for this sequence; `polynomial`: its polynomial
---   ones-instance, ones-polynomial == the same for 1, 1, 1, … with the upper power 2: the polynomial is x + 1
---   short-instance, short-polynomial == and for 1, 0, 1, 0, … with the upper power 2
+--   short-instance, short-polynomial == the same with the upper power 2
 --   alternating-set, -period, -free == the contracts, met on a stretch or a period
 --   degree-in  == the degree that a call of the set way tells
 -- Assumes nothing.
@@ -21,10 +20,9 @@ use Rattle.meaning.specs.Conditions.{named, totalDegree}
 use Rattle.meaning.specs.FieldNames.{namedField}
 use Rattle.meaning.specs.Answers.{SetTold, toldSet}
 use Rattle.meaning.specs.Result.{Result, answered, refused}
-use Rattle.meaning.proofs.Stretches.{answer, work, lent, after-x²+1, after-x+1, factors, accepted-2}
+use Rattle.meaning.proofs.Stretches.{answer, work, lent, after-x²+1, factors, accepted-2}
 use Rattle.meaning.proofs.Stretches.{accepted-3, plain, alternating, alternating-inField, alternating-short}
 use Rattle.meaning.proofs.Stretches.{alternating-annihilated-2, alternating-annihilated-3}
-use Rattle.meaning.proofs.Stretches.{ones, ones-inField, ones-annihilated, ones-set}
 use Rattle.theorems.specs.CutAnywhere.{CutAnywhere}
 use Rattle.theorems.proofs.CutAnywhere.{cut-anywhere}
 pub use Rattle.meaning.proofs.Stretches.{alternating-set, alternating-period, alternating-free}
@@ -51,16 +49,6 @@ polynomial =
     sym (ap (λ (n : ℕ). take (suc n) after-x²+1) (ap degree-in (x .1)) ∙ x .2 .coefficients)
 
 -- With the upper power 2
-pub ones-instance : CutAnywhere two factors (2 ∷ []) ones
-unfolding namedField
-ones-instance = cut-anywhere two factors (2 ∷ []) ones accepted-2 plain ones-inField ones-annihilated
-
-pub ones-polynomial : ones-instance .g ≡ 1 ∷ 1 ∷ []
-unfolding totalDegree named degree toldSet degree-in
-ones-polynomial =
-    let x = ones-instance .set-way 0 2 (lit≤ tt) (lit≤ tt) answer work lent _ _ _ ones-set in
-    sym (ap (λ (n : ℕ). take (suc n) after-x+1) (ap degree-in (x .1)) ∙ x .2 .coefficients)
-
 pub short-instance : CutAnywhere two factors (2 ∷ []) alternating
 unfolding namedField
 short-instance =

@@ -6,6 +6,7 @@ pub mod Telling
 pub mod Names
 pub mod Ways
 pub mod CutAnywhere
+pub mod NoShorter
 pub mod Answering
 pub mod Files
 pub mod FileDeciding

@@ -22,6 +22,7 @@ use Rattle.theorems.proofs.Words.{irreducible-promise, continue-promise
 use Rattle.theorems.proofs.Words.{multiples-promise}
 use Rattle.theorems.proofs.Ways.{period-promise, set-promise, free-promise}
 use Rattle.theorems.proofs.CutAnywhere.{cut-anywhere}
+use Rattle.theorems.proofs.NoShorter.{no-shorter-promise, no-rater-promise, enough-promise}
 use Rattle.theorems.proofs.Files.{file-promise}
 use Rattle.theorems.proofs.Program.{record-promise, program-as-call, program-promise}
 use Rattle.theorems.proofs.Density.{density-promise}
@@ -98,6 +99,9 @@ promises =
       catalogue = catalogue-promise;
       entry = entry-promise;
       cut-anywhere = cut-anywhere;
+      no-shorter = no-shorter-promise;
+      no-rater = no-rater-promise;
+      enough = enough-promise;
       files = file-promise;
       records = record-promise;
       program-as-call = program-as-call;

@@ -1,6 +1,7 @@
 pub mod Ratings
 pub mod Fields
 pub mod CutAnywhere
+pub mod NoShorter
 pub mod Answering
 pub mod Files
 pub mod Density

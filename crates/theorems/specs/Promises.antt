@@ -1,11 +1,13 @@
--- What is promised, as statements about the contracts of the calls, and nothing else: each is a named type
--- with all of its hypotheses, and `promises` of proofs/Promises.antt proves the record of them all.
+-- What is promised, as statements about the contracts of the calls, or about fields and sequences alone: each
+-- is a named type with all of its hypotheses, and `promises` of proofs/Promises.antt proves the record of
+-- them all.
 --
 --   Answering        == demand 1: every call gives an answer or one of its numbered refusals, on every input
 --   Ratings          == demand 2: the polynomial is the minimal polynomial, the repeat length the least
 --                       period; the two questions
 --   Fields           == the laws of the fields, in plain numbers
 --   CutAnywhere      == demand 3: the same polynomial wherever the stretch is cut
+--   NoShorter        == fewer first terms than the total degree are not always enough, and as many are
 --   Files            == route files, the reader, the program
 --   Density          == the density of a period
 --   OtherLanguages   == the exported calls
@@ -36,6 +38,7 @@ use Rattle.theorems.specs.Ratings.{MultiplePromise, MultiplesPromise, Pr
 use Rattle.theorems.specs.Ratings.{NameWords, ConditionWords}
 use Rattle.theorems.specs.Fields.{FieldPromise}
 use Rattle.theorems.specs.CutAnywhere.{CutAnywherePromise}
+use Rattle.theorems.specs.NoShorter.{NoShorterPromise, NoRaterPromise, EnoughPromise}
 use Rattle.theorems.specs.Files.{FilePromise, RecordPromise, ProgramAsCall, ProgramPromise}
 use Rattle.theorems.specs.Density.{DensityPromise}
 use Rattle.theorems.specs.OtherLanguages.{PeriodExport, SetExport, FreeExport}
@@ -81,6 +84,10 @@ pub record Promises : Type 0 where
   pub entry : EntryPromise
   -- demand 3
   pub cut-anywhere : CutAnywherePromise
+  -- how many terms it takes
+  pub no-shorter : NoShorterPromise
+  pub no-rater : NoRaterPromise
+  pub enough : EnoughPromise
   -- route files, the reader, the program
   pub files : FilePromise
   pub records : RecordPromise

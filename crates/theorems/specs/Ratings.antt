@@ -282,7 +282,9 @@ pub record NameWords : Type 0 where
       → bodies 9 rs ≡ body ∷ rest
       → fieldIn rs ≡ FieldName.Binary (getD body 0 0) (getD body 1 0)
   pub numbers-prime : (f : FieldNumbers) → f .degree ≡ 0 → namedBy f ≡ FieldName.Prime (f .number)
-  pub numbers-binary : (f : FieldNumbers) → f .degree ≢ 0 → namedBy f ≡ FieldName.Binary (f .degree) (f .number)
+  pub numbers-binary : (f : FieldNumbers)
+      → f .degree ≢ 0
+      → namedBy f ≡ FieldName.Binary (f .degree) (f .number)
   pub admitted : (name : FieldName) → notField name ≡ false → NamesField name
 
 abbrev pub PrimeWords : Type 0
