@@ -43,23 +43,43 @@ fn all_short() -> Outcome {
     let binary = binary.map(|(n, low, longest)| (Field::binary(n, low), longest));
     for (field, longest) in primes.into_iter().chain(binary) {
         for terms in all_terms(field, longest) {
-            let fitting = fitting(field, &terms);
-            let unique = 2 * degree(&fitting[0]) <= terms.len();
-            expect(fitting.len() == 1, unique, || format!("{field}, {terms:?}"))?;
-            let rating = Rating {
-                powers: vec![],
-                polynomial: fitting[0].clone(),
-                repeat: None,
-                unique: Some(unique),
-            };
-            expect(&free_rating(field, &terms).polynomial, &fitting[0], || {
-                format!("the second rater, {field}, {terms:?}")
-            })?;
-            answers(&inputs::free(field, &terms), &Ok(rating))?;
+            by_all_polynomials(field, &terms)?;
             cases += 1;
         }
     }
     Ok(cases)
+}
+
+// The call and the second rater against all polynomials of rising degree.
+fn by_all_polynomials(field: Field, terms: &[u64]) -> Result<(), String> {
+    let fitting = fitting(field, terms);
+    let unique = 2 * degree(&fitting[0]) <= terms.len();
+    expect(fitting.len() == 1, unique, || format!("{field}, {terms:?}"))?;
+    let rating = Rating {
+        powers: vec![],
+        polynomial: fitting[0].clone(),
+        repeat: None,
+        unique: Some(unique),
+    };
+    expect(&free_rating(field, terms).polynomial, &fitting[0], || {
+        format!("the second rater, {field}, {terms:?}")
+    })?;
+    answers(&inputs::free(field, terms), &Ok(rating))
+}
+
+// Portions of registers of degree up to 2 over GF(256), of which there are too many to take all.
+fn short_over_256() -> Outcome {
+    const CASES: u64 = 400;
+    let mut random = Random::of_seed(41);
+    let field = Field::binary(8, 27);
+    for _ in 0..CASES {
+        let d = random.below(3) as usize;
+        let f = sequence::of_bytes(&random.monic(field, d));
+        let start = inputs::terms(&mut random, field, d);
+        let m = random.between(1, 6) as usize;
+        by_all_polynomials(field, &continued(field, &f, &start, m))?;
+    }
+    Ok(CASES)
 }
 
 // The second rater against Gaussian elimination, and with it the call.
@@ -246,27 +266,35 @@ fn longest() -> Outcome {
     Ok(cases)
 }
 
-// Long portions over every field of 2^n elements, without a rule and of registers, against the second rater.
+// Long portions over every field of 2^n elements, without a rule and of registers, against the second rater: at least
+// 2,000 for each n, one of them for each field of up to 4,096 terms.
 fn every_reducing_polynomial() -> Outcome {
-    const EACH: u64 = 120;
+    const LEAST: usize = 2000;
     let mut random = Random::of_seed(40);
     let mut cases = 0;
-    for field in binary_fields() {
-        for i in 0..EACH {
-            let longest = if i == 0 { 4096 } else { 400 };
-            let n = random.between(longest / 2, longest) as usize;
-            let d = random.below(n as u64 / 2) as usize;
-            let f = sequence::of_bytes(&random.monic(field, d));
-            let start = inputs::terms(&mut random, field, d);
-            let mut terms = continued(field, &f, &start, n);
-            if i % 2 == 0 {
-                terms = inputs::terms(&mut random, field, n);
+    for n in 2..=8 {
+        let all = Vec::from_iter(binary_fields().into_iter().filter(|f| f.size == 1 << n));
+        for &field in &all {
+            for i in 0..LEAST.div_ceil(all.len()) {
+                let longest = if i == 0 { 4096 } else { 400 };
+                let m = random.between(longest / 2, longest) as usize;
+                agrees(&inputs::free(field, &long_terms(&mut random, field, m, i % 2 == 0)))?;
+                cases += 1;
             }
-            agrees(&inputs::free(field, &terms))?;
-            cases += 1;
         }
     }
     Ok(cases)
+}
+
+// So many terms: without a rule, or of a register of less than half their number.
+fn long_terms(random: &mut Random, field: Field, m: usize, without_rule: bool) -> Terms {
+    if without_rule {
+        return inputs::terms(random, field, m);
+    }
+    let d = random.below(m as u64 / 2) as usize;
+    let f = sequence::of_bytes(&random.monic(field, d));
+    let start = inputs::terms(random, field, d);
+    continued(field, &f, &start, m)
 }
 
 // Every length up to the longest of one portion.
@@ -325,6 +353,7 @@ fn main() {
         &[
             ("known answers", known_answers),
             ("all short portions", all_short),
+            ("short portions over GF(256)", short_over_256),
             ("the first of several", first_of_several),
             ("known polynomials", known_polynomials),
             ("registers", any_register),
