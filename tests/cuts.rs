@@ -21,6 +21,16 @@ struct Sequence {
 }
 
 impl Sequence {
+    // 6,000 terms of a register with the minimal polynomial f^r.
+    fn of_power(random: &mut Random, field: Field, f: Poly, r: u64) -> Self {
+        Sequence {
+            field,
+            terms: register(random, field, &f, r, 6000),
+            factors: vec![f],
+            powers: vec![r],
+        }
+    }
+
     // Up to `most` factors, some of them perhaps to the power 0.
     fn of(random: &mut Random, field: Field, most: u64, total: usize, known: usize) -> Self {
         let n = random.between(1, most) as usize;
@@ -153,12 +163,7 @@ fn raised() -> Outcome {
                     break f;
                 }
             };
-            let sequence = Sequence {
-                field,
-                terms: register(&mut random, field, &f, r, 6000),
-                factors: vec![f],
-                powers: vec![r],
-            };
+            let sequence = Sequence::of_power(&mut random, field, f, r);
             cases += sequence.named(&mut random)?;
             cases += sequence.free(&mut random)?;
         }
@@ -176,12 +181,7 @@ fn periods() -> Outcome {
             let longest = random.one_of(&[300, 1000, 4096]);
             let (f, e, q) = dividing(&mut random, field, 200, longest);
             let r = power(&mut random, field, q);
-            let sequence = Sequence {
-                field,
-                terms: register(&mut random, field, &f, r, 6000),
-                factors: vec![f],
-                powers: vec![r],
-            };
+            let sequence = Sequence::of_power(&mut random, field, f, r);
             cases += sequence.named(&mut random)?;
             cases += sequence.free(&mut random)?;
             for _ in 0..3 {
