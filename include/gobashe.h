@@ -18,8 +18,7 @@
  *              GOBASHE_ANSWER and GOBASHE_WORK are refused by 16.
  * Status       0 if the call is accepted, else the number of the one refusal that applies. The input
  *              alone decides; of several that apply it is always the first to be checked: 6 or 20, 7, 8,
- *              and so on upwards; a sum of registers has an order of its own. In a route file the first
- *              bad record decides.
+ *              and so on upwards. In a route file the first bad record decides.
  * Refusals     All other numbers in the result are 0. The buffers are as before the call, except that 17
  *              and 19 leave the first GOBASHE_WORK bytes of `work` zero.
  * Threads      Nothing is allocated, kept, printed or locked. Calls with different buffers may run at the
@@ -35,8 +34,7 @@
 extern "C" {
 #endif
 
-/* What `gobashe_version` returns in a library that fits this header. A new function alone leaves it as it
- * is. */
+/* What `gobashe_version` returns in a library that fits this header. */
 #define GOBASHE_VERSION 4
 
 /* Limits. */
@@ -44,7 +42,6 @@ enum gobashe_limit {
     GOBASHE_ANSWER = 4097,       /* bytes of `answer` */
     GOBASHE_WORK = 8192,         /* bytes of `work` */
     GOBASHE_TERMS = 4096,        /* terms that a call rates, or places that it fills */
-    GOBASHE_SUM_DEGREE = 2048,   /* degrees of the two registers of a sum, added up */
     GOBASHE_FACTORS = 8,         /* factors of a set */
     GOBASHE_FACTOR_DEGREE = 32,  /* degree of a factor; its field may allow less */
     GOBASHE_REPEAT = 65536,      /* repeat length that the set way finds */
@@ -77,9 +74,7 @@ enum gobashe_refusal {
     GOBASHE_NOT_ANNIHILATED = 17,           /* no allowed product of the factors generates the terms */
     GOBASHE_METER_FULL = 18,                /* a profile's meter already holds GOBASHE_TERMS terms */
     GOBASHE_NO_ENTRY = 19,                  /* no power of any entry of the catalogue generates the period */
-    GOBASHE_NOT_BINARY_FIELD = 20,          /* GF(2^n): n is not 2 to 8, or the number does not suit it */
-    GOBASHE_FIELDS_DIFFER = 21,             /* the fields of the two registers differ */
-    GOBASHE_SUM_DEGREE_TOO_HIGH = 22        /* the degrees of the registers exceed GOBASHE_SUM_DEGREE */
+    GOBASHE_NOT_BINARY_FIELD = 20           /* GF(2^n): n is not 2 to 8, or the number does not suit it */
 };
 
 /* A field by two numbers: GF(number) if the degree is 0, else GF(2^degree) with the reducing polynomial
@@ -103,12 +98,6 @@ typedef struct {
     uint64_t word;       /* free way: 1 if no other polynomial of this degree fits, 2 if one may; else 0 */
     uint64_t powers[8];  /* the power of each factor, in their order, then zeros */
 } gobashe_rating;
-
-/* What the sum of two registers returns. */
-typedef struct {
-    uint64_t status;     /* 0, or the refusal */
-    uint64_t complexity; /* the degree of the polynomial in `answer` */
-} gobashe_sum;
 
 /* What a question returns: yes is 1 or 0. */
 typedef struct {
@@ -173,17 +162,6 @@ gobashe_rating gobashe_rate_set(gobashe_field field, const gobashe_bytes *factor
 gobashe_rating gobashe_rate_free(gobashe_field field, const uint8_t *terms, size_t count, uint8_t *answer,
                                  size_t answer_length, uint8_t *work, size_t work_length);
 
-/* Rates the sum, term by term, of the sequences that two registers generate: finds its minimal polynomial.
- * A register is a polynomial and its starting terms, which are as many as the degree; a constant has none,
- * and generates zeros. The two fields have to be equal in both numbers. Refused by 6 or 20, 8, 10 (a degree
- * above 4,096), 11, 15 of the first register, then by the same of the second, then by 21, 22, 16. Every
- * refusal leaves both buffers as before the call. It needs more stack than all other calls: see Stack. */
-gobashe_sum gobashe_rate_sum(gobashe_field field1, const uint8_t *polynomial1, size_t length1,
-                             const uint8_t *start1, size_t start_length1, gobashe_field field2,
-                             const uint8_t *polynomial2, size_t length2, const uint8_t *start2,
-                             size_t start_length2, uint8_t *answer, size_t answer_length, uint8_t *work,
-                             size_t work_length);
-
 /* The linear complexity after each term, as the free way would rate the terms so far. Writes
  * GOBASHE_PROFILE_ENTRY bytes for each term, for as many terms as there is room: the status of the term,
  * the complexity in two bytes with the less significant first, and 1 if one polynomial fits or 0 if
@@ -236,8 +214,6 @@ static inline const char *gobashe_reason(uint64_t status) {
         "the meter already holds 4,096 terms",
         "no entry of the catalogue has a power that annihilates the period",
         "n is not 2 to 8, or the reducing polynomial has a bit at or above n or is reducible",
-        "the fields of the two registers differ",
-        "the degrees of the two registers add up to more than 2,048",
     };
     return status < sizeof reasons / sizeof *reasons ? reasons[status] : NULL;
 }

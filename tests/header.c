@@ -52,24 +52,6 @@ static void ratings(void) {
     rated("no field", gobashe_rate_free(gobashe_binary(0, 2), powers, 4, NULL, 0, NULL, 0), refused);
 }
 
-/* The sum over GF(3) of a register with the leading coefficient 2 and another, which share a factor; of a register
- * and a constant over GF(4); and two fields. */
-static void sums(void) {
-    const gobashe_field three = gobashe_prime(3), four = gobashe_binary(2, 3);
-    const uint8_t g[] = {1, 0, 2}, h[] = {1, 1}, a[] = {0, 1}, b[] = {1}, sum[] = {2, 0, 1};
-    const uint8_t x2[] = {2, 1}, constant[] = {3}, start[] = {1};
-    gobashe_sum r = gobashe_rate_sum(three, g, 3, a, 2, three, h, 2, b, 1, answer, sizeof answer, work, sizeof work);
-    is("sum", r.status, GOBASHE_OK);
-    is("its complexity", r.complexity, 2);
-    are("its polynomial", answer, sum, 3);
-    r = gobashe_rate_sum(four, x2, 2, start, 1, four, constant, 1, NULL, 0, answer, sizeof answer, work, sizeof work);
-    is("with a constant", r.status == GOBASHE_OK && r.complexity == 1, 1);
-    are("its polynomial", answer, x2, 2);
-    r = gobashe_rate_sum(three, h, 2, b, 1, four, x2, 2, start, 1, NULL, 0, NULL, 0);
-    is("two fields", r.status, GOBASHE_FIELDS_DIFFER);
-    is("no complexity", r.complexity, 0);
-}
-
 static void others(void) {
     const gobashe_field four = gobashe_binary(2, 3), aes = gobashe_binary(8, 27);
     const uint8_t x3[] = {3, 1}, quadratic[] = {2, 1, 1}, product[] = {1, 1, 1}, start[] = {1};
@@ -92,12 +74,11 @@ static void others(void) {
     is("entry", entry.status == 0 && entry.entry == 3 && entry.power == 4, 1);
     is("record", found.status == 0 && found.kind == 9 && found.from == 6 && found.length == 2, 1);
     is("no file", gobashe_record(NULL, 0, 0).status, GOBASHE_FILE_CUT_SHORT);
-    is("reasons", gobashe_reason(22) != NULL && gobashe_reason(23) == NULL, 1);
+    is("reasons", gobashe_reason(20) != NULL && gobashe_reason(21) == NULL, 1);
 }
 
 int main(void) {
     ratings();
-    sums();
     others();
     return wrong;
 }

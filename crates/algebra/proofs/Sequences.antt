@@ -8,4 +8,3 @@ pub mod FirstFit
 pub mod Period
 pub mod LeastPower
 pub mod Orders
-pub mod Registers

@@ -4,5 +4,3 @@ pub mod PowerSearch
 pub mod Portions
 pub mod Periods
 pub mod Accepted
-pub mod Sums
-pub mod AcceptedSums

@@ -6,8 +6,7 @@ ghost use Rattle.meaning.specs.Calls.{ContinueCall};
 use crate::continuation::fill;
 use arith::{FieldAnswer, GaloisField};
 use meaning::{FieldName, Filling};
-use refusals::Verdict;
-use refusals::registers::continue_verdict;
+use refusals::{Verdict, continue_verdict};
 
 // Fills the buffer, from the place to its end, with the sequence that the polynomial continues the starting
 // terms to, and leaves all before the place as it was; or refuses by 6 or 20, 7, 8, 10, 11 or 15, and leaves

@@ -25,7 +25,7 @@ use Rattle.meaning.specs.Conditions.{coefficient_out_of_range, not_monic}
 use Rattle.meaning.specs.Conditions.{is_asked, is_reducible, two_equal, upper_powers_out_of_range}
 use Rattle.meaning.specs.Conditions.{fewer_terms_than, not_binary, least_extension, largest_extension}
 use Rattle.meaning.specs.Conditions.{start_unlike_degree, lent_too_short, accepted_lent}
-use Rattle.meaning.specs.FieldNames.{named_field, not_field, field_number, same_name, in_field}
+use Rattle.meaning.specs.FieldNames.{named_field, not_field, field_number, in_field}
 use Rattle.meaning.specs.Power.{is_x, power_rating}
 use Rattle.meaning.specs.Repeat.{repeats_every, shortest_period}
 use Rattle.meaning.specs.Period.{period_power, period_table, period_answer, period_in, rate_period}
@@ -38,8 +38,6 @@ use Rattle.meaning.specs.Meter.{unless_refused, profile_entry, reading_entry, pr
 use Rattle.meaning.specs.Catalogue.{bits_up_to, entry_polynomial, catalogue, entry_power, entry_figures}
 use Rattle.meaning.specs.Catalogue.{first_entry, entry_table, find_entry}
 use Rattle.meaning.specs.Continuation.{continue_table, filled, continue_in, continue_sequence}
-use Rattle.meaning.specs.Sum.{sum_of, register_sum, sum_terms, input_table, fields_differ, degrees_too_high}
-use Rattle.meaning.specs.Sum.{sum_table, sum_rating, rate_sum}
 use Rattle.meaning.specs.Irreducibility.{irreducible_table, irreducible_in, ask_irreducible}
 use Rattle.meaning.specs.Route.{look_up, body_lengths, admitted, stopped, before, walk, bodies, appended}
 use Rattle.meaning.specs.Route.{number, byte_of, factor_upper, mode_of, suits, mode_unsuited, suited}
@@ -52,10 +50,10 @@ use Rattle.meaning.specs.Print.{text, digits, decimal, joined, line, header, lab
 use Rattle.meaning.specs.Print.{result_line, poly_line, report, printed}
 use Rattle.meaning.specs.Answers.{number_of, told_irreducible, told_filling, told_power, told_free, told_set}
 use Rattle.meaning.specs.Answers.{set_figures_told, told_file, label_told, file_figures_told, told_record}
-use Rattle.meaning.specs.Answers.{told_sum, padded, set_padded, label_powers, file_padded}
+use Rattle.meaning.specs.Answers.{padded, set_padded, label_powers, file_padded}
 use Rattle.meaning.specs.Calls.{buffer_after, body_after}
 use Rattle.meaning.specs.Exports.{version, named_by, status_of, period_told, set_told, word_number, free_told}
-use Rattle.meaning.specs.Exports.{sum_told, entry_told, answer_told, body_start, record_told}
+use Rattle.meaning.specs.Exports.{entry_told, answer_told, body_start, record_told}
 
 abbrev pub GF : ℕ → FieldName
 GF p = FieldName.Prime p
@@ -112,7 +110,7 @@ unfolding upper_powers_out_of_range fewer_terms_than start_unlike_degree lent_to
 open_conditions-3 = tt
 
 unfoldable pub open_field_names : Unit {0}
-unfolding named_field not_field field_number same_name in_field
+unfolding named_field not_field field_number in_field
 open_field_names = tt
 
 unfoldable pub open_power : Unit {0}
@@ -152,10 +150,6 @@ unfoldable pub open_continuation : Unit {0}
 unfolding continue_table filled continue_in continue_sequence
 open_continuation = tt
 
-unfoldable pub open_sum : Unit {0}
-unfolding sum_of register_sum sum_terms input_table fields_differ degrees_too_high sum_table sum_rating rate_sum
-open_sum = tt
-
 unfoldable pub open_irreducibility : Unit {0}
 unfolding irreducible_table irreducible_in ask_irreducible
 open_irreducibility = tt
@@ -186,7 +180,7 @@ unfolding number_of told_irreducible told_filling told_power told_free told_set 
 open_answers-1 = tt
 
 unfoldable pub open_answers-2 : Unit {0}
-unfolding file_figures_told told_record told_sum padded set_padded label_powers file_padded
+unfolding file_figures_told told_record padded set_padded label_powers file_padded
 open_answers-2 = tt
 
 unfoldable pub open_calls : Unit {0}
@@ -194,8 +188,8 @@ unfolding buffer_after body_after
 open_calls = tt
 
 unfoldable pub open_exports : Unit {0}
-unfolding version named_by status_of period_told set_told word_number free_told sum_told entry_told answer_told
-    body_start record_told
+unfolding version named_by status_of period_told set_told word_number free_told entry_told answer_told body_start
+    record_told
 open_exports = tt
 
 unfoldable pub opened-1 : Unit {0}
@@ -211,7 +205,7 @@ unfolding open_field_names open_power open_repeat open_period open_portion open_
 opened-3 = tt
 
 unfoldable pub opened-4 : Unit {0}
-unfolding open_catalogue open_continuation open_sum open_irreducibility open_route-1 open_route-2 open_file-1
+unfolding open_catalogue open_continuation open_irreducibility open_route-1 open_route-2 open_file-1
 opened-4 = tt
 
 unfoldable pub opened-5 : Unit {0}

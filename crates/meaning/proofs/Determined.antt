@@ -1,7 +1,7 @@
 -- What an answer tells determines it: no two answers tell the same. With the equations of the contracts,
 -- whatever meets a contract is one answer.
 --
---   refusal_of n   == the refusal with the number n, none for a number that is not 1 to 22
+--   refusal_of n   == the refusal with the number n, none for a number that is not 1 to 20
 --   refusal_number, refusal_found == the numbers of the list are those of the refusals
 --   …-determined  == two answers that tell the same are the same
 --   period_call_determined and its like == two runs of a call on the same input agree in the answer and in
@@ -21,7 +21,6 @@ use Rattle.meaning.specs.declared.PowerRating.{PowerRating}
 use Rattle.meaning.specs.declared.SetOutcome.{SetOutcome}
 use Rattle.meaning.specs.declared.SetRating.{SetRating}
 use Rattle.meaning.specs.declared.FreeRating.{FreeRating}
-use Rattle.meaning.specs.declared.SumRating.{SumRating}
 use Rattle.meaning.specs.declared.Meter.{Meter}
 use Rattle.meaning.specs.declared.MeterStart.{MeterStart}
 use Rattle.meaning.specs.declared.MeterStep.{MeterStep}
@@ -37,8 +36,7 @@ use Rattle.meaning.specs.declared.Refusal.TheVariants.{DegreeOutOfRange, Coeffic
 use Rattle.meaning.specs.declared.Refusal.TheVariants.{Reducible}
 use Rattle.meaning.specs.declared.Refusal.TheVariants.{EqualFactors, UpperPowers, TooFewTerms}
 use Rattle.meaning.specs.declared.Refusal.TheVariants.{LentTooShort, NotAnnihilated, MeterFull}
-use Rattle.meaning.specs.declared.Refusal.TheVariants.{NoEntry, NotBinaryField, FieldsDiffer}
-use Rattle.meaning.specs.declared.Refusal.TheVariants.{SumDegreeTooHigh}
+use Rattle.meaning.specs.declared.Refusal.TheVariants.{NoEntry, NotBinaryField}
 use Rattle.meaning.specs.Search.{map_option, holds_for_all}
 use Rattle.meaning.specs.Route.{look_up}
 use Rattle.meaning.specs.Result.{Result, refused, answered, Rated}
@@ -49,9 +47,9 @@ use Rattle.meaning.specs.Catalogue.{EntryFigures}
 use Rattle.meaning.specs.Calls.{LentAfter, IrreducibleCall, PeriodCall, SetCall}
 use Rattle.meaning.specs.Calls.{FreeCall, StartCall, TermCall, ReadingCall, ContinueCall, FileCall}
 use Rattle.meaning.specs.Calls.{EntryCall, CatalogueCall}
-use Rattle.meaning.specs.Calls.{SumCall, RecordCall}
+use Rattle.meaning.specs.Calls.{RecordCall}
 use Rattle.meaning.specs.Answers.{number_of, told_irreducible, told_filling, told_power, told_free, SetTold}
-use Rattle.meaning.specs.Answers.{told_sum, told_start, told_entry, told_set}
+use Rattle.meaning.specs.Answers.{told_start, told_entry, told_set}
 use Rattle.meaning.specs.Answers.{FileTold, with_powers, with_one, with_some, told_file, told_record}
 
 unfoldable pub refusals : List (ℕ × Refusal)
@@ -76,8 +74,6 @@ refusals =
     ∷ (18, MeterFull)
     ∷ (19, NoEntry)
     ∷ (20, NotBinaryField)
-    ∷ (21, FieldsDiffer)
-    ∷ (22, SumDegreeTooHigh)
     ∷ []
 
 unfoldable pub refusal_of : ℕ → Option Refusal
@@ -105,8 +101,6 @@ refusal_number NotAnnihilated = refl
 refusal_number MeterFull = refl
 refusal_number NoEntry = refl
 refusal_number NotBinaryField = refl
-refusal_number FieldsDiffer = refl
-refusal_number SumDegreeTooHigh = refl
 
 some_same : {A : Type 0} (a b : A) → some a ≡ some b → a ≡ b
 some_same a b e = cc
@@ -219,18 +213,6 @@ free-told (FreeRating.Refused r) = refusing-number FreeRating.Refused r
 pub free-determined : (r s : FreeRating) → told_free r ≡ told_free s → r ≡ s
 free-determined = determined told_free free free-told
 
-sum : Result ℕ → Option SumRating
-sum (refused n) = refusing SumRating.Refused n
-sum (answered d) = some (SumRating.Rated d)
-
-sum_told : (r : SumRating) → sum (told_sum r) ≡ some r
-unfolding sum told_sum
-sum_told (SumRating.Rated d) = refl
-sum_told (SumRating.Refused r) = refusing-number SumRating.Refused r
-
-pub sum-determined : (r s : SumRating) → told_sum r ≡ told_sum s → r ≡ s
-sum-determined = determined told_sum sum sum_told
-
 file : Result FileTold → Option FileOutcome
 file (refused n) = refusing FileOutcome.Refused n
 file (answered (with_powers d m n)) = some (FileOutcome.Powers d m n)
@@ -300,14 +282,6 @@ pub free_call_determined :
     → (r ≡ s) × ((a ≡ b) × (w ≡ x))
 free_call_determined {r = r} {s = s} c d =
     (free-determined r s (c.rating ∙ sym d.rating), lent-determined c.lent d.lent)
-
-pub sum_call_determined :
-    {first second : FieldName} {g t h u answer work a b w x : List ℕ} {r s : SumRating}
-    → SumCall first g t second h u answer work r a w
-    → SumCall first g t second h u answer work s b x
-    → (r ≡ s) × ((a ≡ b) × (w ≡ x))
-sum_call_determined {r = r} {s = s} c d =
-    (sum-determined r s (c.rating ∙ sym d.rating), lent-determined c.lent d.lent)
 
 start : Result Meter → Option MeterStart
 start (refused n) = refusing MeterStart.Refused n

@@ -9,18 +9,16 @@ use lib.ListN.{replicate}
 use Rattle.meaning.specs.declared.FieldName.{FieldName}
 use Rattle.meaning.specs.declared.FieldNumbers.{FieldNumbers}
 use Rattle.meaning.specs.declared.Rating.{Rating}
-use Rattle.meaning.specs.declared.Sum.{Sum}
 use Rattle.meaning.specs.declared.Found.{Found}
 use Rattle.meaning.specs.Result.{refused, answered, figures_of}
 use Rattle.meaning.specs.Period.{rate_period}
 use Rattle.meaning.specs.Portion.{rate_set}
 use Rattle.meaning.specs.Free.{rate_free}
 use Rattle.meaning.specs.Catalogue.{find_entry}
-use Rattle.meaning.specs.Sum.{rate_sum}
 use Rattle.meaning.specs.Irreducibility.{ask_irreducible}
 use Rattle.meaning.specs.Route.{records}
 use Rattle.meaning.specs.Exports.{version, named_by, status_of, period_told, set_told, free_told, entry_told}
-use Rattle.meaning.specs.Exports.{sum_told, answer_told, record_told}
+use Rattle.meaning.specs.Exports.{answer_told, record_told}
 use Rattle.meaning.proofs.Computed.{computed}
 use Rattle.meaning.proofs.Rows.{box, field, mode, factor, terms, stop, end, x+1, x²+1, x²+x+1}
 
@@ -51,11 +49,6 @@ rate_set_by name fs vs ts = set_told (figures_of (rate_set name fs vs ts 4097 81
 
 abbrev rate_free_by : FieldName → List ℕ → Rating
 rate_free_by name ts = free_told (figures_of (rate_free name ts 4097 8192))
-
--- of the registers x + 1 with 1 and x² + x + 1 with 0, 1
-abbrev rate_sum_by : FieldName → FieldName → Sum
-rate_sum_by first second =
-    sum_told (figures_of (rate_sum first x+1 (1 ∷ []) second x²+x+1 (0 ∷ 1 ∷ []) 4097 8192))
 
 -- the records begin at 0, 5, 7, 9, 45, 54, 56 and 58: box, field, mode, factor, stop, two terms, end
 abbrev file : List ℕ
@@ -91,10 +84,6 @@ pub record ExportRows : Type 0 where
   pub some : rate_free_by two (0 ∷ 1 ∷ []) ≡ rating 0 2 0 2 (replicate 8 0)
   pub one_four : rate_free_by four (1 ∷ 2 ∷ 3 ∷ 1 ∷ []) ≡ rating 0 1 0 1 (replicate 8 0)
   pub free_eight : rate_free_by four (4 ∷ []) ≡ refused_by 8
-  -- the sum of two registers
-  pub sum : rate_sum_by two two ≡ record { status = 0; complexity = 3 }
-  pub sum_six : rate_sum_by two (named_by (numbers 0 4)) ≡ record { status = 6; complexity = 0 }
-  pub sum_twenty_one : rate_sum_by two four ≡ record { status = 21; complexity = 0 }
   -- the question
   pub yes : answer_told (ask_irreducible two x²+x+1) ≡ record { status = 0; yes = 1 }
   pub no : answer_told (ask_irreducible two x²+1) ≡ record { status = 0; yes = 0 }
@@ -134,9 +123,6 @@ export_rows =
       some = refl;
       one_four = refl;
       free_eight = refl;
-      sum = refl;
-      sum_six = refl;
-      sum_twenty_one = refl;
       yes = refl;
       no = refl;
       no_four = refl;

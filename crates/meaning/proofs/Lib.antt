@@ -14,7 +14,6 @@ pub mod FirstFits
 pub mod RepeatRows
 pub mod RepeatLengthRows
 pub mod ExtensionRows
-pub mod SumRows
 pub mod ExportRows
 pub mod Lines
 pub mod Lent

@@ -8,13 +8,12 @@
 --   first_of_passes    == so it is where the table decides nothing; accepted-passes == of accepted factors,
 --                        whose field exists (accepted-field)
 --   a & b & … & nothing == the same from what is known of each condition, in the order of the table
---   passes-tail, passes_append == so it is of the conditions after the first; of both parts of a table
 --   first_of_decides   == a table that decides by n: n holds, and no condition before it
 -- Assumes nothing.
 use Prim.Native.Nat.{ℕ}
 use mathlib.Core.Path.{◌≡◌, refl, sym, subst, ◌∙◌}
 use mathlib.Core.Bool.{Bool, true, false, not, ◌&&◌, ◌||◌, or-true}
-use mathlib.Core.List.{List, [], ◌∷◌, ◌++◌}
+use mathlib.Core.List.{List, [], ◌∷◌}
 use mathlib.Core.Option.{none, some, some-injective, some-ne-none, none-ne-some}
 use lib.Dec.{T, eqb, eqb_refl}
 use Rattle.meaning.specs.declared.FieldName.{FieldName}
@@ -48,8 +47,6 @@ pub record Passes (table : List Check) : Type 0 where
   pub annihilated : holds 17 table ≡ false
   pub meter_open : holds 18 table ≡ false
   pub entry_found : holds 19 table ≡ false
-  pub same_field : holds 21 table ≡ false
-  pub degrees_low_enough : holds 22 table ≡ false
 
 first_of_holds : (n : ℕ) (table : List Check) → first_of table ≡ none → holds n table ≡ false
 first_of_holds n [] h = refl
@@ -78,8 +75,6 @@ first_of_passes table h =
       annihilated = first_of_holds 17 table h;
       meter_open = first_of_holds 18 table h;
       entry_found = first_of_holds 19 table h;
-      same_field = first_of_holds 21 table h;
-      degrees_low_enough = first_of_holds 22 table h;
     }
 
 infixr 20 ◌&◌
@@ -89,20 +84,6 @@ pub ◌&◌ : {c : Check} {table : List Check} → c.1 tt ≡ false → Passes t
 pub nothing : Passes []
 unfolding first_of
 nothing = first_of_passes [] refl
-
-pub passes-tail : (c : Check) (table : List Check) → Passes (c ∷ table) → (c.1 tt ≡ false) × Passes table
-passes-tail c table h = by (c.1 tt) refl
-  where
-    by : (b : Bool) → c.1 tt ≡ b → (c.1 tt ≡ false) × Passes table
-    by true e = absurd (some-ne-none c.0 (sym (first_of_stop c table e) ∙ h.none_holds))
-    by false e = (e, first_of_passes table (sym (first_of_skip c table e) ∙ h.none_holds))
-
-pub passes_append : (a b : List Check) → Passes (a ++ b) → Passes a × Passes b
-passes_append [] b h = (nothing, h)
-passes_append (c ∷ a) b h =
-    let (e, rest) = passes-tail c (a ++ b) h in
-    let (x, y) = passes_append a b rest in
-    (e & x, y)
 
 pub first_of_decides : (n : ℕ) (table : List Check) → first_of table ≡ some n
     → Passes (before n table) × (holds n table ≡ true)

@@ -12,11 +12,8 @@ use Rattle.meaning.specs.declared.FieldName.{FieldName}
 use Rattle.meaning.specs.Search.{least, map_option, holds_for_all, holds_for_some, first_that, selected}
 use Rattle.meaning.specs.Search.{is_none}
 use Rattle.meaning.specs.Field.{Field}
-use Rattle.meaning.specs.Polynomial.{Polynomial}
 use Rattle.meaning.specs.Result.{Result, refused, Check, first_of, settle, value_of, clearing, clears}
 use Rattle.meaning.specs.FieldNames.{named_field, not_field, field_number, in_field}
-use Rattle.meaning.specs.Continuation.{register_table}
-use Rattle.meaning.specs.Sum.{input_table}
 
 -- a condition that does not hold is passed over
 pub first_of_skip : (c : Check) (table : List Check) → c.1 tt ≡ false → first_of (c ∷ table) ≡ first_of table
@@ -41,19 +38,6 @@ module _ {A : Type 0} (name : FieldName) (answer : Field → Result A) where
   pub no_field : not_field name ≡ true → in_field name answer ≡ refused (field_number name)
   unfolding in_field
   no_field e = rw (e, in_field)
-
--- the name of a register's field, before its other conditions
-module _ (name : FieldName) (g : Polynomial) (start : List ℕ) where
-  pub input_declined : not_field name ≡ true → first_of (input_table name g start) ≡ some (field_number name)
-  unfolding input_table
-  input_declined e =
-      first_of_stop (field_number name, λ _. not_field name) (register_table (named_field name) g start) e
-
-  pub input-named : not_field name ≡ false
-      → first_of (input_table name g start) ≡ first_of (register_table (named_field name) g start)
-  unfolding input_table
-  input-named e =
-      first_of_skip (field_number name, λ _. not_field name) (register_table (named_field name) g start) e
 
 pub settle-none : {A : Type 0} (table : List Check) (v : Unit {0} → Option A)
     → first_of table ≡ none

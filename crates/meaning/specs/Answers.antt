@@ -2,8 +2,8 @@
 -- an answer. The contracts and the theorems speak of the answers through these definitions alone.
 --
 --   number_of r        == the number of the refusal in the list of paper 01
---   told_irreducible, told_filling, told_power, told_free, told_sum, told_start, told_entry, told_set, told_file,
---   told_record        == the result that an answer tells; of a start the meter itself
+--   told_irreducible, told_filling, told_power, told_free, told_start, told_entry, told_set, told_file, told_record ==
+--                          the result that an answer tells; of a start the meter itself
 --   SetTold, FileTold == what the answers of a set and of a file tell beside their eight powers; `count` is
 --                        the number of powers, and `denominator` the number after the stroke of the density
 --   set_figures_told, file_figures_told == what they should tell of the figures
@@ -19,13 +19,11 @@ use Rattle.meaning.specs.declared.Refusal.TheVariants.{DegreeOutOfRange, Coeffic
 use Rattle.meaning.specs.declared.Refusal.TheVariants.{Reducible}
 use Rattle.meaning.specs.declared.Refusal.TheVariants.{EqualFactors, UpperPowers, TooFewTerms}
 use Rattle.meaning.specs.declared.Refusal.TheVariants.{LentTooShort, NotAnnihilated, MeterFull}
-use Rattle.meaning.specs.declared.Refusal.TheVariants.{NoEntry, NotBinaryField, FieldsDiffer}
-use Rattle.meaning.specs.declared.Refusal.TheVariants.{SumDegreeTooHigh}
+use Rattle.meaning.specs.declared.Refusal.TheVariants.{NoEntry, NotBinaryField}
 use Rattle.meaning.specs.declared.Irreducibility.{Irreducibility}
 use Rattle.meaning.specs.declared.PowerRating.{PowerRating}
 use Rattle.meaning.specs.declared.SetOutcome.{SetOutcome}
 use Rattle.meaning.specs.declared.FreeRating.{FreeRating}
-use Rattle.meaning.specs.declared.SumRating.{SumRating}
 use Rattle.meaning.specs.declared.Meter.{Meter}
 use Rattle.meaning.specs.declared.MeterStart.{MeterStart}
 use Rattle.meaning.specs.declared.EntryRating.{EntryRating}
@@ -60,8 +58,6 @@ number_of NotAnnihilated = 17
 number_of MeterFull = 18
 number_of NoEntry = 19
 number_of NotBinaryField = 20
-number_of FieldsDiffer = 21
-number_of SumDegreeTooHigh = 22
 
 unfoldable pub told_irreducible : Irreducibility → Result Bool
 told_irreducible Irreducibility.Irreducible = answered true
@@ -80,10 +76,6 @@ unfoldable pub told_free : FreeRating → Result FreeFigures
 told_free (FreeRating.Unique d) = answered (record { degree = d; unique = true })
 told_free (FreeRating.Several d) = answered (record { degree = d; unique = false })
 told_free (FreeRating.Refused r) = refused (number_of r)
-
-unfoldable pub told_sum : SumRating → Result ℕ
-told_sum (SumRating.Rated d) = answered d
-told_sum (SumRating.Refused r) = refused (number_of r)
 
 unfoldable pub told_start : MeterStart → Result Meter
 told_start (MeterStart.Started m) = answered m

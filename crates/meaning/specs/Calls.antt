@@ -6,7 +6,7 @@
 --   LentAfter result …  == the lent answer and work bytes are left as the result says
 --   PrimeCall           == prime_in_range      IrreducibleCall == is_irreducible
 --   PeriodCall          == rate_period         SetCall         == rate_set
---   FreeCall            == rate_free           SumCall         == rate_sum
+--   FreeCall            == rate_free
 --   StartCall           == start_meter         TermCall        == take_term (`TermTaken` for terms held)
 --   ReadingCall         == reading
 --   EntryCall           == find_entry          CatalogueCall   == catalogue_entry
@@ -21,7 +21,6 @@ use Rattle.meaning.specs.declared.Irreducibility.{Irreducibility}
 use Rattle.meaning.specs.declared.PowerRating.{PowerRating}
 use Rattle.meaning.specs.declared.SetRating.{SetRating}
 use Rattle.meaning.specs.declared.FreeRating.{FreeRating}
-use Rattle.meaning.specs.declared.SumRating.{SumRating}
 use Rattle.meaning.specs.declared.Meter.{Meter}
 use Rattle.meaning.specs.declared.MeterStart.{MeterStart}
 use Rattle.meaning.specs.declared.MeterStep.{MeterStep}
@@ -39,14 +38,13 @@ use Rattle.meaning.specs.Free.{rate_free}
 use Rattle.meaning.specs.Meter.{start_meter, take_term, meter_reading, MeterModel, Holding, unless_refused}
 use Rattle.meaning.specs.Catalogue.{catalogue, find_entry}
 use Rattle.meaning.specs.Continuation.{continue_sequence}
-use Rattle.meaning.specs.Sum.{rate_sum}
 use Rattle.meaning.specs.Irreducibility.{ask_irreducible}
 use Rattle.meaning.specs.Route.{RouteRecord, box_of, read_record}
 use Rattle.meaning.specs.File.{rate_file}
 use Rattle.meaning.specs.Print.{printed}
 use Rattle.meaning.specs.Answers.{told_irreducible, told_filling, told_power, told_free, told_start, told_set}
 use Rattle.meaning.specs.Answers.{set_figures_told, told_file, file_figures_told, told_record, set_padded}
-use Rattle.meaning.specs.Answers.{told_sum, told_entry, file_padded}
+use Rattle.meaning.specs.Answers.{told_entry, file_padded}
 use Rattle.meaning.specs.FieldNames.{named_field}
 
 pub record LentAfter {A : Type 0} (result : Result (Rated A)) (answer work answer' work' : List ℕ)
@@ -77,11 +75,6 @@ pub record FreeCall (name : FieldName) (ts answer work : List ℕ) (r : FreeRati
     : Type 0 where
   pub rating : told_free r ≡ figures_of (rate_free name ts (length answer) (length work))
   pub lent : LentAfter (rate_free name ts (length answer) (length work)) answer work answer' work'
-
-pub record SumCall (first : FieldName) (g : Polynomial) (a : List ℕ) (second : FieldName) (h : Polynomial)
-    (b answer work : List ℕ) (r : SumRating) (answer' work' : List ℕ) : Type 0 where
-  pub rating : told_sum r ≡ figures_of (rate_sum first g a second h b (length answer) (length work))
-  pub lent : LentAfter (rate_sum first g a second h b (length answer) (length work)) answer work answer' work'
 
 pub record StartCall (model : MeterModel) (name : FieldName) (work : List ℕ) (r : MeterStart) (work' : List ℕ)
     : Type 0 where

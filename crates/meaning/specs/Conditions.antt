@@ -1,6 +1,6 @@
 -- The conditions 6 to 16 and 20 of the numbered list of refusals. (1 to 5 are in Route, 17 is in each way
--- that meets it, 18 in Meter, 19 in Catalogue, 21 and 22 in Sum.) Each is a test on numbers and lists of any
--- size. A pair is a factor with its upper power.
+-- that meets it, 18 in Meter, 19 in Catalogue.) Each is a test on numbers and lists of any size. A pair is a
+-- factor with its upper power.
 --
 --   named factors uppers == each factor with its upper power, in order; 0 for a factor without one; further
 --                          upper powers belong to no factor

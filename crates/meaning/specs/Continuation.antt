@@ -1,7 +1,5 @@
 -- The continuation way: the sequence that a polynomial and its starting terms define, in a lent buffer.
 --
---   register_table F g start == the refusals that a polynomial and its starting terms meet in the field F, in
---                          order
 --   continue_table       == the refusals that the continuation meets in the field F, in order, for a buffer of
 --                          `size` bytes
 --   filled F g start place buffer == the buffer with the continued sequence from the place to its end
@@ -20,16 +18,14 @@ use Rattle.meaning.specs.Conditions.{continuation_degree_out_of_range, coefficie
 use Rattle.meaning.specs.Conditions.{start_unlike_degree}
 use Rattle.meaning.specs.FieldNames.{in_field}
 
-abbrev pub register_table : Field → Polynomial → List ℕ → List Check
-register_table F g start =
-    (8, λ _. term_out_of_field F start)
+unfoldable pub continue_table : Field → Polynomial → List ℕ → ℕ → ℕ → List Check
+continue_table F g start place size =
+    (7, λ _. place_out_of_range size place)
+    ∷ (8, λ _. term_out_of_field F start)
     ∷ (10, λ _. continuation_degree_out_of_range g)
     ∷ (11, λ _. coefficient_out_of_range F g)
     ∷ (15, λ _. start_unlike_degree g start)
     ∷ []
-
-unfoldable pub continue_table : Field → Polynomial → List ℕ → ℕ → ℕ → List Check
-continue_table F g start place size = (7, λ _. place_out_of_range size place) ∷ register_table F g start
 
 unfoldable pub filled : Field → Polynomial → List ℕ → ℕ → List ℕ → List ℕ
 filled F g start place buffer = take place buffer ++ cut (continuation F g start) 0 (length buffer - place)

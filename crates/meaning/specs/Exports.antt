@@ -9,15 +9,14 @@
 --   period_told, set_told, free_told == the struct of a rating, from the result of the way: zeros where refused.
 --                         The period way has one power; the free way has a word and no powers and no repeat
 --                         length
---   sum_told            == the struct of the sum of two registers, from its result
 --   word_number u       == the word as a number: 1 for `one`, 2 for `some`
 --   answer_told, entry_told == the structs of the question and of the search, from their results
 --   body_start rs n     == the place in the file where the body of record n begins, of its records rs: after
 --                         the records before it and its kind. Beyond the last it is the end of the file, as
 --                         for the end record
 --   record_told r n     == the struct of record n, from the records of the file or its refusal
---   RatingExported tell result … == `gobashe_rate_period`, `gobashe_rate_set`, `gobashe_rate_free`,
---                         `gobashe_rate_sum`: what is told of the result, and the lent answer and work bytes
+--   RatingExported tell result … == `gobashe_rate_period`, `gobashe_rate_set`, `gobashe_rate_free`: what is
+--                         told of the result, and the lent answer and work bytes
 --   ProfileExported name ts … == `gobashe_profile`: the entries of the profile at the front of the lent
 --                         bytes, as many as these have room for, and the rest as it was
 --   EntryExported ts … == `gobashe_find_entry`
@@ -28,7 +27,6 @@ use Rattle.std.specs.Prelude.{ℕ, zero, suc, ◌+◌, ◌/◌, ◌≡◌, Bool,
 use Rattle.meaning.specs.declared.FieldName.{FieldName}
 use Rattle.meaning.specs.declared.FieldNumbers.{FieldNumbers}
 use Rattle.meaning.specs.declared.Rating.{Rating}
-use Rattle.meaning.specs.declared.Sum.{Sum}
 use Rattle.meaning.specs.declared.Answer.{Answer}
 use Rattle.meaning.specs.declared.Entry.{Entry}
 use Rattle.meaning.specs.declared.Found.{Found}
@@ -91,12 +89,8 @@ free_told (answered a) =
       powers = padded [];
     }
 
-unfoldable pub sum_told : Result ℕ → Sum
-sum_told (refused n) = record { status = n; complexity = 0 }
-sum_told (answered d) = record { status = 0; complexity = d }
-
-pub record RatingExported {A S : Type 0} (tell : Result A → S) (result : Result (Rated A))
-    (answer work : List ℕ) (r : S) (answer' work' : List ℕ) : Type 0 where
+pub record RatingExported {A : Type 0} (tell : Result A → Rating) (result : Result (Rated A))
+    (answer work : List ℕ) (r : Rating) (answer' work' : List ℕ) : Type 0 where
   pub told : r ≡ tell (figures_of result)
   pub lent : LentAfter result answer work answer' work'
 

@@ -3,9 +3,8 @@
 --   named_field name    == the field with this name; nothing is said of a name that is refused
 --   not_field name      == the name is that of no field in range
 --   field_number name   == the number of the refusal that this meets: 6, or 20 for a field of 2^n elements
---   same_name first second == the two names are equal
 --   in_field name answer == refused by that number, or else the answer in the field with this name
-use Rattle.std.specs.Prelude.{ℕ, Bool, true, false, ◌&&◌, eqb}
+use Rattle.std.specs.Prelude.{ℕ, Bool, true, false}
 use Rattle.meaning.specs.declared.FieldName.{FieldName}
 use Rattle.meaning.specs.Field.{Field, prime}
 use Rattle.meaning.specs.Extension.{binary}
@@ -23,12 +22,6 @@ not_field (FieldName.Binary n low) = not_binary n low
 unfoldable pub field_number : FieldName → ℕ
 field_number (FieldName.Prime p) = 6
 field_number (FieldName.Binary n low) = 20
-
-unfoldable pub same_name : FieldName → FieldName → Bool
-same_name (FieldName.Prime p) (FieldName.Prime q) = eqb p q
-same_name (FieldName.Prime p) (FieldName.Binary n low) = false
-same_name (FieldName.Binary m low) (FieldName.Prime q) = false
-same_name (FieldName.Binary m low) (FieldName.Binary n high) = eqb m n && eqb low high
 
 unfoldable pub in_field : {A : Type 0} → FieldName → (Field → Result A) → Result A
 in_field name answer =

@@ -15,7 +15,6 @@ pub mod Free
 pub mod Meter
 pub mod Catalogue
 pub mod Continuation
-pub mod Sum
 pub mod Irreducibility
 pub mod Route
 pub mod File

@@ -17,11 +17,7 @@
 --   irreducible F f   == no two monic polynomials of positive degree have the product f, by trying all of
 --                        them; it is asked of monic f of positive degree only
 --   NotAProduct F f   == paper 01's words for it: f is not a product of two polynomials of positive degree
---   Divides F g f     == g times some monic polynomial is f; it is asked of monic polynomials only
---   NoCommonFactor F f g == no monic polynomial of positive degree divides both
---   LeastMultiple F f g l == l is monic, f and g divide it, and it divides every monic polynomial that both
---                        divide: the least common multiple
-use Rattle.std.specs.Prelude.{ℕ, zero, suc, ◌-◌, ◌<◌, ◌≡◌, ◌≢◌, Bool, true, false, not, ◌&&◌, List, [], ◌∷◌, ◌++◌, map, length, eqb, T}
+use Rattle.std.specs.Prelude.{ℕ, zero, suc, ◌-◌, ◌<◌, ◌≢◌, Bool, true, false, not, ◌&&◌, List, [], ◌∷◌, ◌++◌, map, length, eqb, T}
 use Rattle.std.proofs.Math.Option.{none, some}
 use Rattle.meaning.specs.Search.{range, holds_for_some, least}
 use Rattle.meaning.specs.Field.{Field, are_elements}
@@ -97,16 +93,3 @@ NotAProduct F f =
     → leading g ≢ 0
     → leading h ≢ 0
     → times F g h ≢ f
-
-abbrev pub Divides : Field → Polynomial → Polynomial → Type 0
-Divides F g f = (h : Polynomial) × T (is_monic_over F h) × (times F g h ≡ f)
-
-abbrev pub NoCommonFactor : Field → Polynomial → Polynomial → Type 0
-NoCommonFactor F f g =
-    (h : Polynomial) → T (is_monic_over F h) → 0 < degree h → Divides F h f → Divides F h g → ⊥
-
-pub record LeastMultiple (F : Field) (f g l : Polynomial) : Type 0 where
-  pub monic : T (is_monic_over F l)
-  pub first : Divides F f l
-  pub second : Divides F g l
-  pub least : (m : Polynomial) → T (is_monic_over F m) → Divides F f m → Divides F g m → Divides F l m

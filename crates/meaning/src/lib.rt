@@ -10,7 +10,7 @@ pub enum FieldName {
     Binary { degree: u64, low: u64 },
 }
 
-// Why a call is turned down, in the order of the numbered list (1 to 22).
+// Why a call is turned down, in the order of the numbered list (1 to 20).
 #[derive(Drop)]
 pub enum Refusal {
     // 1: the file has more than 16,384 bytes
@@ -54,10 +54,6 @@ pub enum Refusal {
     NoEntry,
     // 20: n is not 2 to 8, or the reducing polynomial has a bit at or above n or is reducible
     NotBinaryField,
-    // 21: the two registers of a sum have different fields
-    FieldsDiffer,
-    // 22: the degrees of the two registers of a sum add up to more than 2,048
-    SumDegreeTooHigh,
 }
 
 // Whether a polynomial is irreducible.
@@ -104,13 +100,6 @@ pub struct SetRating {
 pub enum FreeRating {
     Unique { degree: u64 },
     Several { degree: u64 },
-    Refused(Refusal),
-}
-
-// The rating of the sum of two registers: the degree of its minimal polynomial.
-#[derive(Drop)]
-pub enum SumRating {
-    Rated { degree: u64 },
     Refused(Refusal),
 }
 
@@ -223,14 +212,6 @@ pub struct Rating {
     pub repeat: u64,
     pub word: u64,
     pub powers: [u64; 8],
-}
-
-// The rating of the sum of two registers.
-#[repr(C)]
-#[derive(Drop)]
-pub struct Sum {
-    pub status: u64,
-    pub complexity: u64,
 }
 
 // The answer to a question: 1 for yes, 0 for no.

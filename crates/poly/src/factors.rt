@@ -15,7 +15,7 @@ pub fn upper_at(uppers: &[u64], i: usize) -> u64
 }
 
 // The degree of a list: one less than its length, and 0 for the empty list.
-pub fn degree(f: &[u8]) -> usize
+fn degree(f: &[u8]) -> usize
     ensures { result ≡ degree f.now }
 {
     if f.len() == 0 { 0 } else { f.len() - 1 }

@@ -6,7 +6,6 @@
 --   multiples_table F gs == the refusals 12 and 13 of the monic multiples of these
 --   lent_table answer work == the refusal 16
 --   powers_table l ts answer work == the refusals 14, 15 and 16, for factors with their upper powers
---   pair_table first g second h answer work == the refusals 21, 22 and 16 of two registers
 --   all_but_last table   == the table without its last condition
 --   given_table F f ts, given_set_table F fs ts == what the terms and the factors as they are given meet: 7, 8,
 --                         10, 11; for a set 7 to 11
@@ -16,7 +15,6 @@
 --                         and 11 let pass
 use Rattle.std.specs.Prelude.{ℕ, false, List, [], ◌∷◌, ◌++◌, length}
 use Rattle.std.proofs.Math.Option.{Option, none, some}
-use Rattle.meaning.specs.declared.FieldName.{FieldName}
 use Rattle.meaning.specs.Search.{holds_for_some}
 use Rattle.meaning.specs.Field.{Field}
 use Rattle.meaning.specs.Polynomial.{Polynomial}
@@ -28,7 +26,6 @@ use Rattle.meaning.specs.Conditions.{lent_too_short}
 use Rattle.meaning.specs.Irreducibility.{irreducible_table}
 use Rattle.meaning.specs.Period.{period_table}
 use Rattle.meaning.specs.Portion.{set_table}
-use Rattle.meaning.specs.Sum.{fields_differ, degrees_too_high}
 use Rattle.meaning.specs.Answers.{number_of}
 use Rattle.refusals.specs.declared.Verdict.{Verdict}
 
@@ -58,10 +55,6 @@ powers_table l ts answer work =
     (14, λ _. upper_powers_out_of_range l)
     ∷ (15, λ _. fewer_terms_than (total_degree l) ts)
     ∷ lent_table answer work
-
-unfoldable pub pair_table : FieldName → Polynomial → FieldName → Polynomial → ℕ → ℕ → List Check
-pair_table first g second h answer work =
-    (21, λ _. fields_differ first second) ∷ (22, λ _. degrees_too_high g h) ∷ lent_table answer work
 
 unfoldable pub all_but_last : {A : Type 0} → List A → List A
 all_but_last [] = []

@@ -1,4 +1,4 @@
-// The conditions 7 to 16, 18, 21 and 22 of the numbered list of refusals: one function for each, and a further one
+// The conditions 7 to 16 and 18 of the numbered list of refusals: one function for each, and a further one
 // where a continuation or a file asks in its own way. Those that are asked of one factor have a name too, by
 // which one function asks them of all factors. (1 to 5 are about a file's records, 6 is asked where the
 // field is made, and 17 what the search for the powers does.) Each answers whether its condition holds over a
@@ -9,4 +9,3 @@ pub mod factors;
 pub mod files;
 pub mod lists;
 pub mod numbers;
-pub mod registers;

@@ -6,17 +6,22 @@ pub mod conditions;
 pub mod factors;
 pub mod numbering;
 pub mod ratings;
-pub mod registers;
 
 ghost use Rattle.std.specs.Prelude.{◌≡◌};
 ghost use Rattle.meaning.specs.Result.{first_of};
 ghost use Rattle.meaning.specs.Free.{free_table};
 ghost use Rattle.meaning.specs.Meter.{term_table};
+ghost use Rattle.meaning.specs.Continuation.{continue_table};
 ghost use Rattle.arith.specs.Represented.{field_of, WellFormed};
 ghost use Rattle.refusals.specs.Verdicts.{number_in, terms_table, lent_table};
 
-use crate::conditions::lists::term_out_of_field;
-use crate::conditions::numbers::{count_out_of_range, lent_too_short, meter_full};
+use crate::conditions::lists::{
+    coefficient_out_of_range, continuation_degree_out_of_range, start_unlike_degree,
+    term_out_of_field,
+};
+use crate::conditions::numbers::{
+    count_out_of_range, lent_too_short, meter_full, place_out_of_range,
+};
 use arith::GaloisField;
 use meaning::Refusal;
 
@@ -73,6 +78,37 @@ pub fn term_verdict(field: GaloisField, held: usize, term: u8) -> Verdict
     }
     if meter_full(held) {
         return Verdict::Refused(Refusal::MeterFull);
+    }
+    Verdict::Accepted
+}
+
+// The continuation: 7, 8, 10, 11, 15, for a buffer of `size` bytes.
+pub fn continue_verdict(
+    field: GaloisField,
+    polynomial: &[u8],
+    start: &[u8],
+    place: usize,
+    size: usize,
+) -> Verdict
+    requires { WellFormed field }
+    ensures { number_in result
+        ≡ first_of (continue_table (field_of field) polynomial.now start.now place
+        size) }
+{
+    if place_out_of_range(size, place) {
+        return Verdict::Refused(Refusal::CountOutOfRange);
+    }
+    if term_out_of_field(field, start) {
+        return Verdict::Refused(Refusal::TermOutOfField);
+    }
+    if continuation_degree_out_of_range(polynomial) {
+        return Verdict::Refused(Refusal::DegreeOutOfRange);
+    }
+    if coefficient_out_of_range(field, polynomial) {
+        return Verdict::Refused(Refusal::CoefficientOutOfRange);
+    }
+    if start_unlike_degree(polynomial, start) {
+        return Verdict::Refused(Refusal::TooFewTerms);
     }
     Verdict::Accepted
 }

@@ -29,7 +29,5 @@ pub fn refusal_number(r: Refusal) -> u64
         Refusal::MeterFull => 18,
         Refusal::NoEntry => 19,
         Refusal::NotBinaryField => 20,
-        Refusal::FieldsDiffer => 21,
-        Refusal::SumDegreeTooHigh => 22,
     }
 }

@@ -16,7 +16,6 @@ pub mod Density
 pub mod OtherLanguages
 pub mod Meters
 pub mod Catalogue
-pub mod Sums
 pub mod Promises
 pub mod Instance
 pub mod NoEntry

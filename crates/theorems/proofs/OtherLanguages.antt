@@ -347,8 +347,8 @@ record_export file n r x =
 
 -- DEMAND 1: the contracts are equations
 
-pub exactly-rated : {A S : Type 0} (tell : Result A → S) (result : Result (Rated A)) (answer work : List ℕ)
-    → ExactlyOne {R = S × List ℕ × List ℕ}
+exactly-rated : {A : Type 0} (tell : Result A → Rating) (result : Result (Rated A)) (answer work : List ℕ)
+    → ExactlyOne {R = Rating × List ℕ × List ℕ}
     (λ r. RatingExported tell result answer work r.0 r.1 r.2)
 exactly-rated tell result answer work =
     record {

@@ -6,7 +6,6 @@ use Rattle.theorems.specs.Answering.{period_numbers, set_numbers, free_numbers}
 use Rattle.theorems.specs.Answering.{continue_numbers, irreducible_numbers, reader_numbers, file_numbers}
 use Rattle.theorems.specs.Answering.{NeverZero}
 use Rattle.theorems.specs.Catalogue.{search_numbers}
-use Rattle.theorems.specs.Sums.{sum_numbers}
 use Rattle.theorems.specs.Promises.{Promises}
 use Rattle.theorems.proofs.Telling.{tells_zero, no_zero, keeping-zero}
 use Rattle.theorems.proofs.Answering.{period_answers, set_answers, free_answers}
@@ -33,8 +32,6 @@ use Rattle.theorems.proofs.OtherLanguages.{export_answers}
 use Rattle.theorems.proofs.Meters.{start_answers, meter_promise, profile_export, profile_answers}
 use Rattle.theorems.proofs.Catalogue.{search_answers, search_tells, entry_answers, catalogue_promise}
 use Rattle.theorems.proofs.Catalogue.{entry_promise, search_export, search_export_answers}
-use Rattle.theorems.proofs.Sums.{sum_answers, sum_promise, sum_told, sum-keeping, sum_export}
-use Rattle.theorems.proofs.Sums.{sum_export_answers}
 
 never-zero : NeverZero
 unfolding holds_for_some
@@ -67,11 +64,6 @@ never-zero =
           (file_tells file answer work);
       reader = λ file n. tells_zero reader_numbers _ (no_zero reader_numbers tt) (read_tells file n);
       search = λ ts work. tells_zero search_numbers _ (no_zero search_numbers tt) (search_tells ts work);
-      sum =
-          λ first g a second h b answer work.
-          tells_zero (sum_numbers first second) _
-          (keeping-zero (sum_numbers first second) (sum-keeping first second))
-          (sum_told first g a second h b answer work);
     }
 
 pub promises : Promises
@@ -89,7 +81,6 @@ promises =
       start_answers = start_answers;
       search_answers = search_answers;
       entry_answers = entry_answers;
-      sum_answers = sum_answers;
       never-zero = never-zero;
       period = period_promise;
       set = set_promise;
@@ -107,7 +98,6 @@ promises =
       meter = meter_promise;
       catalogue = catalogue_promise;
       entry = entry_promise;
-      sum = sum_promise;
       cut_anywhere = cut_anywhere;
       no_shorter = no_shorter_promise;
       no_rater = no_rater_promise;
@@ -125,9 +115,7 @@ promises =
       record_export = record_export;
       profile_export = profile_export;
       search_export = search_export;
-      sum_export = sum_export;
       export_answers = export_answers;
       profile_answers = profile_answers;
       search_export_answers = search_export_answers;
-      sum_export_answers = sum_export_answers;
     }

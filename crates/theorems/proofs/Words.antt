@@ -14,14 +14,14 @@ use mathlib.Core.List.{List}
 use mathlib.Core.Option.{some-injective}
 use borrow.Author.Tests.{eq-eqb, ne_eqb}
 use lib.ListN.{length}
-use lib.Dec.{T, eqb}
+use lib.Dec.{T, eqb, eqb→eq}
 use Rattle.meaning.specs.declared.FieldName.{FieldName}
 use Rattle.meaning.specs.Field.{Field, prime_in_range, are_elements}
-use Rattle.meaning.specs.Polynomial.{Polynomial, leading, is_monic, is_monic_over, irreducible}
+use Rattle.meaning.specs.Polynomial.{Polynomial, degree, leading, is_monic, is_monic_over, irreducible}
 use Rattle.meaning.specs.Polynomial.{power, monic_multiple, NotAProduct}
 use Rattle.meaning.specs.Sequence.{Sequence, AnnihilatesEndless, continuation}
 use Rattle.meaning.specs.Result.{answered}
-use Rattle.meaning.specs.Conditions.{not_prime}
+use Rattle.meaning.specs.Conditions.{not_prime, start_unlike_degree}
 use Rattle.meaning.specs.FieldNames.{named_field, not_field, field_number}
 use Rattle.meaning.specs.Continuation.{continue_table, filled, continue_in, continue_sequence}
 use Rattle.meaning.specs.Irreducibility.{irreducible_table, irreducible_in, ask_irreducible}
@@ -48,7 +48,7 @@ use Rattle.bridge.proofs.Binary.Extension.{extension_is_field}
 use Rattle.bridge.proofs.Binary.BinaryNumbers.{binary-name}
 use Rattle.bridge.proofs.Binary.NamedFields.{named-is_field}
 use Rattle.bridge.proofs.Sequences.Continuations.{continuation_continues, continues_unique}
-use Rattle.bridge.proofs.Ways.Accepted.{terms-accepted, start-accepted}
+use Rattle.bridge.proofs.Ways.Accepted.{terms-accepted}
 
 -- WHAT A NAME STANDS FOR
 pub field_of : (name : FieldName) → NamesField name → IsField (GF name)
@@ -156,6 +156,11 @@ irreducible_promise name f r c said e =
     irreducible_answered (named-is_field name exists) f said q
 
 -- THE CONTINUATION
+-- 15 of a continuation
+start-length : (g : Polynomial) (start : List ℕ) → start_unlike_degree g start ≡ false → length start ≡ degree g
+unfolding start_unlike_degree
+start-length g start h = eqb→eq (length start) (degree g) (not-false (eqb (length start) (degree g)) h)
+
 continue_answered :
     {F : Field} (I : IsField F) (g : Polynomial) (start buffer : List ℕ) (place : ℕ) (after : List ℕ)
     → continue_in F g start place buffer ≡ answered after
@@ -166,7 +171,7 @@ continue_answered {F} I g start buffer place after e =
     let f = monic_multiple F g in
     let leads = coefficients_lead F g h.coefficients_in_range in
     let m = multiple-monic I leads in
-    let size = start-accepted g start h.enough_terms ∙ sym (multiple-degree I leads) in
+    let size = start-length g start h.enough_terms ∙ sym (multiple-degree I leads) in
     record {
       sequence = continuation F f start;
       continues = continuation_continues I f m start size (terms-accepted F start h.terms_in_field);

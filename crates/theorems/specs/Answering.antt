@@ -41,7 +41,6 @@ use Rattle.meaning.specs.Portion.{factors_of, rate_set}
 use Rattle.meaning.specs.Free.{rate_free}
 use Rattle.meaning.specs.Catalogue.{find_entry}
 use Rattle.meaning.specs.Continuation.{continue_sequence}
-use Rattle.meaning.specs.Sum.{rate_sum}
 use Rattle.meaning.specs.Irreducibility.{ask_irreducible}
 use Rattle.meaning.specs.Route.{RouteRecord, Mode, period_mode, set_mode, free_mode, mode_of, byte_of, records}
 use Rattle.meaning.specs.Route.{Stage, at_start, after_end, look_up, body_lengths, admitted, walk, bodies}
@@ -159,17 +158,14 @@ free_conditions F ts answer work =
     ∷ (16, T (lent_too_short answer work))
     ∷ []
 
--- A polynomial and its starting terms, and their continuation.
-abbrev pub register_conditions : Field → Polynomial → List ℕ → List Condition
-register_conditions F g start =
-    (8, T (term_out_of_field F start))
+abbrev pub continue_conditions : Field → Polynomial → List ℕ → ℕ → ℕ → List Condition
+continue_conditions F g start place size =
+    (7, T (place_out_of_range size place))
+    ∷ (8, T (term_out_of_field F start))
     ∷ (10, T (continuation_degree_out_of_range g))
     ∷ (11, T (coefficient_out_of_range F g))
     ∷ (15, T (start_unlike_degree g start))
     ∷ []
-
-abbrev pub continue_conditions : Field → Polynomial → List ℕ → ℕ → ℕ → List Condition
-continue_conditions F g start place size = (7, T (place_out_of_range size place)) ∷ register_conditions F g start
 
 abbrev pub irreducible_conditions : Field → Polynomial → List Condition
 irreducible_conditions F f =
@@ -432,6 +428,3 @@ pub record NeverZero : Type 0 where
   pub file : (file : List ℕ) (answer work : ℕ) → rate_file file answer work ≢ refused 0
   pub reader : (file : List ℕ) (n : ℕ) → read_record file n ≢ refused 0
   pub search : (ts : List ℕ) (work : ℕ) → find_entry ts work ≢ refused 0
-  pub sum : (first : FieldName) (g : Polynomial) (a : List ℕ) (second : FieldName) (h : Polynomial)
-      (b : List ℕ) (answer work : ℕ)
-      → rate_sum first g a second h b answer work ≢ refused 0

@@ -8,5 +8,4 @@ pub mod Density
 pub mod OtherLanguages
 pub mod Meters
 pub mod Catalogue
-pub mod Sums
 pub mod Promises

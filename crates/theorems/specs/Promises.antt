@@ -13,7 +13,6 @@
 --   OtherLanguages   == the exported calls
 --   Meters           == the meter: demand 1 of its calls, what it shows, the exported profile
 --   Catalogue        == the catalogue and its search: demand 1, what it holds, what is found, the export
---   Sums             == the sum of two registers: demand 1, its minimal polynomial, the export
 --
 -- How to read the signs in these files:
 --   (a : A) → B      == for every a of A, B holds; A → B: where A holds, B does
@@ -48,7 +47,6 @@ use Rattle.theorems.specs.OtherLanguages.{ExportAnswers}
 use Rattle.theorems.specs.Meters.{StartAnswers, MeterPromise, ProfileExport, ProfileAnswers}
 use Rattle.theorems.specs.Catalogue.{SearchAnswers, EntryAnswers, CataloguePromise, EntryPromise}
 use Rattle.theorems.specs.Catalogue.{SearchExport, SearchExportAnswers}
-use Rattle.theorems.specs.Sums.{SumAnswers, SumPromise, SumExport, SumExportAnswers}
 
 pub record Promises : Type 0 where
   -- demand 1
@@ -64,7 +62,6 @@ pub record Promises : Type 0 where
   pub start_answers : StartAnswers
   pub search_answers : SearchAnswers
   pub entry_answers : EntryAnswers
-  pub sum_answers : SumAnswers
   pub never-zero : NeverZero
   -- demand 2
   pub period : PeriodPromise
@@ -85,8 +82,6 @@ pub record Promises : Type 0 where
   -- the catalogue and its search
   pub catalogue : CataloguePromise
   pub entry : EntryPromise
-  -- the sum of two registers
-  pub sum : SumPromise
   -- demand 3
   pub cut_anywhere : CutAnywherePromise
   -- how many terms it takes
@@ -108,8 +103,6 @@ pub record Promises : Type 0 where
   pub record_export : RecordExport
   pub profile_export : ProfileExport
   pub search_export : SearchExport
-  pub sum_export : SumExport
   pub export_answers : ExportAnswers
   pub profile_answers : ProfileAnswers
   pub search_export_answers : SearchExportAnswers
-  pub sum_export_answers : SumExportAnswers

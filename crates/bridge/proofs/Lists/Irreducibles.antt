@@ -1,6 +1,7 @@
 -- Irreducible polynomials as lists: what the search of `meaning` finds, and what trial division has to try.
 --
 --   Factorisation F f == two monic lists over F of positive degree that have the product f, with these two
+--   Divisor F g f     == g times some monic list is f, with that list
 --   reducible_factorisation, factorisation_reducible == f is not irreducible exactly where it has one
 --   irreducible-poly, poly-irreducible == irreducible lists are the irreducible polynomials of `algebra`
 --   irreducible-words, words-irreducible == they are those that are no product in the words of paper 01
@@ -32,7 +33,7 @@ use lib.Dec.{T, eqb, T_not, eqb_refl, eqb→eq}
 use Rattle.meaning.specs.Search.{range, holds_for_some}
 use Rattle.meaning.specs.Field.{Field, are_elements}
 use Rattle.meaning.specs.Polynomial.{Polynomial, degree, is_monic_over, plus, scale, times, monics, same}
-use Rattle.meaning.specs.Polynomial.{has_factor_of, leading, irreducible, NotAProduct, monic_multiple, Divides}
+use Rattle.meaning.specs.Polynomial.{has_factor_of, leading, irreducible, NotAProduct, monic_multiple}
 use Rattle.meaning.specs.Power.{is_x}
 use Rattle.meaning.specs.Conditions.{factor_degree_out_of_range, degree_out_of_range, not_monic}
 use Rattle.meaning.specs.Conditions.{coefficient_out_of_range, is_asked, is_reducible, two_equal}
@@ -67,6 +68,9 @@ module _ (F : Field) where
     pub left-positive : 1 ≤ degree left
     pub right_positive : 1 ≤ degree right
     pub product : times F left right ≡ f
+
+  abbrev pub Divisor : Polynomial → Polynomial → Type 0
+  Divisor g f = (h : Polynomial) × T (is_monic_over F h) × (times F g h ≡ f)
 
 pub degree-cons : (c : ℕ) (g : Polynomial) → degree (c ∷ g) ≡ length g
 unfolding degree
@@ -232,7 +236,7 @@ module _ {F : Field} (I : IsField F) where
 
   -- Trial division
   pub divisor-degrees :
-      (g f : Polynomial) → T (is_monic_over F g) → (d : Divides F g f) → degree g + degree d.0 ≡ degree f
+      (g f : Polynomial) → T (is_monic_over F g) → (d : Divisor F g f) → degree g + degree d.0 ≡ degree f
   divisor-degrees g f m (h, n, e) =
       sym (degree-times I g h (monic-nonempty F g m) (monic-nonempty F h n)) ∙ ap degree e
 
@@ -241,7 +245,7 @@ module _ {F : Field} (I : IsField F) where
       → T (is_monic_over F g)
       → 1 ≤ degree g
       → degree g < degree f
-      → Divides F g f
+      → Divisor F g f
       → ¬ T (irreducible F f)
   divisor_reducible g f m l k (h, n, e) =
       factorisation_reducible (
@@ -263,14 +267,14 @@ module _ {F : Field} (I : IsField F) where
       → T (is_monic_over F g)
       → 1 ≤ degree g
       → 2 * degree g ≤ degree f
-      → ¬ Divides F g f
+      → ¬ Divisor F g f
   irreducible-half f i g m l k d = divisor_reducible g f m l (omega arith) d i
 
   -- a reducible list has a divisor of at most half its degree
   pub reducible_half :
       (f : Polynomial)
       → ¬ T (irreducible F f)
-      → (g : Polynomial) × T (is_monic_over F g) × (1 ≤ degree g) × (2 * degree g ≤ degree f) × Divides F g f
+      → (g : Polynomial) × T (is_monic_over F g) × (1 ≤ degree g) × (2 * degree g ≤ degree f) × Divisor F g f
   reducible_half f i = go (reducible_factorisation f i)
     where
       swapped : (x : Factorisation F f) → times F x.right x.left ≡ f
@@ -285,7 +289,7 @@ module _ {F : Field} (I : IsField F) where
           × T (is_monic_over F g)
           × (1 ≤ degree g)
           × (2 * degree g ≤ degree f)
-          × Divides F g f
+          × Divisor F g f
       go x = elim (dec_le (degree x.left) (degree x.right)) [
         | yes l ↦ (
           x.left,
@@ -309,7 +313,7 @@ module _ {F : Field} (I : IsField F) where
       → T (is_monic_over F g)
       → 1 ≤ degree g
       → 2 * degree g ≤ degree f
-      → ¬ Divides F g f)
+      → ¬ Divisor F g f)
       → T (irreducible F f)
   half-irreducible f none = elim (T-decided (irreducible F f)) [
     | yes i ↦ i
@@ -353,7 +357,7 @@ module _ {F : Field} (I : IsField F) where
 
   -- a divisor with the constant term 0
   pub divisor-constant :
-      (g f : Polynomial) → T (is_monic_over F g) → Divides F g f → get_or g 0 0 ≡ 0 → get_or f 0 0 ≡ 0
+      (g f : Polynomial) → T (is_monic_over F g) → Divisor F g f → get_or g 0 0 ≡ 0 → get_or f 0 0 ≡ 0
   divisor-constant g f m (h, n, e) z =
       ap (λ u. get_or u 0 0) (sym e)
       ∙ times-constant g h (monic-nonempty F g m) (monic-nonempty F h n)
@@ -361,7 +365,7 @@ module _ {F : Field} (I : IsField F) where
       ∙ number-zero-mul I (get_or h 0 0)
 
   pub constant-divisor :
-      (f : Polynomial) → T (is_monic_over F f) → 1 ≤ degree f → get_or f 0 0 ≡ 0 → Divides F (0 ∷ 1 ∷ []) f
+      (f : Polynomial) → T (is_monic_over F f) → 1 ≤ degree f → get_or f 0 0 ≡ 0 → Divisor F (0 ∷ 1 ∷ []) f
   constant-divisor [] m l z = absurd (omega (arith, monic-length F [] m))
   constant-divisor (c ∷ g) m l z =
       let k : 0 < length g = subst (λ n. 1 ≤ n) (degree-cons c g) l in
@@ -402,7 +406,7 @@ module _ {F : Field} (I : IsField F) where
       → 1 ≤ degree g
       → 2 * degree g ≤ degree f
       → get_or g 0 0 ≢ 0
-      → ¬ Divides F g f)
+      → ¬ Divisor F g f)
       → T (irreducible F f)
   irreducible_trial f m z none =
       half-irreducible f (λ g n l k d. none g n l k (λ y. z (divisor-constant g f n d y)) d)

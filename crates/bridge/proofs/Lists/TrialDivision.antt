@@ -29,7 +29,7 @@ use native.Mathlib.Nat.{mul-div-le, pos_of_ne-zero, suc_inj}
 use native.Mathlib.Omega.{arith}
 use Rattle.meaning.specs.Search.{range, holds_for_all, holds_for_some}
 use Rattle.meaning.specs.Field.{Field, are_elements, negative}
-use Rattle.meaning.specs.Polynomial.{Polynomial, degree, is_monic_over, irreducible, plus, scale, Divides}
+use Rattle.meaning.specs.Polynomial.{Polynomial, degree, is_monic_over, irreducible, plus, scale}
 use Rattle.bridge.proofs.Basics.Searches.{T-same, T-decided, none-range, all_nil, all_cons, all_uncons}
 use Rattle.bridge.proofs.Basics.Searches.{some-range}
 use Rattle.bridge.proofs.Basics.Searches.{range-some}
@@ -37,7 +37,7 @@ use Rattle.bridge.proofs.Basics.Interpretation.{IsField, size-positive}
 use Rattle.bridge.proofs.Lists.Polynomials.{plus-elements, scale-elements, length-scale}
 use Rattle.bridge.proofs.Lists.Polynomials.{monic-elements, monic-length, get_or-below}
 use Rattle.bridge.proofs.Lists.Monics.{digits, length_digits}
-use Rattle.bridge.proofs.Lists.Irreducibles.{divisor_reducible, irreducible_trial}
+use Rattle.bridge.proofs.Lists.Irreducibles.{Divisor, divisor_reducible, irreducible_trial}
 use Rattle.bridge.proofs.Lists.Remainders.{
   Congruent,
   congruent-refl,
@@ -193,12 +193,12 @@ module _ {F : Field} (I : IsField F) where
           (remainder-congruent (drop n f) (take n f) length_high)
 
       -- the remainder is 0 exactly where x^a − h divides f
-      tried-divisor : T (divides F h f) → Divides F g f
+      tried-divisor : T (divides F h f) → Divisor F g f
       unfolding divides
       tried-divisor t =
           remainder-divisor I g f (modulus-monic I h) m rest rest-congruent (zeros-get_or rest t)
 
-      divisor-tried : Divides F g f → T (divides F h f)
+      divisor-tried : Divisor F g f → T (divides F h f)
       unfolding divides
       divisor-tried d =
           get_or-zeros rest
@@ -280,14 +280,14 @@ module _ {F : Field} (I : IsField F) where
 
     divisor-found :
         (g : Polynomial) → T (is_monic_over F g) → 1 ≤ degree g → degree g ≤ degree f → get_or g 0 0 ≢ 0
-        → Divides F g f
+        → Divisor F g f
         → T (has_divisor F f (degree g))
     divisor-found g o l k z d =
         divides-found-list (degree g) (lowered F g) (length-lowered F g) l (lowered-constant g o l z)
         (elements-below F (lowered F g) (lowered-elements I g))
         (divisor-tried (lowered F g) (lowered-elements I g) (omega (arith, length-lowered F g)) f m
         (omega (arith, length-lowered F g, monic-length F f m))
-        (subst (λ u. Divides F u f) (sym (modulus-lowered I g o)) d))
+        (subst (λ u. Divisor F u f) (sym (modulus-lowered I g o)) d))
 
     pub trial_search :
         get_or f 0 0 ≢ 0 → not (irreducible F f) ≡ holds_for_some (has_divisor F f) (range 1 (degree f / 2))

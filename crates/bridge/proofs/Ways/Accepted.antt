@@ -24,7 +24,7 @@ use Rattle.meaning.specs.Result.{answered, Rated}
 use Rattle.meaning.specs.Conditions.{named, total_degree, count_out_of_range, term_out_of_field}
 use Rattle.meaning.specs.Conditions.{is_reducible}
 use Rattle.meaning.specs.Conditions.{factor_count_out_of_range, factor_degree_out_of_range, two_equal}
-use Rattle.meaning.specs.Conditions.{coefficient_out_of_range, start_unlike_degree}
+use Rattle.meaning.specs.Conditions.{coefficient_out_of_range}
 use Rattle.meaning.specs.Conditions.{upper_powers_out_of_range, fewer_terms_than, lent_too_short, accepted_lent}
 use Rattle.meaning.specs.FieldNames.{named_field}
 use Rattle.meaning.specs.Power.{PowerFigures, power_rating}
@@ -99,11 +99,6 @@ unfolding fewer_terms_than
 enough-accepted d ts h =
     let b : ¬ (length ts < d) = λ l. false-T h (lt→ltb (length ts) d l) in
     omega arith
-
-pub start-accepted : (g : Polynomial) (start : List ℕ) → start_unlike_degree g start ≡ false
-    → length start ≡ degree g
-unfolding start_unlike_degree
-start-accepted g start h = eqb→eq (length start) (degree g) (not-false (eqb (length start) (degree g)) h)
 
 pub lent-enough : (answer work : ℕ) → lent_too_short answer work ≡ false → (4097 ≤ answer) × (8192 ≤ work)
 unfolding lent_too_short

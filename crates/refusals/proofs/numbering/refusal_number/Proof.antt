@@ -66,12 +66,6 @@ enum-told-19 c = search rules
 enum-told-20 : tie.Need-enum-told-20
 enum-told-20 c = search rules
 
-enum-told-21 : tie.Need-enum-told-21
-enum-told-21 c = search rules
-
-enum-told-22 : tie.Need-enum-told-22
-enum-told-22 c = search rules
-
 returns : tie.Need-returns
 unfolding number_of
 returns c = ap number_of (sym c.enum_told.given.1)
@@ -152,14 +146,6 @@ returns-20 : tie.Need-returns-20
 unfolding number_of
 returns-20 c = ap number_of (sym c.enum-told20.given.1)
 
-returns-21 : tie.Need-returns-21
-unfolding number_of
-returns-21 c = ap number_of (sym c.enum-told21.given.1)
-
-returns-22 : tie.Need-returns-22
-unfolding number_of
-returns-22 c = ap number_of (sym c.enum-told22.given.1)
-
 pub refusal-number-spec : {M : Type 1} → statement M
 refusal-number-spec =
     tie.close
@@ -184,8 +170,6 @@ refusal-number-spec =
     enum-told-18
     enum-told-19
     enum-told-20
-    enum-told-21
-    enum-told-22
     returns
     returns-2
     returns-3
@@ -205,6 +189,4 @@ refusal-number-spec =
     returns-17
     returns-18
     returns-19
-    returns-20
-    returns-21
-    returns-22)
+    returns-20)
