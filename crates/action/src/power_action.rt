@@ -8,7 +8,7 @@ use crate::act_at_level;
 use arith::GaloisField;
 
 // Terms at the front of a half of the work bytes.
-#[derive(Drop)]
+#[derive(Clone, Copy)]
 pub struct Place {
     pub half: usize,
     pub count: usize,

@@ -1,1 +1,2 @@
 // Mathematics over any field. Theory only: everything stands in proofs/.
+#![tactic(auto)]

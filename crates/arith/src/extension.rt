@@ -14,7 +14,7 @@ ghost use Rattle.arith.specs.extension.Extension.{plane_of};
 
 // GF(2^n): `size` is 2^n, `degree` is n, and `low` has the coefficients of y^0 to y^(n−1) of the reducing
 // polynomial.
-#[derive(Drop)]
+#[derive(Clone, Copy)]
 pub struct ExtensionField {
     pub(crate) size: u16,
     pub(crate) degree: u16,
@@ -22,7 +22,7 @@ pub struct ExtensionField {
 }
 
 // An element times 1, y, …, y^7.
-#[derive(Drop)]
+#[derive(Clone, Copy)]
 struct Multiples {
     m0: u8,
     m1: u8,

@@ -3,6 +3,8 @@
 // or an exclusive or. Each operation takes any bytes, and a byte that is no element counts as the one that it
 // stands for. All but the constructors and the tests for a prime and for a field of 2^n elements assume a
 // well-formed struct.
+#![tactic(auto)]
+
 mod extension;
 mod field;
 pub mod prime_field;

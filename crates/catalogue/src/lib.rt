@@ -1,5 +1,7 @@
 // The catalogue of the irreducible binary polynomials of degree 1 to 10: 226 numbers in rising order, bit i
 // of a number being the coefficient of x^i of its polynomial.
+#![tactic(auto)]
+
 ghost use Rattle.meaning.specs.Calls.{CatalogueCall};
 
 const TABLE: [u64; 226] = [

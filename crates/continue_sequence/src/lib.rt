@@ -1,4 +1,6 @@
 // The continuation of a sequence in a lent buffer.
+#![tactic(auto)]
+
 pub mod continuation;
 
 ghost use Rattle.meaning.specs.Calls.{ContinueCall};

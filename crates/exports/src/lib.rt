@@ -4,6 +4,8 @@
 // is accepted and else the number of the refusal, with zeros for all other numbers. A refusal leaves the lent
 // bytes as they were, but for the first 8,192 work bytes, which the refusals by 17 and 19 leave zero.
 // `tools/library` builds the library that has them all.
+#![tactic(auto)]
+
 pub mod catalogue;
 pub mod continuation;
 mod field;

@@ -1,5 +1,7 @@
 // The search of the catalogue for a binary period: the first entry with a power that annihilates it, and the
 // least such power. The work bytes are used for the power of the entry that is found, and then cleared.
+#![tactic(auto)]
+
 ghost use Rattle.std.specs.Prelude.{◌≡◌, ◌+◌, ◌≤◌, ◌<◌, length};
 ghost use Rattle.meaning.specs.declared.FieldName.{FieldName};
 ghost use Rattle.meaning.specs.Calls.{EntryCall};

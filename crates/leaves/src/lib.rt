@@ -1,6 +1,8 @@
 // Leaves on slices, of the arithmetic, of the shortest period and of the orders, for benchmarks and tests
 // from another language. Where what a leaf requires does not hold, the answer is 0, and all bytes stay as
 // they were. A field is GF(p) here, and GF(2^n) in `binary`.
+#![tactic(auto)]
+
 mod binary;
 
 ghost use Rattle.std.specs.Prelude.{◌≡◌, true, ◌&&◌, length};

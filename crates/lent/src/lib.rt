@@ -1,5 +1,7 @@
 // What all who work in lent bytes share: zeros in a part of them, the smaller of two sizes, the two halves of
 // the work bytes, a block of an action, and raised coefficients.
+#![tactic(auto)]
+
 pub mod blocks;
 mod elements;
 pub mod halves;

@@ -23,7 +23,7 @@ use lent::clear;
 // What is known after the terms seen, beside the words of f and g: how many they are, the degree L of f, how
 // many coefficients g has, and to what g is aligned: for a correction at t(n) it is moved down by
 // n + 1 − aligned bits.
-#[derive(Drop)]
+#[derive(Clone, Copy)]
 pub struct Progress {
     pub seen: usize,
     pub degree: usize,

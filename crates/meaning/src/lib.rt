@@ -1,17 +1,18 @@
 // The answers of the public calls. There is no code here: the contracts and the theorems speak of these types
 // through the definitions of specs/Answers.antt, which give each case the number and the values of paper 01.
+#![tactic(auto)]
 
 // The name of a field: GF(p) by its prime p, GF(2^n) by its degree n and the coefficients of its reducing
 // polynomial below y^n, as the bits of a number. Any numbers are a name; 6 turns down those of the first kind
 // that name no field in range, and 20 those of the second.
-#[derive(Drop)]
+#[derive(Clone, Copy)]
 pub enum FieldName {
     Prime(u64),
     Binary { degree: u64, low: u64 },
 }
 
 // Why a call is turned down, in the order of the numbered list (1 to 20).
-#[derive(Drop)]
+#[derive(Clone, Copy)]
 pub enum Refusal {
     // 1: the file has more than 16,384 bytes
     FileTooLong,
@@ -57,7 +58,7 @@ pub enum Refusal {
 }
 
 // Whether a polynomial is irreducible.
-#[derive(Drop)]
+#[derive(Clone, Copy)]
 pub enum Irreducibility {
     Irreducible,
     HasFactors,
@@ -65,7 +66,7 @@ pub enum Irreducibility {
 }
 
 // The rating of a period: f to the least power annihilates it, and it repeats every `repeat` terms.
-#[derive(Drop)]
+#[derive(Clone, Copy)]
 pub enum PowerRating {
     Rated {
         power: u64,
@@ -77,7 +78,7 @@ pub enum PowerRating {
 
 // The rating of a portion with one to eight factors, the powers apart. The continuation repeats every
 // `repeat` terms; 0 where it never does, or not within 65,536 terms.
-#[derive(Drop)]
+#[derive(Clone, Copy)]
 pub enum SetOutcome {
     Rated {
         degree: u64,
@@ -89,14 +90,14 @@ pub enum SetOutcome {
 
 // The rating of a portion with one to eight factors: `count` powers in the order of the factors, then zeros;
 // refused: zeros.
-#[derive(Drop)]
+#[derive(Clone, Copy)]
 pub struct SetRating {
     pub outcome: SetOutcome,
     pub powers: [u64; 8],
 }
 
 // The rating of a portion alone: the least degree, and whether one polynomial fits or several may.
-#[derive(Drop)]
+#[derive(Clone, Copy)]
 pub enum FreeRating {
     Unique { degree: u64 },
     Several { degree: u64 },
@@ -107,7 +108,7 @@ pub enum FreeRating {
 // many terms it holds, the least degree for these, and what the next step needs beside the polynomials in the
 // lent work bytes: how many coefficients the earlier one has, the inverse of its discrepancy, and the half in
 // which the present one stands.
-#[derive(Drop)]
+#[derive(Clone, Copy)]
 pub struct Meter {
     pub field: FieldName,
     pub held: usize,
@@ -118,14 +119,14 @@ pub struct Meter {
 }
 
 // Whether a meter was started.
-#[derive(Drop)]
+#[derive(Clone, Copy)]
 pub enum MeterStart {
     Started(Meter),
     Refused(Refusal),
 }
 
 // A meter after one term more, or as it was where the term is refused, and the reading or the refusal.
-#[derive(Drop)]
+#[derive(Clone, Copy)]
 pub struct MeterStep {
     pub reading: FreeRating,
     pub meter: Meter,
@@ -133,14 +134,14 @@ pub struct MeterStep {
 
 // What a search of the catalogue finds: the first entry with a power that annihilates the period, and the
 // least such power.
-#[derive(Drop)]
+#[derive(Clone, Copy)]
 pub enum EntryRating {
     Found { entry: u64, power: u64 },
     Refused(Refusal),
 }
 
 // Whether a buffer was filled with a continued sequence.
-#[derive(Drop)]
+#[derive(Clone, Copy)]
 pub enum Filling {
     Filled,
     Refused(Refusal),
@@ -148,7 +149,7 @@ pub enum Filling {
 
 // The rating of a route file, the box and the powers apart. The density is the degree over the denominator:
 // the shortest period in the period mode, and else the number of terms.
-#[derive(Drop)]
+#[derive(Clone, Copy)]
 pub enum FileOutcome {
     Powers {
         degree: u64,
@@ -168,7 +169,7 @@ pub enum FileOutcome {
 
 // The rating of a route file, with the number of the box that sent it: `count` powers, then zeros; in the
 // free mode and refused: zeros.
-#[derive(Drop)]
+#[derive(Clone, Copy)]
 pub struct FileRating {
     pub sender: u64,
     pub outcome: FileOutcome,
@@ -176,7 +177,7 @@ pub struct FileRating {
 }
 
 // What the route reader finds under a number, the body apart.
-#[derive(Drop)]
+#[derive(Clone, Copy)]
 pub enum RecordOutcome {
     Found { kind: u8 },
     Refused(Refusal),
@@ -184,7 +185,7 @@ pub enum RecordOutcome {
 
 // What the route reader hands back: the body is a part of the lent file, the empty part where the file is
 // refused.
-#[derive(Drop)]
+#[derive(Clone, Copy)]
 pub struct FoundRecord<'a> {
     pub outcome: RecordOutcome,
     pub body: &'a [u8],
@@ -196,7 +197,7 @@ pub struct FoundRecord<'a> {
 // A field by two numbers: GF(number) where the degree is 0, and else GF(2^degree), reduced by y^degree and
 // the bits of the number.
 #[repr(C)]
-#[derive(Drop)]
+#[derive(Clone, Copy)]
 pub struct FieldNumbers {
     pub degree: u64,
     pub number: u64,
@@ -205,7 +206,7 @@ pub struct FieldNumbers {
 // A rating. The powers stand in the order of the factors, then zeros; the word of the free way is 1 for
 // `one` and 2 for `some`. What a way does not tell is 0.
 #[repr(C)]
-#[derive(Drop)]
+#[derive(Clone, Copy)]
 pub struct Rating {
     pub status: u64,
     pub complexity: u64,
@@ -216,7 +217,7 @@ pub struct Rating {
 
 // The answer to a question: 1 for yes, 0 for no.
 #[repr(C)]
-#[derive(Drop)]
+#[derive(Clone, Copy)]
 pub struct Answer {
     pub status: u64,
     pub yes: u64,
@@ -224,7 +225,7 @@ pub struct Answer {
 
 // What a search of the catalogue finds.
 #[repr(C)]
-#[derive(Drop)]
+#[derive(Clone, Copy)]
 pub struct Entry {
     pub status: u64,
     pub entry: u64,
@@ -234,7 +235,7 @@ pub struct Entry {
 // What the route reader finds: the body of the record is the part of the file that begins at `from` and has
 // `length` bytes.
 #[repr(C)]
-#[derive(Drop)]
+#[derive(Clone, Copy)]
 pub struct Found {
     pub status: u64,
     pub kind: u64,

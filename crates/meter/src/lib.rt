@@ -2,6 +2,8 @@
 // arrays: the terms that it holds, and the two polynomials of the Berlekamp-Massey algorithm. Its calls take
 // every meter and all bytes, but promise nothing of a meter that no start and no terms made, or that comes
 // with other bytes than the last call left.
+#![tactic(auto)]
+
 ghost use Rattle.std.specs.Prelude.{◌≡◌, true, ◌<◌, length};
 ghost use Rattle.meaning.specs.Calls.{StartCall, TermCall, ReadingCall};
 ghost use Rattle.arith.specs.Represented.{field_of, WellFormed};

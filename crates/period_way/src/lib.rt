@@ -1,6 +1,8 @@
 // The period way on accepted input: from terms in lent bytes to the power of the factor. The first 8,192
 // work bytes are two halves of 4,096, terms are stored there alone, and the way leaves them 0 and all beyond
 // them as it was. Assumes a well-formed field and what each function says of its input.
+#![tactic(auto)]
+
 ghost use Rattle.std.specs.Prelude.{◌≤◌, length};
 ghost use Rattle.arith.specs.Represented.{field_of, WellFormed};
 ghost use Rattle.powers.specs.levels.Levels.{Dividing};
@@ -14,7 +16,7 @@ use powers::digit_search::least_power;
 use powers::levels::{Level, level_dividing};
 
 // The power of a factor, or nothing if no power annihilates.
-#[derive(Drop)]
+#[derive(Clone, Copy)]
 pub enum Found {
     Power(u64),
     Nothing,

@@ -4,7 +4,7 @@ ghost use Rattle.std.specs.Prelude.{◌≤◌, ◌<◌};
 ghost use Rattle.powers.specs.levels.Levels.{Base, Reaching, Dividing};
 
 // The power p^exponent, which is `power`.
-#[derive(Drop)]
+#[derive(Clone, Copy)]
 pub struct Level {
     pub exponent: usize,
     pub power: usize,

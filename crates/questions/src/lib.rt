@@ -1,4 +1,6 @@
 // The questions that are answered by yes or no. They change no lent byte.
+#![tactic(auto)]
+
 ghost use Rattle.std.specs.Prelude.{◌≡◌};
 ghost use Rattle.meaning.specs.Polynomial.{irreducible, monic_multiple};
 ghost use Rattle.meaning.specs.Irreducibility.{irreducible_in};

@@ -1,5 +1,7 @@
 // The rating of a route file: its verdict, and then the rating of what it holds. It answers for every file of
 // any length.
+#![tactic(auto)]
+
 mod factors;
 mod modes;
 mod outcomes;

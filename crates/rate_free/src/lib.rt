@@ -1,4 +1,6 @@
 // The rating of known terms with no factor named: the public call of the free way. Assumes nothing.
+#![tactic(auto)]
+
 ghost use Rattle.std.specs.Prelude.{◌≡◌, length};
 ghost use Rattle.std.proofs.Math.Option.{none};
 ghost use Rattle.meaning.specs.Result.{first_of};

@@ -1,4 +1,6 @@
 // The rating of a period with one factor.
+#![tactic(auto)]
+
 ghost use Rattle.std.specs.Prelude.{◌≤◌, false, length};
 ghost use Rattle.meaning.specs.Period.{period_answer, period_in};
 ghost use Rattle.meaning.specs.Calls.{PeriodCall};

@@ -1,4 +1,6 @@
 // The rating of a portion with one to eight factors.
+#![tactic(auto)]
+
 ghost use Rattle.std.specs.Prelude.{◌≡◌, false, length, replicate};
 ghost use Rattle.meaning.specs.declared.SetOutcome.{SetOutcome};
 ghost use Rattle.meaning.specs.Conditions.{named};

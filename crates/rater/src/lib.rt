@@ -1,6 +1,7 @@
 // The public calls of the rater, and nothing else. Each answers on every input: no call asks anything of its
 // caller, and its contract, a record of crate meaning, fixes the whole answer and every lent byte afterwards.
 // Of a meter that was not made by a start and by terms nothing is said.
+#![tactic(auto)]
 
 // on numbers and slices
 pub use catalogue::catalogue_entry;

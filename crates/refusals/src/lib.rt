@@ -2,6 +2,8 @@
 // holds in a field, but for 17. Each answers for any numbers and slices of any length, but for those from 12
 // on, which assume that 10 and 11 let the factors pass; none changes a lent byte. All assume a well-formed
 // field: whoever makes it has met 6 or 20.
+#![tactic(auto)]
+
 pub mod conditions;
 pub mod factors;
 pub mod numbering;
@@ -26,7 +28,7 @@ use arith::GaloisField;
 use meaning::Refusal;
 
 // Whether a call is turned down, and why.
-#[derive(Drop)]
+#[derive(Clone, Copy)]
 pub enum Verdict {
     Accepted,
     Refused(Refusal),

@@ -1,6 +1,8 @@
 // How many terms a sequence takes to repeat: the shortest period of a list of terms, the order of x modulo a
 // factor, and the repeat length by the powers of the factors of the minimal polynomial. No lent byte is
 // written. Assumes a well-formed field, and monic irreducible factors over it of degree 1 to 32.
+#![tactic(auto)]
+
 pub mod multiples;
 pub mod orders;
 pub mod primes;

@@ -9,7 +9,7 @@ use meaning::Refusal;
 use refusals::Verdict;
 
 // What a step of the walk finds: a record in its place, with the place and the stage after it, or a bad one.
-#[derive(Drop)]
+#[derive(Clone, Copy)]
 pub enum Step {
     Good { next: usize, after: u8 },
     Bad(Refusal),

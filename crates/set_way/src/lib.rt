@@ -2,6 +2,8 @@
 // bytes are two halves of 4,096; they are 0 in the end, and all beyond them is as it was. What one half of
 // the factors leaves of the terms for the other is kept on the stack. Assumes a well-formed field and what
 // each function says of its input. `degree` is the total degree of the upper powers.
+#![tactic(auto)]
+
 pub mod actions;
 pub mod search;
 

@@ -146,13 +146,14 @@ module _ {K : Type 0} (R : Ring K) where
     member = powers.upper;
     divides = λ h _. one-divides R h;
   }
-  least-powers_generate ideal {fs = f ∷ fs} {u} {r} atoms powers =
+  least-powers_generate {I} ideal {fs = f ∷ fs} {u} {r} atoms powers =
       let others = quotient-ideal R ideal (power R f (u 0)) in
       generator-more ideal (atoms.atom 0 (omega arith))
       (first-coprime atoms (u 0) _)
       (first-coprime atoms (r 0) _)
       (powers.least 0 (omega arith))
-      (least-powers_generate others (coprime-atoms-rest atoms) (least-powers-rest powers))
+      (least-powers_generate {I = λ c. I (power R f (u 0) ⊗ c)} others {fs = fs}
+          (coprime-atoms-rest atoms) (least-powers-rest powers))
 
   -- What the product divides, and what divides it
   pub power-divides-product : (fs : List K) (e : ℕ → ℕ) (i : ℕ)

@@ -119,6 +119,7 @@ module _ {A : Type 0} (t : A → Bool) where
       go false e = absurd (rw (e, holds_for_all) at h)
 
   pub all-member : (l : List A) → T (holds_for_all t l) → (a : A) → Memᴰ a l → T (t a)
+  all-member [] h a never = elim never [ ]
   all-member (b ∷ l) h a (Memᴰ.head e) = subst (λ c. T (t c)) (sym e) (all_uncons b l h).0
   all-member (b ∷ l) h a (Memᴰ.tail m) = all-member l (all_uncons b l h).1 a m
 
@@ -164,6 +165,7 @@ module _ {A : Type 0} (t : A → Bool) where
       go rest (inr h) = let (a, m, p) = rest h in (a, Memᴰ.tail m, p)
 
   pub member-some : (l : List A) (a : A) → Memᴰ a l → T (t a) → T (holds_for_some t l)
+  member-some [] a never h = elim never [ ]
   member-some (b ∷ l) a (Memᴰ.head e) h = some-head b l (subst (λ c. T (t c)) e h)
   member-some (b ∷ l) a (Memᴰ.tail m) h = some-tail b l (member-some l a m h)
 
@@ -223,6 +225,7 @@ get_or-range a (suc n) (suc i) d l = get_or-range (suc a) n i d (le_of_suc-le-su
 
 pub member-range : {i : ℕ} (a n : ℕ) → Memᴰ i (range a n) → (a ≤ i) × (i < a + n)
 unfolding range
+member-range {i = i} a zero never = elim never [ ]
 member-range a (suc n) (Memᴰ.head e) = omega arith
 member-range a (suc n) (Memᴰ.tail m) = let h = member-range (suc a) n m in omega arith
 
@@ -326,6 +329,7 @@ selected-same t u a (suc n) h =
 pub selected-member :
     {A : Type 0} (t : A → Bool) (l : List A) {a : A} → Memᴰ a (selected t l) → Memᴰ a l × T (t a)
 unfolding selected
+selected-member {A = A} t [] {a = a} m = elim m [ ]
 selected-member t (b ∷ l) {a} m = go (selected-member t l) (T-decided (t b))
   where
     selected-head :
@@ -344,6 +348,7 @@ selected-member t (b ∷ l) {a} m = go (selected-member t l) (T-decided (t b))
 
 pub member-selected :
     {A : Type 0} (t : A → Bool) (l : List A) {a : A} → Memᴰ a l → T (t a) → Memᴰ a (selected t l)
+member-selected {A = A} t [] {a = a} m h = elim m [ ]
 member-selected t (b ∷ l) {a} m h = go m (member-selected t l) (T-decided (t b))
   where
     go : Memᴰ a (b ∷ l) → (Memᴰ a l → T (t a) → Memᴰ a (selected t l)) → Dec (T (t b))
@@ -368,6 +373,7 @@ none-selected t u a n e k l m h p =
     first-none (selected u (range a n)) e member
   where
     first-none : (c : List ℕ) → first_that t c ≡ none → Memᴰ k c → ⊥
+    first-none [] e never = elim never [ ]
     first-none (b ∷ c) e (Memᴰ.head q) =
         some-ne-none b (sym (first_passes t b c (subst (λ i. T (t i)) q p)) ∙ e)
     first-none (b ∷ c) e (Memᴰ.tail i) = go (first-none c) (T-decided (t b))

@@ -90,6 +90,7 @@ module _ (cs : List ℕ) where
       → Memᴰ f l
       → Memᴰ (c ∷ f) (each_head cs l)
   unfolding each_head
+  each_member {c = c} {f = f} [] m never = elim never [ ]
   each_member {c} {f} (g ∷ l) m (Memᴰ.head e) =
       Memᴰ.append_left (each_head cs l) (Memᴰ.cast (ap (◌∷◌ c) e) (Memᴰ.map (λ c. c ∷ g) m))
   each_member (g ∷ l) m (Memᴰ.tail n) = Memᴰ.append_right (map (λ c. c ∷ g) cs) (each_member l m n)

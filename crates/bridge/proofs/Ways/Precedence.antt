@@ -91,6 +91,7 @@ member_heads :
     → Memᴰ g (each_head (range 0 q) l)
     → (c : ℕ) × (f : Polynomial) × Memᴰ f l × (c ∷ f ≡ g)
 unfolding each_head
+member_heads q [] {g = g} m = elim m [ ]
 member_heads q (f ∷ l) m = go (Memᴰ.append_cases (map (λ c. c ∷ f) (range 0 q)) m) (member_heads q l)
   where
     go :

@@ -19,7 +19,7 @@ use poly::factors::upper_at;
 
 // A condition that is asked of one factor: of the list of its coefficients, or of the body of its record in a
 // file.
-#[derive(Drop)]
+#[derive(Clone, Copy)]
 pub enum FactorCondition {
     // 10, of a list
     DegreeOutOfRange,
