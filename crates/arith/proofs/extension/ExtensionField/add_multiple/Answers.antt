@@ -1,0 +1,33 @@
+-- `arith::ExtensionField::add_multiple` meets its contract. The invariant: the first i numbers of a + c·b
+-- are written over a. The measure is what is left of b. Assumes nothing.
+use Prim.Native.Nat.{◌-◌, ◌≤◌}
+use mathlib.Core.Path.{◌≡◌, refl, ap, ◌∙◌}
+use lib.ListN.{length}
+use Rattle.arith.specs.Slices.{combined}
+use Rattle.arith.specs.extension.Extension.{extension_of}
+use Rattle.arith.proofs.Writing.{Writing, writing_none, combined-front, combined-end}
+use Rattle.arith.proofs.extension.Elements.{times-element}
+use borrow.Author.Rules.{rules}
+use native.Mathlib.Omega.{arith}
+use Rattle.arith.proofs.extension.ExtensionField.add_multiple.Goals as goal
+
+pub loop-i-init : goal.loop-i-init
+loop-i-init c = (omega arith, refl, writing_none _ 0 _ (omega arith))
+
+pub loop-i-preserved : goal.loop-i-preserved
+loop-i-preserved c =
+    let a = c.args in (
+      omega arith,
+      refl,
+      combined-front (extension_of a.self) a.a.now a.c a.b.now (omega arith) (omega arith)
+          c.loop-i.invariant.2
+          (c.plus_times.ensures
+          ∙ ap ((extension_of a.self).add _)
+          (times-element c.requires.well_formed_extension a.c _ c.multiples-m.ensures.1)),
+    )
+
+pub returns : goal.returns
+returns c =
+    let a = c.args in
+    combined-end (extension_of a.self) a.a.now a.c a.b.now (omega arith) (omega arith)
+    c.loop-i.invariant.2

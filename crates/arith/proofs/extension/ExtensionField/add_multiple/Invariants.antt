@@ -1,0 +1,18 @@
+-- `arith::ExtensionField::add_multiple` meets its contract. The invariant: the first i numbers of a + c·b
+-- are written over a. The measure is what is left of b. Assumes nothing.
+use Prim.Native.Nat.{◌-◌, ◌≤◌}
+use mathlib.Core.Path.{◌≡◌, refl, ap, ◌∙◌}
+use lib.ListN.{length}
+use Rattle.arith.specs.Slices.{combined}
+use Rattle.arith.specs.extension.Extension.{extension_of}
+use Rattle.arith.proofs.Writing.{Writing, writing_none, combined-front, combined-end}
+use Rattle.arith.proofs.extension.Elements.{times-element}
+use borrow.Author.Rules.{rules}
+use native.Mathlib.Omega.{arith}
+use Rattle.arith.proofs.extension.ExtensionField.add_multiple.Given as goal
+
+abbrev pub invariant-loop-i : goal.invariant-loop-i
+invariant-loop-i l = (l.i ≤ l.i-end) × (l.i-end ≡ length l.b) × Writing l.initial.a 0 (combined (extension_of l.self) l.initial.a l.c l.b) l.a l.i
+
+abbrev pub decreases-loop-i : goal.decreases-loop-i
+decreases-loop-i l = l.i-end - l.i

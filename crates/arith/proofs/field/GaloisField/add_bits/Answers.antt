@@ -1,0 +1,30 @@
+-- `arith::GaloisField::add_bits` meets its contract. The invariant: the first i numbers of a + b are
+-- written over a. The measure is what is left of b. Assumes nothing.
+use Prim.Native.Nat.{◌-◌, ◌≤◌}
+use mathlib.Core.Path.{◌≡◌, refl}
+use native.Mathlib.Omega.{arith}
+use borrow.Author.Rules.{rules}
+use lib.ListN.{length}
+use Rattle.arith.specs.Represented.{field_of}
+use Rattle.arith.specs.Slices.{combined}
+use Rattle.arith.proofs.Writing.{Writing, writing_none, combined-front, combined-end}
+use Rattle.arith.proofs.field.GaloisField.add_bits.Goals as goal
+
+pub loop-i-init : goal.loop-i-init
+loop-i-init c = (omega arith, refl, writing_none _ 0 _ (omega arith))
+
+pub loop-i-preserved : goal.loop-i-preserved
+loop-i-preserved c =
+    let a = c.args in (
+      omega arith,
+      refl,
+      combined-front (field_of a.self) a.a.now 1 a.b.now (omega arith) (omega arith)
+          c.loop-i.invariant.2
+          c.sum_of_bits.ensures,
+    )
+
+pub returns : goal.returns
+returns c =
+    let a = c.args in
+    combined-end (field_of a.self) a.a.now 1 a.b.now (omega arith) (omega arith)
+    c.loop-i.invariant.2

@@ -1,0 +1,14 @@
+-- `arith::PrimeField::add_multiple_within` meets its contract. The invariant: the first i numbers of a + c·b
+-- are written from x on. The measure is what is left of the n places. Assumes nothing.
+use Prim.Native.Nat.{◌-◌}
+use native.Mathlib.Omega.{arith}
+use borrow.Author.Rules.{rules}
+use Rattle.arith.specs.prime_field.PrimeForm.{prime_field_of}
+use Rattle.arith.proofs.Writing.{Combining, same-places, combining_none, combining_more, combining_end}
+use Rattle.arith.proofs.prime_field.PrimeField.add_multiple_within.Given as goal
+
+abbrev pub invariant-loop-i : goal.invariant-loop-i
+invariant-loop-i l = Combining (prime_field_of l.self) l.initial.w l.x l.x l.c l.y l.n l.w l.i
+
+abbrev pub decreases-loop-i : goal.decreases-loop-i
+decreases-loop-i l = l.n - l.i
