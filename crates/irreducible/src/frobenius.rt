@@ -23,7 +23,7 @@ fn next_row(field: GaloisField, f: &[u8], y: &[u8], row: &mut [u8])
 {
     let d = row.len();
     let mut old = [0u8; 32];
-    bytes::copy(row, &mut old);
+    lent::copy(row, &mut old);
     multiply_modulo(field, f, &old[0..d], y, row);
 }
 
@@ -41,7 +41,7 @@ fn fill_rows(field: GaloisField, f: &[u8], y: &[u8], table: &mut [u8])
     let mut j = 0;
     // Invariant: row = x^(j·q) modulo f, and the table has those before it.
     while j < d {
-        bytes::copy(&row[0..d], &mut table[32 * j..32 * j + d]);
+        lent::copy(&row[0..d], &mut table[32 * j..32 * j + d]);
         next_row(field, f, y, &mut row[0..d]);
         j += 1;
     }
@@ -84,5 +84,5 @@ pub fn raise(field: GaloisField, table: &[u8], h: &mut [u8])
     let d = h.len();
     let mut sum = [0u8; 32];
     add_rows(field, table, h, &mut sum[0..d]);
-    bytes::copy(&sum[0..d], h);
+    lent::copy(&sum[0..d], h);
 }

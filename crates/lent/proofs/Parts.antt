@@ -41,10 +41,8 @@ lent_back ys t {d} e = take_at ys t (d - 0) (e ∙ omega arith)
 pub copied-back :
     (f : List ℕ) (n : ℕ) {d : ℕ}
     → length f ≡ d
-    → take (d - 0) (take (length f) f ++ drop (length f) (replicate n 0)) ≡ f
-copied-back f n {d} e =
-    ap (λ u. take (d - 0) (u ++ drop (length f) (replicate n 0))) (take-length f)
-    ∙ lent_back f (drop (length f) (replicate n 0)) e
+    → take (d - 0) (f ++ drop (length f) (replicate n 0)) ≡ f
+copied-back f n {d} e = lent_back f (drop (length f) (replicate n 0)) e
 
 -- Zeros
 zeros-part : (m n : ℕ) → m ≤ n → ◌≡◌ {A = List ℕ} (take m (replicate n 0)) (replicate m 0)
@@ -70,8 +68,8 @@ module _ (m n : ℕ) (h : m ≤ n) where
     zeros-enough = omega (arith, zeros-length, length-append y (drop (m - 0) (replicate n 0)))
 
 -- A list that is copied over another
-pub copied : (l t : List ℕ) → length l ≤ length t → take (length t) t ++ drop (length t) l ≡ t
-copied l t h = ap₂ ◌++◌ (take-length t) (drop_of_length-le l h) ∙ append-nil t
+pub copied : (l t : List ℕ) → length l ≤ length t → t ++ drop (length t) l ≡ t
+copied l t h = ap (◌++◌ t) (drop_of_length-le l h) ∙ append-nil t
 
 -- A part from the front, as it is lent and copied
 pub front_fits : (l : List ℕ) (n : ℕ) → length (take (n - 0) l) ≤ n
@@ -83,11 +81,11 @@ front-room ys t e = omega (arith, length-append ys t)
 pub front-copied :
     (ys t dst : List ℕ)
     → length ys ≡ length dst
-    → take (length (take (length dst - 0) (ys ++ t))) (take (length dst - 0) (ys ++ t))
+    → take (length dst - 0) (ys ++ t)
     ++ drop (length (take (length dst - 0) (ys ++ t))) dst
     ≡ ys
 front-copied ys t dst e =
-    ap (λ u. take (length u) u ++ drop (length u) dst) (lent_back ys t e) ∙ copied dst ys (omega arith)
+    ap (λ u. u ++ drop (length u) dst) (lent_back ys t e) ∙ copied dst ys (omega arith)
 
 pub cleared-part : {ys : List ℕ} (w : List ℕ)
     → 8192 ≤ length w

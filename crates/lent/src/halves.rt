@@ -4,7 +4,7 @@ ghost use Rattle.std.specs.Prelude.{◌≡◌, ◌-◌, length};
 ghost use Rattle.bridge.proofs.Sequences.KnownActions.{all_zero};
 ghost use Rattle.lent.specs.halves.Halves.{Halves, Placed};
 
-use crate::smaller;
+use crate::{copy, smaller};
 
 // Whether all bytes of a block are 0, by one test for all of them.
 pub(crate) fn block_zero(block: &[u8]) -> bool
@@ -40,5 +40,5 @@ pub fn load(work: &mut [u8], h: usize, terms: &[u8])
     ensures { Placed work.old h (1 - h) terms.now work.new }
 {
     let at = 4096 * h;
-    bytes::copy(terms, &mut work[at..at + terms.len()]);
+    copy(terms, &mut work[at..at + terms.len()]);
 }

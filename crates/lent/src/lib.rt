@@ -1,5 +1,5 @@
-// What all who work in lent bytes share: zeros in a part of them, the smaller of two sizes, the two halves of
-// the work bytes, a block of an action, and raised coefficients.
+// What all who work in lent bytes share: zeros in a part of them, the smaller of two sizes, a copied list,
+// the two halves of the work bytes, a block of an action, and raised coefficients.
 #![tactic(auto)]
 
 pub mod blocks;
@@ -8,7 +8,7 @@ pub mod halves;
 pub mod raising;
 mod residues;
 
-ghost use Rattle.std.specs.Prelude.{◌≡◌, ◌≤◌, min, length, replicate};
+ghost use Rattle.std.specs.Prelude.{◌≡◌, ◌++◌, ◌≤◌, drop, min, length, replicate};
 ghost use Rattle.meaning.specs.Result.{cleared};
 
 // The smaller of two numbers.
@@ -16,6 +16,14 @@ pub fn smaller(a: usize, b: usize) -> usize
     ensures { result ≡ min a b }
 {
     if a < b { a } else { b }
+}
+
+// Copies a list to the front of a part that has room for it; the rest of the part stays as it was.
+pub fn copy(from: &[u8], to: &mut [u8])
+    requires { length from.now ≤ length to.old }
+    ensures { to.new ≡ from.now ++ drop (length from.now) to.old }
+{
+    to[..from.len()].copy_from_slice(from);
 }
 
 // Fills a part with zeros.

@@ -5,6 +5,7 @@ ghost use Rattle.meaning.specs.Field.{are_elements};
 ghost use Rattle.bridge.proofs.Lists.Spread.{raise};
 ghost use Rattle.arith.specs.Represented.{field_of, WellFormed};
 
+use crate::copy;
 use arith::GaloisField;
 
 // Raises each element to the power p^l, p the characteristic.
@@ -29,6 +30,6 @@ pub fn raised_copy(field: GaloisField, f: &[u8], l: usize, to: &mut [u8])
         ≡ map (raise (field_of field) ((field_of field).characteristic ^ l)) f.now }
 {
     let n = f.len();
-    bytes::copy(f, to);
+    copy(f, to);
     raise_levels(field, &mut to[0..n], l);
 }

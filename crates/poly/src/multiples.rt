@@ -20,7 +20,7 @@ pub fn monic_multiple(field: GaloisField, f: &[u8], to: &mut [u8])
         ++ drop (length f.now) to.old }
 {
     let n = f.len();
-    bytes::copy(f, to);
+    lent::copy(f, to);
     let c = f[n - 1];
     if c != 1 {
         let inverse = field.inverse(c);

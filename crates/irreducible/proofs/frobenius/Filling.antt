@@ -129,7 +129,7 @@ module _ {field : GaloisField} (v : WellFormed field) {f : Polynomial} (y : Poly
     src-degree = src-length
 
     module _ {ys zs : List ℕ}
-        (c : ys ≡ take (length src) src
+        (c : ys ≡ src
         ++ drop (length src) (take (32 * j + e - 32 * j) (drop (32 * j) table)))
         (r : Residue field f (times F y src) zs) where
       row-length : length (take (32 * j + e - 32 * j) (drop (32 * j) table)) ≡ d
@@ -222,7 +222,7 @@ module _ {field : GaloisField} (v : WellFormed field) {f : Polynomial} (y : Poly
 
 -- The row that the next one is made of
 abbrev old : List ℕ → List ℕ
-old row₀ = take (length row₀) row₀ ++ drop (length row₀) (replicate 32 0)
+old row₀ = row₀ ++ drop (length row₀) (replicate 32 0)
 
 module _ (field : GaloisField) {f : List ℕ} (y row₀ : List ℕ) (M : Modulus (field_of field) f)
     (s : length row₀ ≡ degree f) (k : T (are_elements (field_of field) row₀))

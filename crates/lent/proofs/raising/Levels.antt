@@ -48,17 +48,16 @@ module _ {F : Field} (I : IsField F) where
       }
 
 pub copied-front : (f w : List ℕ) {v : List ℕ}
-    → v ≡ take (length f) f ++ drop (length f) w
+    → v ≡ f ++ drop (length f) w
     → take (length f - 0) v ≡ f
 copied-front f w {v} e =
     ap (λ n. take n v) (sub-zero (length f))
     ∙ ap (take (length f)) e
-    ∙ ap (λ v. take (length f) (v ++ drop (length f) w)) (take-length f)
     ∙ take_at f (drop (length f) w) (length f) refl
 
 pub raised-front :
     (F : Field) (n : ℕ) (f w rest : List ℕ) {v ys : List ℕ}
-    → v ≡ take (length f) f ++ drop (length f) w
+    → v ≡ f ++ drop (length f) w
     → ys ≡ map (raise F n) (take (length f - 0) v)
     → take (length f) (ys ++ rest) ≡ map (raise F n) f
 raised-front F n f w rest e k =

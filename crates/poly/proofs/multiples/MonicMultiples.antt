@@ -47,19 +47,16 @@ module _ {F : Field} (I : IsField F) {f : Polynomial} (x : Leads F f) where
       ∙ inverse-product I (get_or-below I f x.elements (length f - 1)) (λ z. x.nonzero (last ∙ z)))
 
   -- the copy, and what is left of the room
-  module _ (to : List ℕ) {w : List ℕ} (e : w ≡ take (length f) f ++ drop (length f) to) where
-    copied : w ≡ f ++ drop (length f) to
-    copied = e ∙ ap (λ l. l ++ drop (length f) to) (take_all (length f) f (omega arith))
-
+  module _ (to : List ℕ) {w : List ℕ} (e : w ≡ f ++ drop (length f) to) where
     pub left_as_copied :
         get_or f (length f - 1) 0 ≡ 1 → w ≡ monic_multiple F f ++ drop (length f) to
-    left_as_copied h = copied ∙ ap (λ l. l ++ drop (length f) to) (multiple-copied h)
+    left_as_copied h = e ∙ ap (λ l. l ++ drop (length f) to) (multiple-copied h)
 
     lent : take (length f - 0) w ≡ f
-    lent = ap (take (length f - 0)) copied ∙ take_at f (drop (length f) to) (length f - 0) (omega arith)
+    lent = ap (take (length f - 0)) e ∙ take_at f (drop (length f) to) (length f - 0) (omega arith)
 
     rest : drop (length f - 0) w ≡ drop (length f) to
-    rest = ap (drop (length f - 0)) copied ∙ drop_at f (drop (length f) to) (length f - 0) (omega arith)
+    rest = ap (drop (length f - 0)) e ∙ drop_at f (drop (length f) to) (length f - 0) (omega arith)
 
     pub left-multiplied :
         {ys : List ℕ} {c : ℕ}

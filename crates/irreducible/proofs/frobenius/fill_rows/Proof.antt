@@ -135,7 +135,7 @@ loop-again c =
     let i = (turn c.before.before.before.before.before).loop.inv in (
       i.0,
       filling-next s.pre.0 s.args.y.now s.pre.1.0 i.0 i.1 (omega arith)
-          c.before.before.before.before.before.copy.ensures.1 c.before.next_row.ensures,
+          c.before.before.before.before.before.copy.ensures c.before.next_row.ensures,
     )
 
 same_length : tie.Need-same-length invariant-loop decreases-loop

@@ -43,7 +43,7 @@ multiply-modulo-requires c κs =
     let s = entry c.before.before.before.before in
     let F = field_of s.args.field in
     let r = s.args.row.now in
-    let e = sym c.before.before.before.before.copy.ensures.1 in (
+    let e = sym c.before.before.before.before.copy.ensures in (
       s.pre.0,
       (
         s.pre.1.0,
@@ -73,7 +73,7 @@ returns c =
     subst
     (λ u. Residue s.args.field s.args.f.now (times F s.args.y.now u)
     c.before.before.multiply-modulo.new.1.1.1.1.0)
-    (ap (take (length r - 0)) (after-copy c.before).copy.ensures.1
+    (ap (take (length r - 0)) (after-copy c.before).copy.ensures
     ∙ old-back s.args.field s.args.y.now r s.pre.1.0 s.pre.1.1.1.1 s.pre.1.1.0.1
     s.pre.1.1.0.0)
     c.before.before.multiply-modulo.ensures

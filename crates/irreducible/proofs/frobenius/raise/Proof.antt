@@ -63,7 +63,7 @@ returns c =
     let s = entry (after-add-rows c.before) in
     let r = (after-add-rows c.before).add-rows.ensures in
     subst (Summed s.args.field s.args.table.now s.args.h.now)
-    (sym (c.before.before.copy.ensures.1
+    (sym (c.before.before.copy.ensures
     ∙ front-copied (after-add-rows c.before).add-rows.new.1.1.1.0
     (drop (length s.args.h.now - 0) (replicate 32 0)) s.args.h.now r.size)) r
 

@@ -44,7 +44,7 @@ returns c =
     let t = b.args.terms.now in
     let x = 4096 * b.args.h in
     let n = length t in
-    let e = c.before.before.copy.ensures.1
+    let e = c.before.before.copy.ensures
     ∙ copied (part w x (x + n - x)) t (omega (arith, length-take (x + n - x) (drop x w))) in
     placed w b.args.h (1 - b.args.h) (omega arith) (omega arith) refl t (omega arith)
     (put_paste w x n _ (ap length e) ∙ ap (λ y. paste w x y n) e)

@@ -34,7 +34,7 @@ raise-levels-requires c κs =
       b.pre.0,
       subst (λ l. T (are_elements (field_of b.args.field) l))
           (sym (copied-front b.args.f.now b.args.to.now
-          c.before.before.before.copy.ensures.1))
+          c.before.before.before.copy.ensures))
           b.pre.1.0,
     )
 
@@ -45,7 +45,7 @@ returns : tie.Need-returns
 returns c =
     let b = entry (after-copy c.before) in
     raised-front (field_of b.args.field) ((field_of b.args.field).characteristic ^ b.args.l)
-    b.args.f.now b.args.to.now _ (after-copy c.before).copy.ensures.1
+    b.args.f.now b.args.to.now _ (after-copy c.before).copy.ensures
     c.before.before.raise-levels.ensures
 
 pub raised-copy-spec : {M : Type 1} → statement M

@@ -51,7 +51,7 @@ returns c =
     let i = m.before.before in
     let y = after-copy i.before in
     let s = entry y in
-    left-multiplied (field-is_field s.pre.0) s.pre.1.0 s.args.to.now y.copy.ensures.1
+    left-multiplied (field-is_field s.pre.0) s.pre.1.0 s.args.to.now y.copy.ensures
     i.inverse.ensures m.multiply.ensures
 
 same-length-2 : tie.Need-same-length-2
@@ -61,7 +61,7 @@ returns-2 : tie.Need-returns-2
 returns-2 c =
     let y = c.before.before.before.before in
     let s = entry y in
-    left_as_copied (field-is_field s.pre.0) s.pre.1.0 s.args.to.now y.copy.ensures.1
+    left_as_copied (field-is_field s.pre.0) s.pre.1.0 s.args.to.now y.copy.ensures
     (omega (arith, c.if1.false))
 
 pub monic-multiple-spec : {M : Type 1} → statement M
