@@ -6,23 +6,13 @@ use native.Mathlib.Nat.{mod-eq_of_lt}
 use native.Mathlib.Omega.{arith}
 use Rattle.lent.proofs.blocks.Cycles.{remainder_wrapped}
 use borrow.Author.Rules.{rules}
-use Rattle.lent.proofs.blocks.advance.Statement.{statement}
-use Rattle.lent.proofs.blocks.advance.Tie as tie
+use Rattle.lent.proofs.blocks.advance.Goals as goal
 
-sub-left : tie.Need-overflow-sub-left
-sub-left c = search rules
+pub returns-then-step-left : goal.returns-then-step-left
+returns-then-step-left c = sym (mod-eq_of_lt (omega arith))
 
-add-result : tie.Need-overflow-add-result
-add-result c = search rules
-
-returns : tie.Need-returns
-returns c = sym (mod-eq_of_lt (omega arith))
-
-returns-2 : tie.Need-returns-2
-returns-2 c =
-    let a = c.before.args in
+pub returns-else-step-left : goal.returns-else-step-left
+returns-else-step-left c =
+    let a = c.args in
     let e : a.step - (a.n - a.at) ≡ a.at + a.step - a.n = omega arith in
     e ∙ remainder_wrapped (a.at + a.step) a.n (omega arith) (omega arith)
-
-pub advance-spec : {M : Type 1} → statement M
-advance-spec = tie.close (tie.spec sub-left add-result returns returns-2)
