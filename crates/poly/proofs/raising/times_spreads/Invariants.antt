@@ -1,0 +1,18 @@
+-- `raising::times_spreads` meets its contract. The invariant: the product with k of the factors.
+-- Assumes nothing.
+use Prim.Native.Nat.{◌-◌, ◌≤◌}
+use Rattle.meaning.specs.Polynomial.{power}
+use Rattle.bridge.proofs.Lists.Spread.{spread}
+use Rattle.arith.specs.Represented.{field_of}
+use Rattle.arith.proofs.Represented.{field-is_field}
+use Rattle.poly.specs.products.Product.{Multiplied}
+use Rattle.poly.proofs.raising.Repeating.{repeat_none, repeat_more, repeat_growing, repeat_length_lem}
+use Rattle.poly.proofs.raising.Repeating.{repeat_all}
+use native.Mathlib.Omega.{arith}
+use Rattle.poly.proofs.raising.times_spreads.Given as goal
+
+abbrev pub invariant-loop-k : goal.invariant-loop-k
+invariant-loop-k l = (l.k ≤ l.count) × Multiplied (field_of l.field) (power (field_of l.field) (spread l.q l.f) l.k) l.initial.answer l.n-2 l.answer l.n
+
+abbrev pub decreases-loop-k : goal.decreases-loop-k
+decreases-loop-k l = l.count - l.k
