@@ -7,7 +7,7 @@ use borrow.Author.Rules.{rules}
 use Rattle.massey.proofs.binary.step.Goals as goal
 
 pub returns-then-n-m : goal.returns-then-n-m
-returns-then-n-m c =
+returns-then-n-m c ts h =
     let e = ap (λ r. r.seen) c.reached-at.ensures in
     record {
       more = omega (arith, c.next_one-n.ensures.low, c.next_one-n.ensures.high);
@@ -36,7 +36,7 @@ correct-requires c =
     }
 
 pub returns : goal.returns
-returns c =
+returns c ts h =
     let l = lt_of_le-ne c.next_one-n.ensures.high c.if-n-m.false in
     let p = c.requires.seen_lt_m.1 in
     let e = ap (λ r. r.seen) c.align-ready.ensures.numbers ∙ ap (λ r. r.seen) c.reached-at.ensures in
