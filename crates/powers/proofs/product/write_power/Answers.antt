@@ -1,0 +1,20 @@
+-- `product::write_power` meets its contract. Assumes nothing.
+use borrow.Author.Rules.{rules}
+use Rattle.arith.proofs.Represented.{field-is_field}
+use Rattle.meaning.specs.Slices.{lists_of}
+use Rattle.powers.proofs.product.Products.{one_input, one_written}
+use Rattle.powers.proofs.product.write_power.Goals as goal
+
+pub write_product-requires : goal.write_product-requires
+unfolding lists_of
+write_product-requires c =
+    record {
+      well_formed = c.requires.well_formed;
+      in_bounds = c.requires.in_bounds;
+      product_input = one_input c.requires.power_input;
+    }
+
+pub returns : goal.returns
+unfolding lists_of
+returns c =
+    one_written (field-is_field c.requires.well_formed) c.requires.power_input c.write_product.ensures
