@@ -71,6 +71,18 @@ seeking_start field f {w} {h} {n} e top x p =
       kept = kept_same w;
     }
 
+-- The level below, by p, the characteristic
+module _ {field : GaloisField} (good : WellFormed field) {p : ℕ} (same : p ≡ field.characteristic) where
+  pub level_below :
+      {l q : ℕ} → (l ≡ 0 → ⊥) → q ≡ field.characteristic ^ l → q / p ≡ field.characteristic ^ (l - 1)
+  level_below {l} {q} above level =
+      ap (λ (k : ℕ). q / k) same
+      ∙ level_down field.characteristic l q (omega (arith, characteristic_least good)) above level
+
+  pub near_below : {q r top : ℕ} → r - 1 + q ≤ top → top ≤ 4096 * field.characteristic → q / p ≤ 4096
+  near_below bound h =
+      ℕ.div-le_of_le-mul p (omega (arith, ap (λ (k : ℕ). 4096 * k) same, ℕ.mul_comm 4096 p))
+
 module _
     {field : GaloisField} (good : WellFormed field) {f : Polynomial} {e top : ℕ} {s w₀ w : List ℕ}
     {at count l q r : ℕ}
@@ -127,23 +139,11 @@ module _
           ∙ ap (λ n. r + digits field f n (half w at count)) (sym z)
           ∙ x.result
 
-      -- the level below, by p, the characteristic
       module _ {p : ℕ} (same : p ≡ field.characteristic) (above : l ≡ 0 → ⊥) where
-        pub going_level : q / p ≡ field.characteristic ^ (l - 1)
-        going_level =
-            ap (λ (k : ℕ). q / k) same
-            ∙ level_down field.characteristic l q (omega (arith, characteristic_least good)) above
-            x.is_level
-
         parts : (p - 1) * (q / p) + q / p ≡ q
         parts =
             level-parts p l q (omega (arith, same, characteristic_least good)) above
             (x.is_level ∙ ap (λ (k : ℕ). k ^ l) (sym same))
-
-        pub going_near : top ≤ 4096 * field.characteristic → q / p ≤ 4096
-        going_near h =
-            ℕ.div-le_of_le-mul p
-            (omega (arith, x.bound, ap (λ (k : ℕ). 4096 * k) same, ℕ.mul_comm 4096 p))
 
         module _ {w' : List ℕ} {at' count' i : ℕ} (halves : Halves w' at' count') (kept : Kept w w')
             (tried : Tried (step_of field f) (p - 1) (q / p) (half w at count) i (half w' at' count')) where
@@ -161,7 +161,7 @@ module _
                       which = halves.which;
                       few = omega (arith, halves.few);
                     };
-                is_level = going_level;
+                is_level = level_below good same above x.is_level;
                 result =
                     ap (resuming field f (r + i * (q / p)) (l - 1))
                     (half-cut w' at' count' (q / p * degree f))
@@ -199,7 +199,7 @@ module _
                   ≡ r + digits field f l (half w at count)
               level =
                   let b : suc (l - 1) ≡ l = omega (arith, above) in
-                  at_level (q / p) going_level
+                  at_level (q / p) (level_below good same above x.is_level)
                   (subst
                   (λ k. Tried (step_of field f) (k - 1) (q / p) (half w at count) i (half w' at' count'))
                   same

@@ -1,0 +1,39 @@
+-- `some_upper_zero` meets its contract. The invariant: the factors from i on decide.
+-- Assumes nothing.
+use Prim.Native.Nat.{◌-◌}
+use native.Mathlib.Omega.{arith}
+use mathlib.Core.Path.{◌≡◌, refl, sym, ◌∙◌}
+use lib.ListN.{length, drop}
+use lib.Dec.{eqb}
+use borrow.Author.Rules.{rules}
+use Rattle.meaning.specs.Search.{holds_for_some}
+use Rattle.meaning.specs.Conditions.{named}
+use Rattle.meaning.specs.Slices.{lists_of}
+use Rattle.refusals.proofs.conditions.factors.Uppers.{zero-found, zero-next, zeros_over}
+use Rattle.refusals.proofs.conditions.factors.some_upper_zero.Goals as goal
+
+pub loop-i-init : goal.loop-i-init
+loop-i-init c = refl
+
+pub returns-then-upper_at-eq0 : goal.returns-then-upper_at-eq0
+returns-then-upper_at-eq0 c =
+    zero-found _ _ _
+    c.loop-i.invariant
+    c.loop-i-test.true
+    (sym c.upper_at.ensures ∙ c.if-upper_at-eq0.true)
+
+pub overflow_add-i : goal.overflow_add-i
+overflow_add-i c = omega arith
+
+pub loop-i-smaller : goal.loop-i-smaller
+loop-i-smaller c = omega arith
+
+pub loop-i-preserved : goal.loop-i-preserved
+loop-i-preserved c =
+    zero-next _ _ _
+    c.loop-i.invariant
+    c.loop-i-test.true
+    (λ z. c.if-upper_at-eq0.false (c.upper_at.ensures ∙ z))
+
+pub returns : goal.returns
+returns c = zeros_over _ _ _ c.loop-i.invariant c.loop-i-test.false

@@ -1,0 +1,15 @@
+-- `numbers::power_exceeds` meets its contract. The invariant: `power` is p^i, and at most 65,536.
+-- Assumes nothing.
+use Prim.Native.Nat.{◌-◌, ◌^◌, ◌≤◌, zero-le}
+use native.Mathlib.Nat.{pow-zero, mul-le-mul}
+use native.Mathlib.Omega.{arith}
+use mathlib.Core.Path.{◌≡◌, sym}
+use Rattle.bridge.proofs.Basics.Levels.{power-next}
+use Rattle.refusals.proofs.conditions.numbers.Powers.{power-beyond, power_of_large, power-within}
+use Rattle.refusals.proofs.conditions.numbers.power_exceeds.Given as goal
+
+abbrev pub invariant-loop-i : goal.invariant-loop-i
+invariant-loop-i l = (l.i ≤ l.e) × (l.power ≡ l.q ^ l.i) × (l.power ≤ 65536)
+
+abbrev pub decreases-loop-i : goal.decreases-loop-i
+decreases-loop-i l = l.e - l.i

@@ -1,0 +1,61 @@
+-- `factors::factors_verdict` meets its contract: each condition that does not hold is passed over.
+-- Assumes nothing.
+use mathlib.Core.Path.{◌≡◌, sym, ap, ◌∙◌}
+use mathlib.Core.List.{List}
+use lib.ListN.{length}
+use borrow.Author.Rules.{rules}
+use Rattle.meaning.specs.Result.{Check}
+use Rattle.meaning.specs.Answers.{number_of}
+use Rattle.meaning.specs.Conditions.{factor_count_out_of_range}
+use Rattle.meaning.specs.Slices.{lists_of}
+use Rattle.meaning.proofs.Slices.{lists_length}
+use Rattle.arith.specs.Represented.{field_of}
+use Rattle.refusals.specs.Verdicts.{number_in, factors_table}
+use Rattle.refusals.proofs.Order.{Passed, first_here, first_skip, first-nowhere}
+use Rattle.refusals.proofs.factors.factors_verdict.Goals as goal
+
+pub returns-then-factor_count_out_of_range : goal.returns-then-factor_count_out_of_range
+unfolding number_in number_of factors_table
+returns-then-factor_count_out_of_range c =
+    let counted : c.factor_count_out_of_range.result
+    ≡ factor_count_out_of_range (length (lists_of c.args.factors.now)) = c.factor_count_out_of_range.ensures
+    ∙ ap factor_count_out_of_range (sym (lists_length c.args.factors.now)) in
+    first_here _ _ counted c.if-factor_count_out_of_range.true
+
+pub returns-then-holds_for_some : goal.returns-then-holds_for_some
+unfolding number_in number_of factors_table
+returns-then-holds_for_some c =
+    let table : List Check = factors_table (field_of c.args.field) (lists_of c.args.factors.now) in
+    let counted : c.factor_count_out_of_range.result
+    ≡ factor_count_out_of_range (length (lists_of c.args.factors.now)) = c.factor_count_out_of_range.ensures
+    ∙ ap factor_count_out_of_range (sym (lists_length c.args.factors.now)) in
+    let passed-1 : Passed 1 table = first_skip _ _ counted c.if-factor_count_out_of_range.false in
+    first_here _ _ c.holds_for_some.ensures c.if-holds_for_some.true
+    ∙ sym passed-1
+
+pub returns-then-holds_for_some-2 : goal.returns-then-holds_for_some-2
+unfolding number_in number_of factors_table
+returns-then-holds_for_some-2 c =
+    let table : List Check = factors_table (field_of c.args.field) (lists_of c.args.factors.now) in
+    let counted : c.factor_count_out_of_range.result
+    ≡ factor_count_out_of_range (length (lists_of c.args.factors.now)) = c.factor_count_out_of_range.ensures
+    ∙ ap factor_count_out_of_range (sym (lists_length c.args.factors.now)) in
+    let passed-1 : Passed 1 table = first_skip _ _ counted c.if-factor_count_out_of_range.false in
+    let passed-2 : Passed 2 table = passed-1
+    ∙ first_skip _ _ c.holds_for_some.ensures c.if-holds_for_some.false in
+    first_here _ _ c.holds_for_some-2.ensures c.if-holds_for_some-2.true
+    ∙ sym passed-2
+
+pub returns : goal.returns
+unfolding number_in factors_table
+returns c =
+    let table : List Check = factors_table (field_of c.args.field) (lists_of c.args.factors.now) in
+    let counted : c.factor_count_out_of_range.result
+    ≡ factor_count_out_of_range (length (lists_of c.args.factors.now)) = c.factor_count_out_of_range.ensures
+    ∙ ap factor_count_out_of_range (sym (lists_length c.args.factors.now)) in
+    let passed-1 : Passed 1 table = first_skip _ _ counted c.if-factor_count_out_of_range.false in
+    let passed-2 : Passed 2 table = passed-1
+    ∙ first_skip _ _ c.holds_for_some.ensures c.if-holds_for_some.false in
+    let passed-3 : Passed 3 table = passed-2
+    ∙ first_skip _ _ c.holds_for_some-2.ensures c.if-holds_for_some-2.false in
+    first-nowhere ∙ sym passed-3
