@@ -79,8 +79,8 @@ module _ {field : GaloisField} (good : WellFormed field) {p : ℕ} (same : p ≡
       ap (λ (k : ℕ). q / k) same
       ∙ level_down field.characteristic l q (omega (arith, characteristic_least good)) above level
 
-  pub near_below : {q r top : ℕ} → r - 1 + q ≤ top → top ≤ 4096 * field.characteristic → q / p ≤ 4096
-  near_below bound h =
+  pub near_below : (q r : ℕ) {top : ℕ} → r - 1 + q ≤ top → top ≤ 4096 * field.characteristic → q / p ≤ 4096
+  near_below q r bound h =
       ℕ.div-le_of_le-mul p (omega (arith, ap (λ (k : ℕ). 4096 * k) same, ℕ.mul_comm 4096 p))
 
 module _

@@ -1,5 +1,5 @@
 -- `digit_search::least_power` meets its contract. Assumes nothing.
-use Prim.Native.Nat.{ℕ, ◌*◌, ◌-◌, ◌/◌, ◌≤◌, ◌<◌}
+use Prim.Native.Nat.{ℕ, ◌+◌, ◌*◌, ◌-◌, ◌/◌, ◌≤◌, ◌<◌}
 use mathlib.Core.Logic.{◌⊎◌, inl, inr}
 use mathlib.Core.Path.{◌≡◌, refl, sym, ap, subst, ◌∙◌}
 use mathlib.Core.Bool.{Bool, false}
@@ -88,7 +88,7 @@ act_at_level-requires-clause-levelled c =
       nonempty = s.nonempty;
       short = s.short;
       is_level = level_below c.requires.well_formed c.characteristic-p.ensures c.if-l-eq0.false i.is_level;
-      near = near_below c.requires.well_formed c.characteristic-p.ensures i.bound s.near;
+      near = near_below c.requires.well_formed c.characteristic-p.ensures c.levels.q c.levels.power i.bound s.near;
     }
 
 -- the product of a level below and a degree
@@ -98,14 +98,16 @@ fits h k = ℕ.mul-le-mul h k
 pub overflow_mul-count : goal.overflow_mul-count
 overflow_mul-count c =
     let s = c.requires.searchable in
-    let n = near_below c.requires.well_formed c.characteristic-p.ensures c.levels.invariant.bound s.near in
+    let n = near_below c.requires.well_formed c.characteristic-p.ensures c.levels.q c.levels.power
+    c.levels.invariant.bound s.near in
     let d : length c.args.f.now - 1 ≤ 4096 = omega (arith, s.short) in
     record { fits = omega (arith, fits n d) }
 
 pub overflow_mul-q : goal.overflow_mul-q
 overflow_mul-q c =
     let s = c.requires.searchable in
-    let n = near_below c.requires.well_formed c.characteristic-p.ensures c.levels.invariant.bound s.near in
+    let n = near_below c.requires.well_formed c.characteristic-p.ensures c.levels.q c.levels.power
+    c.levels.invariant.bound s.near in
     let d : length c.args.f.now - 1 ≤ 4096 = omega (arith, s.short) in
     record { fits = omega (arith, fits n d) }
 
@@ -140,7 +142,8 @@ loop-i-preserved c =
 pub overflow_mul-power : goal.overflow_mul-power
 overflow_mul-power c =
     let s = c.requires.searchable in
-    let n = near_below c.requires.well_formed c.characteristic-p.ensures c.levels.invariant.bound s.near in
+    let n = near_below c.requires.well_formed c.characteristic-p.ensures c.levels.q c.levels.power
+    c.levels.invariant.bound s.near in
     let d : c.if-i-p.digit ≤ c.characteristic-p.result - 1 =
     elim c.if-i-p.branch [
       | then-i-p w ↦ omega (arith, w.digit-is, w.if-i-p.true)
@@ -151,7 +154,31 @@ overflow_mul-power c =
     }
 
 pub overflow_add-power : goal.overflow_add-power
-overflow_add-power c = ?
+overflow_add-power c =
+    let s = c.requires.searchable in
+    let i = c.levels.invariant in
+    let n = near_below c.requires.well_formed c.characteristic-p.ensures c.levels.q c.levels.power i.bound s.near in
+    let d : c.if-i-p.digit ≤ c.characteristic-p.result - 1 =
+    elim c.if-i-p.branch [
+      | then-i-p w ↦ omega (arith, w.digit-is, w.if-i-p.true)
+      | else-i-p+then-act_at_level w ↦ omega (arith, w.digit-is, c.loop-i.invariant.tried.low)
+    ] in
+    let r : c.if-power-eq0.power ≤ c.args.level.power + 1 =
+    elim c.if-power-eq0.branch [
+      | then-power-eq0 w ↦ omega (arith, w.power-is)
+      | else-power-eq0 w ↦ omega (arith, w.power-is, i.bound)
+    ] in
+    record {
+      fits =
+          omega (
+            arith,
+            r,
+            s.near,
+            ℕ.mul-le-mul d n,
+            c.characteristic-p.ensures,
+            characteristic_most c.requires.well_formed,
+          );
+    }
 
 pub levels-preserved : goal.levels-preserved
 unfolding degree
