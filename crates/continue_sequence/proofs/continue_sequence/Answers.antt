@@ -12,7 +12,7 @@ pub continue_verdict-requires : goal.continue_verdict-requires
 unfolding FieldMade
 continue_verdict-requires c =
     let named : FieldNamed c.args.name c.in-Made.field = subst (FieldMade _) c.in-Made.is c.of.ensures in
-    (named).well_formed
+    named.well_formed
 
 pub slice_bounds-fill-count : goal.slice_bounds-fill-count
 slice_bounds-fill-count c =
@@ -22,14 +22,14 @@ slice_bounds-fill-count c =
     )
 
 pub slice_bounds-fill-start : goal.slice_bounds-fill-start
-slice_bounds-fill-start c = sub-fill
+slice_bounds-fill-start = slice_bounds-fill-count
 
 pub fill-requires : goal.fill-requires
 unfolding FieldMade
 fill-requires c =
     let named : FieldNamed c.args.name c.in-Made.field = subst (FieldMade _) c.in-Made.is c.of.ensures in
     record {
-      well_formed = (named).well_formed;
+      well_formed = named.well_formed;
       continuable = continue_accepted _ _ _ _ _ c.continue_verdict.ensures c.in-Accepted.is;
     }
 
