@@ -80,20 +80,20 @@ module _ (fs : List (Bor (List ℕ))) (rs : List ℕ) where
   size : length l ≡ length fs
   size = factors-length fs rs
 
-  power_at : (i : ℕ) → i < length fs → power_at l i ≡ get_or rs i 0
-  power_at i k = ap (λ f. f.1) (factor-at fs rs i k)
+  power_at_lem : (i : ℕ) → i < length fs → power_at l i ≡ get_or rs i 0
+  power_at_lem i k = ap (λ f. f.1) (factor-at fs rs i k)
 
   pub largest-end : {j m : ℕ} → Largest rs j m → length fs ≡ j → m ≡ largest_power (named (lists_of fs) rs)
   largest-end {j} {m} x e =
       largest-is l m
       (λ i k.
       let c : i < length fs = omega (arith, size) in
-      subst (λ a. a ≤ m) (sym (power_at i c)) (x.upper i (omega arith)))
+      subst (λ a. a ≤ m) (sym (power_at_lem i c)) (x.upper i (omega arith)))
       (λ b h.
       x.lowest b
       (λ i k.
       let c : i < length fs = omega arith in
-      subst (λ a. a ≤ b) (power_at i c) (h i (omega (arith, size)))))
+      subst (λ a. a ≤ b) (power_at_lem i c) (h i (omega (arith, size)))))
 
   module _ {F : Field} (x : PoweredFactors F (lists_of fs) rs) where
     pub powers-enough : length fs ≤ length rs
@@ -104,7 +104,7 @@ module _ (fs : List (Bor (List ℕ))) (rs : List ℕ) where
         largest-below l 4096
         (λ i k.
         let c : i < length fs = omega (arith, size) in
-        subst (λ a. a ≤ 4096) (sym (power_at i c)) (x.small i (omega (arith, lists_length fs))))
+        subst (λ a. a ≤ 4096) (sym (power_at_lem i c)) (x.small i (omega (arith, lists_length fs))))
 
     pub factor-suited : (i : ℕ) → i < length fs → Suited F (get_or fs i nowhere).now
     factor-suited i k =
@@ -131,7 +131,7 @@ module _ (fs : List (Bor (List ℕ))) (rs : List ℕ) where
             get_or rs j 0 ≡ 0 → m ≡ orders_within F (take (j + 1) (named (lists_of fs) rs)) limit
         common_skip z =
             e
-            ∙ sym (orders_skip I l moduli j limit within (power_at j k ∙ z))
+            ∙ sym (orders_skip I l moduli j limit within (power_at_lem j k ∙ z))
             ∙ ap (λ n. orders_within F (take n l) limit) (sym (add-one j))
 
         pub common_more :
@@ -145,7 +145,7 @@ module _ (fs : List (Bor (List ℕ))) (rs : List ℕ) where
             ∙ ap₂ (common_within limit) e
             (p ∙ ap (λ f. order_within F f.0 limit) (sym (factor-at fs rs j k)))
             ∙ sym (orders-more I l moduli j limit within
-            (subst (λ a. 0 < a) (sym (power_at j k)) (ℕ.pos_of_ne-zero c)))
+            (subst (λ a. 0 < a) (sym (power_at_lem j k)) (ℕ.pos_of_ne-zero c)))
             ∙ ap (λ n. orders_within F (take n l) limit) (sym (add-one j))
 
       pub common_stop :
