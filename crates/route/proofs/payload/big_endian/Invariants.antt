@@ -1,0 +1,17 @@
+-- `payload::big_endian` meets its contract. n is below 256^i, so it does not wrap.
+-- Assumes nothing.
+use Prim.Native.Nat.{◌-◌, ◌*◌, ◌^◌, ◌<◌, ◌≤◌}
+use mathlib.Core.Path.{◌≡◌, sym, ◌∙◌}
+use native.Mathlib.Omega.{arith}
+use borrow.Author.Rules.{rules}
+use lib.ListN.{length, get_or, drop}
+use Rattle.meaning.specs.Route.{appended, number}
+use Rattle.bridge.proofs.Basics.Bytes.{number-below, number_fits}
+use Rattle.route.proofs.payload.Numbers.{number-start, number_more, number-end}
+use Rattle.route.proofs.payload.big_endian.Given as goal
+
+abbrev pub invariant-loop-i : goal.invariant-loop-i
+invariant-loop-i l = (l.i ≤ length l.bytes) × (l.n < 2 ^ (8 * l.i)) × (appended l.n (drop l.i l.bytes) ≡ number l.bytes)
+
+abbrev pub decreases-loop-i : goal.decreases-loop-i
+decreases-loop-i l = length l.bytes - l.i
