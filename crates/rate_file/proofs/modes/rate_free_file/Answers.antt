@@ -4,7 +4,6 @@ use borrow.Author.Rules.{rules}
 use Rattle.rate_file.proofs.modes.Calls.{free-rated}
 use Rattle.rate_file.proofs.modes.rate_free_file.Goals as goal
 
--- LOOK: write the record of well_formed, terms_value
 pub rate_checked-rating-requires : goal.rate_checked-rating-requires
 rate_checked-rating-requires c = c.requires
 

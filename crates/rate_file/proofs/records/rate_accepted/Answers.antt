@@ -49,7 +49,7 @@ pub rate_set_file-requires : goal.rate_set_file-requires
 rate_set_file-requires c =
     let over : IsField (field_of c.args.field) = field-is_field c.requires.well_formed in
     let mode-two : c.byte_of-mode.result ≡ 2 = not-others over _ _ 0 0 c.requires.rateable _ _ c.byte_of-mode.ensures c.count_of-count.ensures
-    c.if-mode-eq3.left
+    c.if-mode-eq3.false
     c.if-mode-eq1.false in
     record {
       well_formed = c.requires.well_formed;
@@ -90,7 +90,7 @@ pub returns-else-mode-eq1 : goal.returns-else-mode-eq1
 returns-else-mode-eq1 c =
     let over : IsField (field_of c.args.field) = field-is_field c.requires.well_formed in
     let mode-two : c.byte_of-mode.result ≡ 2 = not-others over _ _ 0 0 c.requires.rateable _ _ c.byte_of-mode.ensures c.count_of-count.ensures
-    c.if-mode-eq3.left
+    c.if-mode-eq3.false
     c.if-mode-eq1.false in
     rated_as
     (records-set over _ _ _ _ c.requires.rateable _ _ c.byte_of-mode.ensures c.count_of-count.ensures
