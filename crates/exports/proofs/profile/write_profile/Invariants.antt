@@ -1,0 +1,13 @@
+-- `write_profile` meets its contract. The invariant: the first i terms were handed in and their entries
+-- written. The measure is the number of terms that are left. Assumes nothing.
+use Prim.Native.Nat.{◌-◌, ◌≤◌}
+use Rattle.exports.proofs.profile.Profiles.{Entered, entered_none, entered_more, entered_all}
+use borrow.Author.Rules.{rules}
+use native.Mathlib.Omega.{arith}
+use Rattle.exports.proofs.profile.write_profile.Given as goal
+
+abbrev pub invariant-loop-i : goal.invariant-loop-i
+invariant-loop-i l = (l.i ≤ l.count) × Entered l.initial.known l.terms l.initial.held l.initial.work l.initial.profile l.i l.known l.held l.work l.profile
+
+abbrev pub decreases-loop-i : goal.decreases-loop-i
+decreases-loop-i l = l.count - l.i
