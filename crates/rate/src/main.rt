@@ -7,10 +7,10 @@
 ghost use Rattle.std.specs.Prelude.{◌≤◌, length};
 ghost use Rattle.meaning.specs.Program.{Response};
 
-use libc::{STDERR_FILENO, STDIN_FILENO, STDOUT_FILENO};
 use printing::lines::{ANSWER_BYTES, MOST_PRINTED, print_rating};
 use rate_file::rate_file;
 use route::framing::part;
+use std::io::{Read, Write};
 
 // How much of the input is kept: one byte more than a file may have. Further bytes change nothing.
 const KEPT_BYTES: usize = 16385;
@@ -31,24 +31,25 @@ fn respond(buffer: &[u8; KEPT_BYTES], count: usize, out: &mut [u8; MOST_PRINTED]
 
 // Reads once, to the front of the bytes, and returns how many came: 0 where the input is over, and where the
 // read fails, which is said on standard error.
-fn read_some(to: &mut [u8]) -> usize
+fn read_some<R: Read, W: Write>(input: &mut R, errors: &mut W, to: &mut [u8]) -> usize
     ensures { result ≤ length to.new }
 {
-    let got = libc::read(STDIN_FILENO, to);
-    if got < 0 {
-        io::write_all(
-            STDERR_FILENO,
-            b"rate: standard input cannot be read, the lines are of what was read\n",
-        );
+    match input.read(to) {
+        Ok(count) => count,
+        Err(_) => {
+            let _ = errors.write_all(
+                b"rate: standard input cannot be read, the lines are of what was read\n",
+            );
+            0
+        }
     }
-    io::count(got, to)
 }
 
 // Reads until the buffer is full, the input ends or a read fails, and returns the number of bytes read.
-fn read_input(buffer: &mut [u8]) -> usize {
+fn read_input<R: Read, W: Write>(input: &mut R, errors: &mut W, buffer: &mut [u8]) -> usize {
     let mut count = 0;
     while count < buffer.len() {
-        let more = read_some(&mut buffer[count..]);
+        let more = read_some(input, errors, &mut buffer[count..]);
         if more == 0 {
             break;
         }
@@ -59,14 +60,15 @@ fn read_input(buffer: &mut [u8]) -> usize {
 
 // Writes the lines of what was read, also where a read failed. A write that takes only a part is continued;
 // one that fails is said on standard error.
-fn main() {
+fn main(rt: HostRuntime) {
+    let mut errors = rt.stderr();
     let mut buffer = [0u8; KEPT_BYTES];
-    let count = read_input(&mut buffer);
+    let count = read_input(&mut rt.stdin(), &mut errors, &mut buffer);
     let mut out = [0u8; MOST_PRINTED];
     let n = respond(&buffer, count, &mut out);
-    if !io::write_all(STDOUT_FILENO, &out[..n]) {
-        io::write_all(
-            STDERR_FILENO,
+    if Write::write_all(&mut rt.stdout(), &out[..n]).is_err() {
+        let _ = Write::write_all(
+            &mut errors,
             b"rate: standard output cannot be written, the lines are not all there\n",
         );
     }
