@@ -3,7 +3,6 @@
 --   made-named, made_declined == what the constructor's contract says in each of its two cases
 --   behind_door, at_door      == the answer of a call, where the field is made and where the name is refused
 -- Assumes nothing.
-use Prim.Native.Nat.{ℕ}
 use mathlib.Core.Path.{◌≡◌, sym, ap, subst, ◌∙◌}
 use Rattle.meaning.specs.declared.FieldName.{FieldName}
 use Rattle.meaning.specs.declared.Refusal.{Refusal}

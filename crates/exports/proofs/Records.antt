@@ -6,7 +6,6 @@ use mathlib.Core.List.{List}
 use lib.ListN.{length, get_or}
 use Rattle.meaning.specs.declared.Refusal.{Refusal}
 use Rattle.meaning.specs.declared.RecordOutcome.{RecordOutcome}
-use Rattle.meaning.specs.declared.Found.{Found}
 use Rattle.meaning.specs.Result.{Result, refused, answered, map_result}
 use Rattle.meaning.specs.Route.{RouteRecord, end_record, records, read_record}
 use Rattle.meaning.specs.Answers.{number_of, told_record}

@@ -3,7 +3,7 @@
 --   irreducible_table    == the refusals that the question meets in the field F, in order
 --   irreducible_in F f == the answer to the question in the field F, of the monic multiple of f
 --   ask_irreducible name f == the answer in the field with this name
-use Rattle.std.specs.Prelude.{ℕ, Bool, List, [], ◌∷◌}
+use Rattle.std.specs.Prelude.{Bool, List, [], ◌∷◌}
 use Rattle.std.proofs.Math.Option.{some}
 use Rattle.meaning.specs.declared.FieldName.{FieldName}
 use Rattle.meaning.specs.Field.{Field}

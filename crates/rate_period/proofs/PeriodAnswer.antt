@@ -21,7 +21,7 @@ use Rattle.meaning.specs.declared.Refusal.{Refusal}
 use Rattle.meaning.specs.declared.PowerRating.{PowerRating}
 use Rattle.meaning.specs.Search.{bind, holds_for_some, is_none}
 use Rattle.meaning.specs.Field.{Field}
-use Rattle.meaning.specs.Polynomial.{Polynomial, degree, power, is_monic_over}
+use Rattle.meaning.specs.Polynomial.{Polynomial, degree, is_monic_over}
 use Rattle.meaning.specs.Result.{Result, refused, map_result, first_of, settle, Rated, figures_of, clearing}
 use Rattle.meaning.specs.Result.{clears}
 use Rattle.meaning.specs.Power.{PowerFigures, power_rating}

@@ -7,7 +7,7 @@ use mathlib.Core.List.{List}
 use native.Mathlib.Omega.{arith}
 use lib.ListN.{length, get_or}
 use borrow.Author.Tests.{le-leb}
-use lib.Dec.{T, eqb, ltb, leb, T_not, not_T, ltb→lt, nltb→le, eqb→eq, eqb_refl}
+use lib.Dec.{T, eqb, ltb, T_not, not_T, ltb→lt, nltb→le, eqb→eq, eqb_refl}
 use Rattle.meaning.specs.declared.FieldName.{FieldName}
 use Rattle.meaning.specs.Field.{Field, prime, PrimeNumber, prime_in_range, are_elements}
 use Rattle.meaning.specs.Polynomial.{Polynomial, degree, leading, irreducible, NotAProduct}

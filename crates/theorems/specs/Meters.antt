@@ -12,7 +12,7 @@
 --   MeterPromise     == so it is after every run
 --   ProfileExport    == the same of the whole profile, as the call for other languages leaves it
 --   ProfileAnswers   == demand 1 of that call: some result meets the contract, and one only
-use Rattle.std.specs.Prelude.{ℕ, suc, ◌+◌, ◌*◌, ◌≤◌, ◌<◌, ◌≡◌, true, List, [], ◌∷◌, ◌++◌, length, take, drop, T}
+use Rattle.std.specs.Prelude.{ℕ, suc, ◌*◌, ◌≤◌, ◌<◌, ◌≡◌, true, List, [], ◌∷◌, ◌++◌, length, take, drop, T}
 use Rattle.meaning.specs.declared.FieldName.{FieldName}
 use Rattle.meaning.specs.declared.FieldNumbers.{FieldNumbers}
 use Rattle.meaning.specs.declared.FreeRating.{FreeRating}

@@ -153,7 +153,7 @@ module _ {K : Type 0} (R : Ring K) where
       (first-coprime atoms (r 0) _)
       (powers.least 0 (omega arith))
       (least-powers_generate {I = λ c. I (power R f (u 0) ⊗ c)} others {fs = fs}
-          (coprime-atoms-rest atoms) (least-powers-rest powers))
+      (coprime-atoms-rest atoms) (least-powers-rest powers))
 
   -- What the product divides, and what divides it
   pub power-divides-product : (fs : List K) (e : ℕ → ℕ) (i : ℕ)

@@ -1,7 +1,6 @@
 -- `catalogue_entry` meets its contract: the constant is the table that is the catalogue. Assumes nothing.
 use mathlib.Core.Path.{sym, ap}
 use native.Mathlib.Omega.{arith}
-use borrow.Author.Rules.{rules}
 use lib.ListN.{get_or, get_or-eq_default}
 use Rattle.meaning.specs.Catalogue.{catalogue}
 use Rattle.bridge.proofs.Binary.CatalogueTable.{table, catalogue-table, catalogue-count}

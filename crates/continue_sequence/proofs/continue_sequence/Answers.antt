@@ -3,7 +3,6 @@
 use Rattle.continue_sequence.proofs.Filling.{continue_declined, continue_refused, continue_place}
 use Rattle.continue_sequence.proofs.Filling.{continue_accepted, continue_filled}
 use native.Mathlib.Omega.{arith}
-use borrow.Author.Rules.{rules}
 use mathlib.Core.Path.{subst}
 use Rattle.arith.specs.Represented.{FieldMade, FieldNamed}
 use Rattle.continue_sequence.proofs.continue_sequence.Goals as goal

@@ -1,7 +1,6 @@
 -- `find_entry` meets its contract: the verdict refuses, or the entries are searched and the work bytes
 -- cleared. Assumes nothing.
 use native.Mathlib.Omega.{arith}
-use borrow.Author.Rules.{rules}
 use Rattle.find_entry.proofs.Call.{entry_refused, work-enough, searched-period, entry_call}
 use Rattle.find_entry.proofs.find_entry.Goals as goal
 

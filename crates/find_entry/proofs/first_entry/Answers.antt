@@ -1,8 +1,7 @@
 -- `first_entry` meets its contract. The invariant: no entry before entry i has a power. The measure is the
 -- number of entries that are left. Assumes nothing.
-use Prim.Native.Nat.{◌-◌}
 use borrow.Author.Rules.{rules}
-use Rattle.find_entry.proofs.Entries.{look_places, Searching, searching_none, searching_enough}
+use Rattle.find_entry.proofs.Entries.{look_places, searching_none, searching_enough}
 use Rattle.find_entry.proofs.Entries.{searching_more, searching_found, searching_end}
 use Rattle.find_entry.proofs.first_entry.Goals as goal
 

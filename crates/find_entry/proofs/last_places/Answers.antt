@@ -1,9 +1,6 @@
 -- `last_places` meets its contract. The invariant: the end is in the list. The measure is the end.
 -- Assumes nothing.
-use Prim.Native.Nat.{◌≤◌}
 use native.Mathlib.Omega.{arith}
-use borrow.Author.Rules.{rules}
-use lib.ListN.{length}
 use Rattle.find_entry.proofs.last_places.Goals as goal
 
 pub loop-end-init : goal.loop-end-init

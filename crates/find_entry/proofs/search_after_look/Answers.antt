@@ -1,6 +1,5 @@
 -- `search_after_look` meets its contract: the look rules every power out, or the search decides.
 -- Assumes nothing.
-use borrow.Author.Rules.{rules}
 use Rattle.find_entry.proofs.Looking.{look_none}
 use Rattle.find_entry.proofs.search_after_look.Goals as goal
 

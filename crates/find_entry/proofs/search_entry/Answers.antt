@@ -1,6 +1,5 @@
 -- `search_entry` meets its contract: the coefficients of entry i are handed to the search.
 -- Assumes nothing.
-use borrow.Author.Rules.{rules}
 use Rattle.find_entry.proofs.Entries.{binary-level, entry-coefficients, entry-input, entry-searched}
 use Rattle.find_entry.proofs.search_entry.Goals as goal
 

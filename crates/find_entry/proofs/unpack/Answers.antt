@@ -1,11 +1,10 @@
 -- `unpack` meets its contract. The invariant: the coefficients so far, and those of the rest after them, are
 -- those of n. The measure is the number of coefficients that are left.
 -- Assumes nothing.
-use Prim.Native.Nat.{◌-◌}
 use mathlib.Core.Logic.{inl, inr}
 use native.Mathlib.Omega.{arith}
 use borrow.Author.Rules.{rules}
-use Rattle.find_entry.proofs.Unpacking.{Unpacking, unpacking_none, unpacking_more, unpacking_done}
+use Rattle.find_entry.proofs.Unpacking.{unpacking_none, unpacking_more, unpacking_done}
 use Rattle.find_entry.proofs.unpack.Goals as goal
 
 pub loop-count-init : goal.loop-count-init

@@ -2,10 +2,7 @@
 -- those of n. The measure is the number of coefficients that are left.
 -- Assumes nothing.
 use Prim.Native.Nat.{◌-◌}
-use mathlib.Core.Logic.{inl, inr}
-use native.Mathlib.Omega.{arith}
-use borrow.Author.Rules.{rules}
-use Rattle.find_entry.proofs.Unpacking.{Unpacking, unpacking_none, unpacking_more, unpacking_done}
+use Rattle.find_entry.proofs.Unpacking.{Unpacking}
 use Rattle.find_entry.proofs.unpack.Given as goal
 
 abbrev pub invariant-loop-count : goal.invariant-loop-count

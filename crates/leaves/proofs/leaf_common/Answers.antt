@@ -3,7 +3,6 @@
 use Rattle.leaves.proofs.Orders.{small-first, small-second, small_third}
 use Rattle.leaves.proofs.Orders.{small_all}
 use Rattle.leaves.proofs.Suiting.{where_yes, where_no}
-use borrow.Author.Rules.{rules}
 use Rattle.leaves.proofs.leaf_common.Goals as goal
 
 pub returns-then-m-gt65536 : goal.returns-then-m-gt65536

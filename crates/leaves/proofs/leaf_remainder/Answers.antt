@@ -1,7 +1,6 @@
 -- `leaf_remainder` meets its contract.
 -- Assumes nothing.
 use mathlib.Core.Path.{subst}
-use borrow.Author.Rules.{rules}
 use Rattle.meaning.specs.declared.FieldName.{FieldName}
 use Rattle.arith.specs.Represented.{FieldMade, FieldNamed}
 use Rattle.leaves.proofs.Remaindering.{remainder-named, remainder_declined}

@@ -3,12 +3,10 @@
 use Prim.Native.Nat.{ℕ}
 use mathlib.Core.Path.{sym, subst, ◌∙◌}
 use lib.ListN.{length}
-use borrow.Author.Rules.{rules}
 use Rattle.meaning.specs.declared.FieldName.{FieldName}
 use Rattle.arith.specs.Slices.{combined}
 use Rattle.arith.specs.Represented.{FieldMade, FieldNamed}
 use Rattle.leaves.specs.Suited.{suited}
-use Rattle.bridge.proofs.Basics.Searches.{not-true, not-not_true}
 use Rattle.leaves.proofs.Suiting.{suited-first}
 use Rattle.leaves.proofs.Suiting.{answer_unsuited, answer_declined, answer-named}
 use Rattle.leaves.proofs.leaf_update.Goals as goal

@@ -1,7 +1,6 @@
 -- `order_in` meets its contract.
 -- Assumes nothing.
 use mathlib.Core.Path.{sym, ◌∙◌}
-use borrow.Author.Rules.{rules}
 use Rattle.bridge.proofs.Basics.Searches.{true-T}
 use Rattle.leaves.proofs.Suiting.{where_yes, where_no}
 use Rattle.leaves.proofs.Orders.{limit_beyond, limit_within, suited_over}

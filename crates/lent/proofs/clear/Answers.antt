@@ -1,5 +1,4 @@
 -- `clear` meets its contract: the part that is lent on has 8,192 bytes. Assumes nothing.
-use borrow.Author.Rules.{rules}
 use native.Mathlib.Omega.{arith}
 use Rattle.lent.proofs.Parts.{cleared-part}
 use Rattle.lent.proofs.clear.Goals as goal

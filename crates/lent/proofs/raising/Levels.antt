@@ -13,7 +13,7 @@ use mathlib.Core.List.{List, map, ◌++◌}
 use native.Mathlib.Nat.{sub-zero}
 use native.Mathlib.Omega.{arith}
 use lib.ListN.{length, take, drop, length-map}
-use lib.Seq.{take_at, take-length}
+use lib.Seq.{take_at}
 use lib.Dec.{T}
 use Rattle.meaning.specs.Field.{Field, are_elements}
 use Rattle.bridge.proofs.Basics.Interpretation.{IsField}

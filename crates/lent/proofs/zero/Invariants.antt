@@ -1,13 +1,9 @@
 -- `zero` meets its contract. The invariant: the first i bytes are 0, and the others as they were. The
 -- measure is what is left of them. Assumes nothing.
 use Prim.Native.Nat.{◌-◌, ◌≤◌}
-use mathlib.Core.Path.{◌≡◌, refl, ap, ◌∙◌}
-use mathlib.Core.List.{◌++◌, append-nil}
-use lib.ListN.{length, drop, set, replicate, length-set, drop_of_length-le}
-use borrow.Author.Fill.{fill_none, fill_more}
-use borrow.Author.Rules.{rules}
-use native.Mathlib.Nat.{le_refl}
-use native.Mathlib.Omega.{arith}
+use mathlib.Core.Path.{◌≡◌}
+use mathlib.Core.List.{◌++◌}
+use lib.ListN.{length, drop, replicate}
 use Rattle.lent.proofs.zero.Given as goal
 
 abbrev pub invariant-loop-i : goal.invariant-loop-i

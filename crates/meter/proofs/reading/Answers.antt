@@ -1,5 +1,4 @@
 -- `reading` meets its contract. Assumes nothing.
-use borrow.Author.Rules.{rules}
 use mathlib.Core.Path.{sym, ◌∙◌}
 use Rattle.meter.proofs.Keeping.{holding_reading}
 use Rattle.meter.proofs.reading.Goals as goal

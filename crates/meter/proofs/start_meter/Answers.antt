@@ -1,6 +1,5 @@
 -- `start_meter` meets its contract: the refusal of the name, or the start of the model. Assumes nothing.
 use native.Mathlib.Omega.{arith}
-use borrow.Author.Rules.{rules}
 use mathlib.Core.Path.{subst}
 use Rattle.arith.specs.Represented.{FieldMade}
 use Rattle.meter.proofs.Steps.{start_refused, start_taken}

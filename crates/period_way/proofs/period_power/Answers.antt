@@ -2,7 +2,6 @@
 use mathlib.Core.Path.{sym, subst, ◌∙◌}
 use lib.ListN.{length}
 use native.Mathlib.Omega.{arith}
-use borrow.Author.Rules.{rules}
 use Rattle.powers.specs.levels.Levels.{Base, Dividing}
 use Rattle.powers.proofs.levels.Climbing.{field-base}
 use Rattle.period_way.proofs.Periodic.{cleared-found}

@@ -3,7 +3,6 @@ use Prim.Native.Nat.{◌-◌}
 use mathlib.Core.Path.{◌∙◌}
 use native.Mathlib.Omega.{arith}
 use lib.ListN.{length-take}
-use borrow.Author.Rules.{rules}
 use Rattle.period_way.proofs.Periodic.{period-nonempty, period-fits, period_searchable}
 use Rattle.period_way.proofs.Periodic.{period_levelled}
 use Rattle.period_way.proofs.Periodic.{searched-none, searched-some}

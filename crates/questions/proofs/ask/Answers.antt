@@ -1,6 +1,5 @@
 -- `ask` meets its contract: the verdict refuses, or the answer is that for the monic multiple.
 -- Assumes nothing.
-use borrow.Author.Rules.{rules}
 use Rattle.questions.proofs.Question.{question_refused, question_accepted, question_yes, question_no}
 use Rattle.questions.proofs.ask.Goals as goal
 

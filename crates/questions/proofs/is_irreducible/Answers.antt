@@ -1,6 +1,5 @@
 -- `is_irreducible` meets its contract: the name is refused, or the answer is that in its field.
 -- Assumes nothing.
-use borrow.Author.Rules.{rules}
 use Rattle.arith.proofs.Door.{made-named}
 use Rattle.questions.proofs.Question.{call_refused, call_made}
 use Rattle.questions.proofs.is_irreducible.Goals as goal

@@ -3,7 +3,6 @@
 use native.Mathlib.Omega.{arith}
 use mathlib.Core.Path.{sym, ap, subst, ◌∙◌}
 use lib.ListN.{replicate}
-use borrow.Author.Rules.{rules}
 use Rattle.meaning.specs.Polynomial.{irreducible}
 use Rattle.irreducible.specs.Accepted.{Accepted}
 use Rattle.arith.specs.Represented.{field_of}

@@ -2,7 +2,6 @@
 -- than 16,384 bytes, so the lines are those of the whole input.
 -- Assumes nothing.
 use native.Mathlib.Omega.{arith}
-use borrow.Author.Rules.{rules}
 use Prim.Native.Nat.{ℕ}
 use lib.ListN.{length-replicate}
 use Rattle.rate.proofs.Responding.{respond_call}

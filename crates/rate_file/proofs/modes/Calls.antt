@@ -4,7 +4,6 @@ use Prim.Native.Nat.{ℕ}
 use mathlib.Core.Path.{◌≡◌, refl, ap, ◌∙◌}
 use mathlib.Core.Bool.{false}
 use mathlib.Core.List.{List}
-use lib.ListN.{length}
 use Rattle.meaning.specs.declared.PowerRating.{PowerRating}
 use Rattle.meaning.specs.declared.FreeRating.{FreeRating}
 use Rattle.meaning.specs.declared.SetRating.{SetRating}
@@ -14,7 +13,7 @@ use Rattle.meaning.specs.Result.{work_after}
 use Rattle.meaning.specs.Power.{PowerFigures}
 use Rattle.meaning.specs.Portion.{SetFigures}
 use Rattle.meaning.specs.Free.{FreeFigures}
-use Rattle.meaning.specs.File.{FileFigures, powers, file_answer, of_period, of_set, of_free}
+use Rattle.meaning.specs.File.{FileFigures, file_answer, of_period, of_set, of_free}
 use Rattle.meaning.specs.Answers.{told_power, told_free, set_figures_told, set_padded, with_powers, label_told}
 use Rattle.meaning.specs.Answers.{file_figures_told, label_powers, file_padded}
 use Rattle.meaning.specs.Calls.{LentAfter}

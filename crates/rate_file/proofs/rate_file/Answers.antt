@@ -1,7 +1,6 @@
 -- `rate_file::rate_file` meets its contract: the file is refused, or what it holds is rated.
 -- Assumes nothing.
 use mathlib.Core.Path.{sym, refl, ap, ◌∙◌}
-use borrow.Author.Rules.{rules}
 use Rattle.rate_file.proofs.records.Terms.{gathered_cut}
 use Rattle.rate_file.proofs.modes.Calls.{rated_as, refused_rated}
 use Rattle.route.specs.walk.Walking.{told_verdict}

@@ -1,6 +1,5 @@
 -- `rate_checked` meets its contract: 16 refuses, or the shortest recurrence answers, by the two words.
 -- Assumes nothing.
-use borrow.Author.Rules.{rules}
 use mathlib.Core.Path.{◌≡◌}
 use lib.ListN.{length}
 use Rattle.meaning.specs.Result.{first_of}

@@ -1,7 +1,6 @@
 -- `rate_in` meets its contract: one of 7 and 8 refuses, or the terms are rated.
 -- Assumes nothing.
 use mathlib.Core.Path.{sym, ap, ◌∙◌}
-use borrow.Author.Rules.{rules}
 use Rattle.refusals.specs.Verdicts.{number_in}
 use Rattle.rate_free.proofs.FreeAnswer.{terms_refused}
 use Rattle.rate_free.proofs.rate_in.Goals as goal

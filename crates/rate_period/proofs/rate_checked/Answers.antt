@@ -1,6 +1,5 @@
 -- `rate_checked` meets its contract: 12 or 16 refuses, or the answer is that of the power found.
 -- Assumes nothing.
-use borrow.Author.Rules.{rules}
 use Rattle.arith.proofs.Represented.{field-is_field}
 use Rattle.rate_period.proofs.PeriodAnswer.{period_refused, period-lent, period-input}
 use Rattle.rate_period.proofs.PeriodAnswer.{period_answerable, period-rated}

@@ -7,7 +7,6 @@ use Rattle.arith.proofs.Represented.{field-is_field}
 use Rattle.rate_period.specs.Ratings.{Checked}
 use Rattle.rate_period.proofs.Given.{given_checked, given-leads, given-short, given-front}
 use Rattle.rate_period.proofs.Given.{given-room, given_refused, given-rated}
-use borrow.Author.Rules.{rules}
 use Rattle.rate_period.proofs.rate_in.Goals as goal
 
 pub monic_multiple-requires : goal.monic_multiple-requires

@@ -1,6 +1,5 @@
 -- `rate_period` meets its contract: the name is refused, or the answer is that in its field.
 -- Assumes nothing.
-use borrow.Author.Rules.{rules}
 use Rattle.arith.proofs.Door.{made-named}
 use Rattle.rate_period.proofs.Given.{call_refused, call_made}
 use Rattle.rate_period.proofs.rate_period.Goals as goal

@@ -1,6 +1,5 @@
 -- `rated` meets its contract: nothing found is 17, and else the power is written and the shortest period
 -- told. Assumes nothing.
-use borrow.Author.Rules.{rules}
 use Rattle.arith.proofs.Represented.{field-is_field}
 use Rattle.rate_period.proofs.Answer.{power-input, degree_decides, nothing-rated, power-rated}
 use Rattle.rate_period.proofs.rated.Goals as goal

@@ -2,7 +2,6 @@
 -- the powers that are found are written as a product. Assumes nothing.
 use mathlib.Core.Path.{◌≡◌, refl, sym}
 use lib.ListN.{length}
-use borrow.Author.Rules.{rules}
 use Rattle.arith.proofs.Represented.{field-is_field}
 use Rattle.meaning.proofs.Slices.{lists_length}
 use Rattle.rate_set.proofs.Powered.{accepted-at}

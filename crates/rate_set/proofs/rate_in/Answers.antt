@@ -5,7 +5,6 @@ use mathlib.Core.Path.{◌≡◌, sym, subst, ◌∙◌}
 use mathlib.Core.Bool.{false}
 use mathlib.Core.List.{List, map}
 use lib.ListN.{length, take, drop, length-replicate}
-use borrow.Author.Rules.{rules}
 use native.Mathlib.Omega.{arith}
 use Rattle.meaning.specs.Polynomial.{Polynomial, monic_multiple}
 use Rattle.meaning.specs.Conditions.{named}

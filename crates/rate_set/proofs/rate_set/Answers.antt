@@ -1,6 +1,5 @@
 -- `rate_set` meets its contract: the name is refused, or the answer is that in its field.
 -- Assumes nothing.
-use borrow.Author.Rules.{rules}
 use Rattle.arith.proofs.Door.{made-named}
 use Rattle.rate_set.proofs.Given.{call_refused, call_made}
 use Rattle.rate_set.proofs.rate_set.Goals as goal

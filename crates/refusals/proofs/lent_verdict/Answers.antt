@@ -1,7 +1,6 @@
 -- `lent_verdict` meets its contract: the condition holds, or none is left.
 -- Assumes nothing.
 use mathlib.Core.Path.{sym, ◌∙◌}
-use borrow.Author.Rules.{rules}
 use Rattle.meaning.specs.Answers.{number_of}
 use Rattle.refusals.specs.Verdicts.{number_in, lent_table}
 use Rattle.refusals.proofs.Order.{first_here, first_skip, first-nowhere}

@@ -1,11 +1,8 @@
 -- `largest_power` meets its contract. The invariant is `Largest`, and the measure what is left of the
 -- factors. Assumes nothing.
-use Prim.Native.Nat.{◌+◌, ◌-◌, ◌≤◌}
-use mathlib.Core.Path.{◌≡◌, refl, sym, subst}
-use mathlib.Core.Logic.{⊎_elim}
+use Prim.Native.Nat.{◌+◌}
+use mathlib.Core.Path.{refl, sym, subst}
 use native.Mathlib.Omega.{arith}
-use lib.ListN.{length}
-use borrow.Author.Rules.{rules}
 use Rattle.repeat.proofs.Factors.{Largest, largest-start, largest-more, largest-less, largest-end}
 use Rattle.repeat.proofs.largest_power.Goals as goal
 use Rattle.repeat.proofs.largest_power.Goals.{then-largest-powers, else-largest-powers}

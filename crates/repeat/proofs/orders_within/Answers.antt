@@ -1,19 +1,16 @@
 -- `orders_within` meets its contract. The invariant: the common multiple of the orders of the factors before
 -- i. The measure is what is left of the factors. Assumes nothing.
-use Prim.Native.Nat.{◌+◌, ◌-◌, ◌≤◌}
-use mathlib.Core.Logic.{⊎_elim}
-use mathlib.Core.Path.{◌≡◌, ◌∙◌}
-use lib.ListN.{length, get_or, take}
+use Prim.Native.Nat.{◌+◌}
+use mathlib.Core.Path.{◌∙◌}
+use lib.ListN.{get_or, take}
 use Rattle.meaning.specs.Conditions.{named}
 use Rattle.meaning.specs.Slices.{lists_of}
 use Rattle.meaning.proofs.Slices.{nowhere}
-use Rattle.bridge.proofs.Sequences.CommonOrders.{orders_within}
 use Rattle.arith.specs.Represented.{field_of}
 use Rattle.arith.proofs.Represented.{field-is_field}
 use Rattle.repeat.proofs.Factors.{common_start, common_skip, common_more, common_stop, common_end}
 use Rattle.repeat.proofs.Factors.{orders-small, orders-zero, order_small, factor-suited}
 use Rattle.repeat.proofs.Factors.{powers-enough}
-use borrow.Author.Rules.{rules}
 use native.Mathlib.Omega.{arith}
 use Rattle.repeat.proofs.orders_within.Goals as goal
 use Rattle.repeat.proofs.orders_within.Goals.{then-powers-i-ne0+else-common-eq0, else-powers-i-ne0}

@@ -5,7 +5,6 @@ use Rattle.powers.proofs.levels.Climbing.{field-base}
 use Rattle.repeat.proofs.Factors.{powers-enough, largest-small, level-positive, limit_small}
 use Rattle.repeat.proofs.Factors.{repeat_fits, repeat_is}
 use native.Mathlib.Omega.{arith}
-use borrow.Author.Rules.{rules}
 use Rattle.repeat.proofs.repeat_length.Goals as goal
 
 pub largest_power-largest-requires : goal.largest_power-largest-requires

@@ -1,6 +1,5 @@
 -- `set_way::search_set` meets its contract. Assumes nothing.
 use native.Mathlib.Omega.{arith}
-use borrow.Author.Rules.{rules}
 use Rattle.set_way.proofs.Answers.{front-end, lent-input, lent_length, found-powers, found_nothing}
 use Rattle.set_way.proofs.search_set.Goals as goal
 

@@ -1,6 +1,5 @@
 -- `set_way::set_powers` meets its contract. Assumes nothing.
 use native.Mathlib.Omega.{arith}
-use borrow.Author.Rules.{rules}
 use Rattle.set_way.proofs.Answers.{cleared-set}
 use Rattle.set_way.proofs.set_powers.Goals as goal
 

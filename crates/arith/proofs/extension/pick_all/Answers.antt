@@ -3,7 +3,6 @@ use mathlib.Core.Path.{sym, ap₂, ◌∙◌}
 use lib.Bits.{bit_xor, xor_zero_r}
 use Rattle.bridge.proofs.Binary.BinaryNumbers.{picks}
 use Rattle.arith.specs.extension.Extension.{list_of}
-use borrow.Author.Rules.{rules}
 use Rattle.arith.proofs.extension.pick_all.Goals as goal
 
 pub returns : goal.returns

@@ -1,11 +1,7 @@
 -- `extension::plane` meets its contract. The invariant: x and the plane from the place i on make the whole.
 -- The measure is what is left of c. Assumes nothing.
-use Prim.Native.Nat.{◌-◌, ◌≤◌}
-use mathlib.Core.Path.{◌≡◌, refl}
-use lib.ListN.{length}
-use Rattle.arith.specs.extension.Extension.{Collecting}
+use mathlib.Core.Path.{refl}
 use Rattle.arith.proofs.extension.Planes.{collecting_start, collecting_more, collecting_end}
-use borrow.Author.Rules.{rules}
 use native.Mathlib.Omega.{arith}
 use Rattle.arith.proofs.extension.plane.Goals as goal
 

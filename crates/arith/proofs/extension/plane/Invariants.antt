@@ -1,12 +1,9 @@
 -- `extension::plane` meets its contract. The invariant: x and the plane from the place i on make the whole.
 -- The measure is what is left of c. Assumes nothing.
 use Prim.Native.Nat.{◌-◌, ◌≤◌}
-use mathlib.Core.Path.{◌≡◌, refl}
+use mathlib.Core.Path.{◌≡◌}
 use lib.ListN.{length}
 use Rattle.arith.specs.extension.Extension.{Collecting}
-use Rattle.arith.proofs.extension.Planes.{collecting_start, collecting_more, collecting_end}
-use borrow.Author.Rules.{rules}
-use native.Mathlib.Omega.{arith}
 use Rattle.arith.proofs.extension.plane.Given as goal
 
 abbrev pub invariant-loop-i : goal.invariant-loop-i

@@ -3,7 +3,6 @@ use Prim.Native.Nat.{◌%◌}
 use mathlib.Core.Path.{ap, ◌∙◌}
 use Rattle.bridge.proofs.Binary.ReducingPolynomials.{is_reducing}
 use native.Mathlib.Omega.{arith}
-use borrow.Author.Rules.{rules}
 use Rattle.arith.proofs.reducing.is_reducing.Goals as goal
 
 pub returns : goal.returns

@@ -3,7 +3,6 @@ use Prim.Native.Nat.{ℕ, ◌+◌}
 use mathlib.Core.Path.{sym, ap, ◌∙◌}
 use mathlib.Core.Bool.{not}
 use native.Mathlib.Omega.{arith}
-use borrow.Author.Rules.{rules}
 use Rattle.bridge.proofs.Binary.ReducingPolynomials.{is_reducing, binary-low-degree, binary-high-degree}
 use Rattle.bridge.proofs.Binary.ReducingPolynomials.{binary-large-low, binary-named}
 use Rattle.arith.proofs.reducing.names_binary_field.Goals as goal

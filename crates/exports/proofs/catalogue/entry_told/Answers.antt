@@ -1,6 +1,5 @@
 -- `entry_told` meets its contract: at each arm the search tells what the arm names.
 -- Assumes nothing.
-use borrow.Author.Rules.{rules}
 use Rattle.meaning.specs.Answers.{told_entry}
 use Rattle.meaning.specs.Exports.{entry_told}
 use Rattle.exports.proofs.catalogue.entry_told.Goals as goal

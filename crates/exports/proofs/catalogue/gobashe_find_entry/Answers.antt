@@ -1,6 +1,5 @@
 -- `gobashe_find_entry` meets its contract: it tells what the call that it wraps answers.
 -- Assumes nothing.
-use borrow.Author.Rules.{rules}
 use Rattle.exports.proofs.Exported.{entry-exported}
 use Rattle.exports.proofs.catalogue.gobashe_find_entry.Goals as goal
 

@@ -1,6 +1,5 @@
 -- `gobashe_continue_sequence` meets its contract: at each arm the answer is what the arm names.
 -- Assumes nothing.
-use borrow.Author.Rules.{rules}
 use Rattle.exports.proofs.Exported.{filled-exported, unfilled_exported}
 use Rattle.exports.proofs.continuation.gobashe_continue_sequence.Goals as goal
 

@@ -1,6 +1,5 @@
 -- `enter_term` meets its contract: the term is handed in, and its entry written. Assumes nothing.
 use Rattle.exports.proofs.profile.Entries.{term_entered}
-use borrow.Author.Rules.{rules}
 use Rattle.exports.proofs.profile.enter_term.Goals as goal
 
 pub returns : goal.returns

@@ -1,7 +1,6 @@
 -- `gobashe_profile` meets its contract: the start is refused, or the profile written. Assumes nothing.
 use Prim.Native.Nat.{ℕ}
 use lib.ListN.{replicate, length-replicate}
-use borrow.Author.Rules.{rules}
 use Rattle.exports.proofs.profile.Profiles.{profile_refused, profile_told, profile_renamed}
 use Rattle.exports.proofs.profile.gobashe_profile.Goals as goal
 

@@ -1,7 +1,6 @@
 -- `status` meets its contract. Assumes nothing.
 use Rattle.exports.proofs.profile.Entries.{number_byte, status_unique, status_several, status_refused}
 use native.Mathlib.Omega.{arith}
-use borrow.Author.Rules.{rules}
 use Rattle.exports.proofs.profile.status.Goals as goal
 
 pub overflow_cast-result : goal.overflow_cast-result

@@ -1,6 +1,5 @@
 -- `write_entry` meets its contract: at each arm the entry tells what the arm names. Assumes nothing.
 use Rattle.exports.proofs.profile.Entries.{entry-unique, entry_several, entry-missing}
-use borrow.Author.Rules.{rules}
 use Rattle.exports.proofs.profile.write_entry.Goals as goal
 
 pub returns-in-Unique : goal.returns-in-Unique

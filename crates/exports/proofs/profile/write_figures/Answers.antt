@@ -1,6 +1,5 @@
 -- `write_figures` meets its contract: four bytes, one after another. Assumes nothing.
 use Rattle.exports.proofs.profile.Entries.{four_bytes}
-use borrow.Author.Rules.{rules}
 use Rattle.exports.proofs.profile.write_figures.Goals as goal
 
 pub returns : goal.returns

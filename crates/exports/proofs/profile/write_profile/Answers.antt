@@ -1,8 +1,6 @@
 -- `write_profile` meets its contract. The invariant: the first i terms were handed in and their entries
 -- written. The measure is the number of terms that are left. Assumes nothing.
-use Prim.Native.Nat.{◌-◌, ◌≤◌}
-use Rattle.exports.proofs.profile.Profiles.{Entered, entered_none, entered_more, entered_all}
-use borrow.Author.Rules.{rules}
+use Rattle.exports.proofs.profile.Profiles.{entered_none, entered_more, entered_all}
 use native.Mathlib.Omega.{arith}
 use Rattle.exports.proofs.profile.write_profile.Goals as goal
 

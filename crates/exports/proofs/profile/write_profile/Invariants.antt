@@ -1,9 +1,7 @@
 -- `write_profile` meets its contract. The invariant: the first i terms were handed in and their entries
 -- written. The measure is the number of terms that are left. Assumes nothing.
 use Prim.Native.Nat.{◌-◌, ◌≤◌}
-use Rattle.exports.proofs.profile.Profiles.{Entered, entered_none, entered_more, entered_all}
-use borrow.Author.Rules.{rules}
-use native.Mathlib.Omega.{arith}
+use Rattle.exports.proofs.profile.Profiles.{Entered}
 use Rattle.exports.proofs.profile.write_profile.Given as goal
 
 abbrev pub invariant-loop-i : goal.invariant-loop-i

@@ -1,6 +1,5 @@
 -- `answer_told` meets its contract: at each arm the answer is what the arm names.
 -- Assumes nothing.
-use borrow.Author.Rules.{rules}
 use Rattle.meaning.specs.Answers.{told_irreducible}
 use Rattle.meaning.specs.Exports.{answer_told}
 use Rattle.exports.proofs.questions.answer_told.Goals as goal

@@ -1,6 +1,5 @@
 -- `gobashe_is_irreducible` meets its contract: it tells what the call that it wraps answers.
 -- Assumes nothing.
-use borrow.Author.Rules.{rules}
 use Rattle.exports.proofs.Exported.{question_exported}
 use Rattle.exports.proofs.questions.gobashe_is_irreducible.Goals as goal
 

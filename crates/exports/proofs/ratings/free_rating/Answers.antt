@@ -1,6 +1,5 @@
 -- `free_rating` meets its contract: at each arm the rating tells what the arm names.
 -- Assumes nothing.
-use borrow.Author.Rules.{rules}
 use Rattle.meaning.specs.Answers.{told_free, padded}
 use Rattle.meaning.specs.Exports.{free_told, word_number}
 use Rattle.exports.proofs.ratings.free_rating.Goals as goal

@@ -1,6 +1,5 @@
 -- `gobashe_rate_free` meets its contract: it tells what the call that it wraps answers.
 -- Assumes nothing.
-use borrow.Author.Rules.{rules}
 use Rattle.exports.proofs.Exported.{free-exported}
 use Rattle.exports.proofs.ratings.gobashe_rate_free.Goals as goal
 

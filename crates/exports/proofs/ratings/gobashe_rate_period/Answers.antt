@@ -1,6 +1,5 @@
 -- `gobashe_rate_period` meets its contract: it tells what the call that it wraps answers.
 -- Assumes nothing.
-use borrow.Author.Rules.{rules}
 use Rattle.exports.proofs.Exported.{period-exported}
 use Rattle.exports.proofs.ratings.gobashe_rate_period.Goals as goal
 

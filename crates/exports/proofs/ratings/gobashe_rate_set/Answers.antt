@@ -1,6 +1,5 @@
 -- `gobashe_rate_set` meets its contract: it tells what the call that it wraps answers.
 -- Assumes nothing.
-use borrow.Author.Rules.{rules}
 use Rattle.exports.proofs.Exported.{set-exported}
 use Rattle.exports.proofs.ratings.gobashe_rate_set.Goals as goal
 

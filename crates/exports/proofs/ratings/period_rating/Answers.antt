@@ -1,6 +1,5 @@
 -- `period_rating` meets its contract: at each arm the rating tells what the arm names.
 -- Assumes nothing.
-use borrow.Author.Rules.{rules}
 use Rattle.meaning.specs.Answers.{told_power, padded}
 use Rattle.meaning.specs.Exports.{period_told}
 use Rattle.exports.proofs.ratings.period_rating.Goals as goal

@@ -1,7 +1,6 @@
 -- `refused_rating` meets its contract.
 -- Assumes nothing.
 use mathlib.Core.Path.{ap}
-use borrow.Author.Rules.{rules}
 use Rattle.meaning.specs.Answers.{padded}
 use Rattle.meaning.specs.Exports.{rating_refused}
 use Rattle.exports.proofs.ratings.refused_rating.Goals as goal

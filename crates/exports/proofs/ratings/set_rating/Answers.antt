@@ -1,6 +1,5 @@
 -- `set_rating` meets its contract: at each arm the outcome is what the arm names.
 -- Assumes nothing.
-use borrow.Author.Rules.{rules}
 use Rattle.exports.specs.ratings.Outcomes.{outcome_told}
 use Rattle.exports.proofs.ratings.set_rating.Goals as goal
 

@@ -1,6 +1,5 @@
 -- `gobashe_record` meets its contract: a record is found, or the file is refused.
 -- Assumes nothing.
-use borrow.Author.Rules.{rules}
 use Rattle.exports.proofs.Records.{record_found, record_refused}
 use Rattle.exports.proofs.reader.gobashe_record.Goals as goal
 

@@ -1,12 +1,9 @@
 -- `add_rows` meets its contract. The invariant is `Summing`, and the measure what is left of the rows.
 -- Assumes nothing.
 use mathlib.Core.Path.{sym, ◌∙◌}
-use Prim.Native.Nat.{◌-◌}
-use mathlib.Core.Path.{◌≡◌, refl}
-use lib.ListN.{length}
-use Rattle.irreducible.proofs.frobenius.Summing.{Summing, summing_start, summing_next, summing_end}
+use mathlib.Core.Path.{refl}
+use Rattle.irreducible.proofs.frobenius.Summing.{summing_start, summing_next, summing_end}
 use Rattle.irreducible.proofs.frobenius.Summing.{row-lent}
-use borrow.Author.Rules.{rules}
 use native.Mathlib.Omega.{arith}
 use Rattle.irreducible.proofs.frobenius.add_rows.Goals as goal
 

@@ -12,7 +12,6 @@ use Rattle.meaning.specs.Polynomial.{degree}
 use mathlib.Core.Path.{◌≡◌, sym, ◌∙◌}
 use Prim.Native.Nat.{◌-◌}
 use native.Mathlib.Omega.{arith}
-use borrow.Author.Rules.{rules}
 use Rattle.irreducible.proofs.frobenius.fill.Goals as goal
 
 pub overflow_sub-d : goal.overflow_sub-d

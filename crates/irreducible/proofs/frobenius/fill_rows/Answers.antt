@@ -4,11 +4,7 @@ use Rattle.irreducible.proofs.frobenius.Filling.{src-fits, src-elements, src-deg
 use Rattle.arith.specs.Represented.{field_of}
 use Rattle.bridge.proofs.Lists.Polynomials.{monic-length}
 use mathlib.Core.Path.{sym, ◌∙◌}
-use Prim.Native.Nat.{◌-◌}
-use mathlib.Core.Path.{◌≡◌}
-use Rattle.meaning.specs.Polynomial.{degree}
-use Rattle.irreducible.proofs.frobenius.Filling.{Filling, filling-start, filling-next, filling-end}
-use borrow.Author.Rules.{rules}
+use Rattle.irreducible.proofs.frobenius.Filling.{filling-start, filling-next, filling-end}
 use native.Mathlib.Omega.{arith}
 use Rattle.irreducible.proofs.frobenius.fill_rows.Goals as goal
 

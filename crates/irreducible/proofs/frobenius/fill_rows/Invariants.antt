@@ -1,15 +1,9 @@
 -- `fill_rows` meets its contract. The invariant is `Filling`, and the measure what is left of the rows.
 -- Assumes nothing.
-use Rattle.irreducible.proofs.frobenius.Filling.{src-fits, src-elements, src-degree}
-use Rattle.arith.specs.Represented.{field_of}
-use Rattle.bridge.proofs.Lists.Polynomials.{monic-length}
-use mathlib.Core.Path.{sym, ◌∙◌}
 use Prim.Native.Nat.{◌-◌}
 use mathlib.Core.Path.{◌≡◌}
 use Rattle.meaning.specs.Polynomial.{degree}
-use Rattle.irreducible.proofs.frobenius.Filling.{Filling, filling-start, filling-next, filling-end}
-use borrow.Author.Rules.{rules}
-use native.Mathlib.Omega.{arith}
+use Rattle.irreducible.proofs.frobenius.Filling.{Filling}
 use Rattle.irreducible.proofs.frobenius.fill_rows.Given as goal
 
 abbrev pub invariant-loop-j : goal.invariant-loop-j

@@ -8,7 +8,6 @@ use lib.ListN.{length, take}
 use mathlib.Core.Path.{sym, ap, subst, ◌∙◌}
 use Prim.Native.Nat.{◌-◌, ◌≤◌}
 use native.Mathlib.Omega.{arith}
-use borrow.Author.Rules.{rules}
 use Rattle.irreducible.proofs.frobenius.next_row.Goals as goal
 
 pub copy-requires : goal.copy-requires

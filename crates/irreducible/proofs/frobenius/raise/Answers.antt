@@ -6,7 +6,6 @@ use Prim.Native.Nat.{◌-◌}
 use Rattle.lent.proofs.Parts.{front_fits, front-room, front-copied}
 use Rattle.irreducible.specs.frobenius.Table.{Summed}
 use Rattle.lent.proofs.Parts.{zeros-length, zeros-lent}
-use borrow.Author.Rules.{rules}
 use Rattle.irreducible.proofs.frobenius.raise.Goals as goal
 
 pub add_rows-requires : goal.add_rows-requires

@@ -1,6 +1,5 @@
 -- `binary::has_room` meets its contract.
 -- Assumes nothing.
-use borrow.Author.Rules.{rules}
 use Rattle.leaves.proofs.binary.Acting.{room-nothing, room-many, room-last}
 use Rattle.leaves.proofs.binary.has_room.Goals as goal
 

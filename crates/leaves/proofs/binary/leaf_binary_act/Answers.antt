@@ -3,13 +3,11 @@
 use mathlib.Core.Path.{sym, ap, ap₂, subst, ◌∙◌}
 use mathlib.Core.Bool.{not, ◌&&◌}
 use lib.ListN.{length}
-use borrow.Author.Rules.{rules}
 use Rattle.meaning.specs.declared.FieldName.{FieldName}
 use Rattle.meaning.specs.Conditions.{not_binary}
 use Rattle.meaning.specs.FieldNames.{named_field}
 use Rattle.arith.specs.Represented.{FieldMade, FieldNamed}
 use Rattle.leaves.specs.binary.Acted.{has_room}
-use Rattle.bridge.proofs.Basics.Searches.{not-true, not-not_true}
 use Rattle.leaves.proofs.Suiting.{and_second}
 use Rattle.leaves.proofs.binary.Naming.{named-binary, declined_binary}
 use Rattle.leaves.proofs.binary.Acting.{room_block, act-kept, act-acted}

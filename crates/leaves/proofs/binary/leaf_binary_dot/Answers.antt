@@ -2,12 +2,10 @@
 -- Assumes nothing.
 use mathlib.Core.Path.{sym, subst, ◌∙◌}
 use lib.ListN.{length}
-use borrow.Author.Rules.{rules}
 use Rattle.meaning.specs.declared.FieldName.{FieldName}
 use Rattle.meaning.specs.Sequence.{act_at, known}
 use Rattle.arith.specs.Represented.{FieldMade, FieldNamed}
 use Rattle.leaves.specs.Suited.{suited}
-use Rattle.bridge.proofs.Basics.Searches.{not-true, not-not_true}
 use Rattle.leaves.proofs.Suiting.{suited-first, suited_few}
 use Rattle.leaves.proofs.binary.Naming.{answer_misfit, answer_unnamed, answer-binary}
 use Rattle.leaves.proofs.binary.leaf_binary_dot.Goals as goal

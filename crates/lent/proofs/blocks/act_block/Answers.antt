@@ -1,6 +1,5 @@
 -- `blocks::act_block` meets its contract, by the code of either characteristic. Assumes nothing.
 use mathlib.Core.Path.{subst, ◌∙◌}
-use borrow.Author.Rules.{rules}
 use Rattle.arith.proofs.Represented.{odd-prime}
 use Rattle.lent.specs.blocks.Blocks.{BlockActed}
 use Rattle.lent.proofs.blocks.act_block.Goals as goal

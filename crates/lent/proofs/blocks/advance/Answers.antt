@@ -5,7 +5,6 @@ use mathlib.Core.Path.{◌≡◌, sym, ◌∙◌}
 use native.Mathlib.Nat.{mod-eq_of_lt}
 use native.Mathlib.Omega.{arith}
 use Rattle.lent.proofs.blocks.Cycles.{remainder_wrapped}
-use borrow.Author.Rules.{rules}
 use Rattle.lent.proofs.blocks.advance.Goals as goal
 
 pub returns-then-step-left : goal.returns-then-step-left

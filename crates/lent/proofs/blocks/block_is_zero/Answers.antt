@@ -1,6 +1,5 @@
 -- `blocks::block_is_zero` meets its contract, by the code of either characteristic. Assumes nothing.
 use mathlib.Core.Path.{ap, ◌∙◌}
-use borrow.Author.Rules.{rules}
 use Rattle.bridge.proofs.Sequences.KnownActions.{all_zero}
 use Rattle.arith.proofs.Represented.{odd-prime}
 use Rattle.lent.specs.blocks.Blocks.{block_on_period}

@@ -7,7 +7,6 @@ use lib.ListN.{length}
 use Rattle.arith.specs.Represented.{field_of}
 use Rattle.lent.proofs.Parts.{lent_length, zeros-length, zeros-lent, zeros-front, zeros-enough}
 use Rattle.lent.proofs.blocks.Stored.{block_acted}
-use borrow.Author.Rules.{rules}
 use Rattle.lent.proofs.elements.act_elements.Goals as goal
 
 pub sum_up-requires : goal.sum_up-requires

@@ -1,6 +1,5 @@
 -- `elements::add_run` meets its contract. Assumes nothing.
 use mathlib.Core.Path.{sym, ap, ◌∙◌}
-use borrow.Author.Rules.{rules}
 use Rattle.arith.specs.Represented.{field_of}
 use Rattle.arith.specs.Slices.{combined}
 use Rattle.lent.proofs.elements.add_run.Goals as goal

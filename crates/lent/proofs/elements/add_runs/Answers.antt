@@ -1,7 +1,6 @@
 -- `elements::add_runs` meets its contract. Assumes nothing.
 use Rattle.arith.specs.Represented.{field_of}
 use Rattle.arith.proofs.sums.Runs.{runs_added}
-use borrow.Author.Rules.{rules}
 use Rattle.lent.proofs.elements.add_runs.Goals as goal
 
 pub returns : goal.returns

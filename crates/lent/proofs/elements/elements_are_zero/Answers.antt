@@ -6,7 +6,6 @@ use lib.ListN.{length}
 use Rattle.arith.specs.Represented.{field_of}
 use Rattle.lent.proofs.Parts.{zeros-length, zeros-lent, zeros-front, zeros-enough}
 use Rattle.lent.proofs.blocks.Stored.{block_zero}
-use borrow.Author.Rules.{rules}
 use Rattle.lent.proofs.elements.elements_are_zero.Goals as goal
 
 pub sum_up-requires : goal.sum_up-requires

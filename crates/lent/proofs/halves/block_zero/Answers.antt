@@ -1,11 +1,8 @@
 -- `halves::block_zero` meets its contract. The invariant: `any` is 0 exactly where the first i bytes are. The
 -- measure is what is left of the block. Assumes nothing.
-use Prim.Native.Nat.{◌-◌, ◌≤◌}
-use mathlib.Core.Path.{◌≡◌, refl}
-use borrow.Author.Rules.{rules}
-use lib.ListN.{length}
+use mathlib.Core.Path.{refl}
 use native.Mathlib.Omega.{arith}
-use Rattle.lent.proofs.Zeros.{Anything, anything_none, anything_more, anything_end}
+use Rattle.lent.proofs.Zeros.{anything_none, anything_more, anything_end}
 use Rattle.lent.proofs.halves.block_zero.Goals as goal
 
 pub loop-i-init : goal.loop-i-init

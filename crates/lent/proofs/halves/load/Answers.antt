@@ -8,7 +8,6 @@ use lib.Seq.{paste}
 use Rattle.arith.specs.Slices.{part}
 use Rattle.lent.proofs.Parts.{put_paste, copied}
 use Rattle.lent.proofs.halves.Places.{placed}
-use borrow.Author.Rules.{rules}
 use Rattle.lent.proofs.halves.load.Goals as goal
 
 pub returns : goal.returns

@@ -2,7 +2,6 @@
 use Prim.Native.Nat.{◌^◌}
 use mathlib.Core.Path.{sym, subst}
 use lib.Dec.{T}
-use borrow.Author.Rules.{rules}
 use Rattle.meaning.specs.Field.{are_elements}
 use Rattle.arith.specs.Represented.{field_of}
 use Rattle.lent.proofs.raising.Levels.{copied-front, raised-front}

@@ -8,7 +8,6 @@ use Rattle.arith.specs.sums.Sums.{elements_of}
 use Rattle.lent.proofs.Parts.{lent_length, zeros-length, zeros-lent, zeros-front, zeros-enough}
 use Rattle.lent.proofs.blocks.Stored.{block_acted}
 use native.Mathlib.Omega.{arith}
-use borrow.Author.Rules.{rules}
 use Rattle.lent.proofs.residues.act_residues.Goals as goal
 
 pub sum_up-requires : goal.sum_up-requires

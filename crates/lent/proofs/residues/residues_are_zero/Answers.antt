@@ -8,7 +8,6 @@ use Rattle.arith.specs.prime_field.PrimeForm.{prime_field_of}
 use Rattle.arith.specs.sums.Sums.{elements_of}
 use Rattle.lent.proofs.Parts.{zeros-length, zeros-lent, zeros-front, zeros-enough}
 use Rattle.lent.proofs.blocks.Stored.{block_zero}
-use borrow.Author.Rules.{rules}
 use Rattle.lent.proofs.residues.residues_are_zero.Goals as goal
 
 pub sum_up-requires : goal.sum_up-requires

@@ -1,10 +1,6 @@
 -- `binary::after_all` meets its contract. The invariant: what is known holds after the terms seen. The
 -- measure is the number of terms that are left. Assumes nothing.
-use Prim.Native.Nat.{◌-◌, ◌≤◌}
-use lib.ListN.{length}
-use Rattle.massey.specs.binary.Binary.{WordsHold}
 use Rattle.massey.proofs.binary.Standing.{hold_start, hold_sizes}
-use borrow.Author.Rules.{rules}
 use native.Mathlib.Omega.{arith}
 use Rattle.massey.proofs.binary.after_all.Goals as goal
 

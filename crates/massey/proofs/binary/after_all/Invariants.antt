@@ -3,9 +3,6 @@
 use Prim.Native.Nat.{◌-◌, ◌≤◌}
 use lib.ListN.{length}
 use Rattle.massey.specs.binary.Binary.{WordsHold}
-use Rattle.massey.proofs.binary.Standing.{hold_start, hold_sizes}
-use borrow.Author.Rules.{rules}
-use native.Mathlib.Omega.{arith}
 use Rattle.massey.proofs.binary.after_all.Given as goal
 
 abbrev pub invariant-loop-known : goal.invariant-loop-known

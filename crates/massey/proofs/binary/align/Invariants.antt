@@ -1,10 +1,7 @@
 -- `binary::align` meets its contract. The invariant: g is moved down by the bits between the two numbers. The
 -- measure is the number of bits left. Assumes nothing.
 use Prim.Native.Nat.{◌+◌, ◌-◌}
-use Rattle.massey.proofs.binary.Aligning.{Aligning, aligning_seen, aligning_none, aligning_more}
-use Rattle.massey.proofs.binary.Aligning.{aligning_end}
-use native.Mathlib.Omega.{arith}
-use borrow.Author.Rules.{rules}
+use Rattle.massey.proofs.binary.Aligning.{Aligning}
 use Rattle.massey.proofs.binary.align.Given as goal
 
 abbrev pub invariant-loop-known : goal.invariant-loop-known

@@ -5,7 +5,6 @@ use lib.ListN.{get_or}
 use Rattle.bridge.proofs.Binary.WordLists.{digit-below, one_bit}
 use Rattle.massey.specs.binary.Binary.{none, taken}
 use native.Mathlib.Omega.{arith}
-use borrow.Author.Rules.{rules}
 use Rattle.massey.proofs.binary.cancel.Goals as goal
 
 pub returns-then-bit_at-eq0 : goal.returns-then-bit_at-eq0

@@ -1,7 +1,6 @@
 -- `binary::correct` meets its contract: the degree stays, or it changes. Assumes nothing.
 use Rattle.massey.proofs.binary.Standing.{hold_kept, hold_changed}
 use native.Mathlib.Omega.{arith}
-use borrow.Author.Rules.{rules}
 use Rattle.massey.proofs.binary.correct.Goals as goal
 
 pub returns-then-m-l : goal.returns-then-m-l

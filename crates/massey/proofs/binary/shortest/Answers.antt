@@ -6,7 +6,6 @@ use native.Mathlib.Nat.{div-add-mod', mod-lt}
 use Rattle.bridge.proofs.Lists.Coefficients.{get_or-zeros}
 use Rattle.massey.proofs.binary.Turning.{hold_degree, reduced-shortest}
 use native.Mathlib.Omega.{arith}
-use borrow.Author.Rules.{rules}
 use Rattle.massey.proofs.binary.shortest.Goals as goal
 
 -- the words below the first word of the terms have no bit of theirs

@@ -3,7 +3,6 @@ use mathlib.Core.Path.{ap, ◌∙◌}
 use lib.Arith.{lt_of_le-ne}
 use Rattle.massey.proofs.binary.Standing.{hold_reached, hold_misfit, hold_aligned, misfit_aligned}
 use native.Mathlib.Omega.{arith}
-use borrow.Author.Rules.{rules}
 use Rattle.massey.proofs.binary.step.Goals as goal
 
 pub returns-then-n-m : goal.returns-then-n-m

@@ -1,9 +1,7 @@
 -- `words::add_moved` meets its contract. The invariant: the words before j are added. The measure is the
 -- number of those left. Assumes nothing.
 use Prim.Native.Nat.{◌-◌, ◌≤◌}
-use Rattle.massey.proofs.words.Moving.{Adding, adding_none, adding_more, adding_end}
-use borrow.Author.Rules.{rules}
-use native.Mathlib.Omega.{arith}
+use Rattle.massey.proofs.words.Moving.{Adding}
 use Rattle.massey.proofs.words.add_moved.Given as goal
 
 abbrev pub invariant-loop-j : goal.invariant-loop-j

@@ -1,7 +1,6 @@
 -- `words::bit_at` meets its contract. Assumes nothing.
 use mathlib.Core.Path.{refl}
 use Rattle.bridge.proofs.Lists.Monics.{digit}
-use borrow.Author.Rules.{rules}
 use Rattle.massey.proofs.words.bit_at.Goals as goal
 
 pub returns : goal.returns

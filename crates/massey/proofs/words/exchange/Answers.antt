@@ -1,8 +1,6 @@
 -- `words::exchange` meets its contract. The invariant: the words before j are exchanged. The measure is the
 -- number of those left. Assumes nothing.
-use Prim.Native.Nat.{◌-◌, ◌≤◌}
-use Rattle.massey.proofs.words.Moving.{Exchanging, exchanging_none, exchanging_more, exchanging_end}
-use borrow.Author.Rules.{rules}
+use Rattle.massey.proofs.words.Moving.{exchanging_none, exchanging_more, exchanging_end}
 use native.Mathlib.Omega.{arith}
 use Rattle.massey.proofs.words.exchange.Goals as goal
 

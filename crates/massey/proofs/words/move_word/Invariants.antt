@@ -1,9 +1,7 @@
 -- `words::move_word` meets its contract. The invariant: the words before j are moved. The measure is the
 -- number of those left. Assumes nothing.
 use Prim.Native.Nat.{◌-◌, ◌≤◌}
-use Rattle.massey.proofs.words.Moving.{Moving, moving_none, moving_more, moving_end}
-use borrow.Author.Rules.{rules}
-use native.Mathlib.Omega.{arith}
+use Rattle.massey.proofs.words.Moving.{Moving}
 use Rattle.massey.proofs.words.move_word.Given as goal
 
 abbrev pub invariant-loop-j : goal.invariant-loop-j

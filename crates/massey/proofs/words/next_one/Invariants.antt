@@ -1,11 +1,7 @@
 -- `words::next_one` meets its contract. The invariant: the bits of the numbers from n to t − 1 are 0. The
 -- measure is how far t is from past the words. Assumes nothing.
 use Prim.Native.Nat.{◌-◌, ◌≤◌}
-use lib.Count.{leading_le}
-use Rattle.massey.proofs.words.Searching.{rest_of, Searching, searching_none, searching_more}
-use Rattle.massey.proofs.words.Searching.{searching_found, searching_end}
-use borrow.Author.Rules.{rules}
-use native.Mathlib.Omega.{arith}
+use Rattle.massey.proofs.words.Searching.{Searching}
 use Rattle.massey.proofs.words.next_one.Given as goal
 
 abbrev pub invariant-loop-t : goal.invariant-loop-t

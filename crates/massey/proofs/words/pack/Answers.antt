@@ -1,9 +1,7 @@
 -- `words::pack` meets its contract. The invariant: the first 64·i terms are packed. The measure is what is
 -- left of the terms. Assumes nothing.
-use Prim.Native.Nat.{◌+◌, ◌-◌, ◌*◌}
-use lib.ListN.{length}
-use Rattle.massey.proofs.words.Packing.{Packing, packing_none, packing_more, packing_end}
-use borrow.Author.Rules.{rules}
+use Prim.Native.Nat.{◌-◌, ◌*◌}
+use Rattle.massey.proofs.words.Packing.{packing_none, packing_more, packing_end}
 use native.Mathlib.Omega.{arith}
 use Rattle.massey.proofs.words.pack.Goals as goal
 

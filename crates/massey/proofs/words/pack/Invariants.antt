@@ -2,9 +2,7 @@
 -- left of the terms. Assumes nothing.
 use Prim.Native.Nat.{◌+◌, ◌-◌, ◌*◌}
 use lib.ListN.{length}
-use Rattle.massey.proofs.words.Packing.{Packing, packing_none, packing_more, packing_end}
-use borrow.Author.Rules.{rules}
-use native.Mathlib.Omega.{arith}
+use Rattle.massey.proofs.words.Packing.{Packing}
 use Rattle.massey.proofs.words.pack.Given as goal
 
 abbrev pub invariant-loop-i : goal.invariant-loop-i

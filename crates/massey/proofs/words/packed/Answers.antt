@@ -1,8 +1,6 @@
 -- `words::packed` meets its contract. The invariant: w is the word of the first i terms. The measure is the
 -- number of those left. Assumes nothing.
-use Prim.Native.Nat.{◌-◌, ◌≤◌}
-use Rattle.massey.proofs.words.Packing.{PackingWord, packed_none, packed_more, packed-fits, packed-end}
-use borrow.Author.Rules.{rules}
+use Rattle.massey.proofs.words.Packing.{packed_none, packed_more, packed-fits, packed-end}
 use native.Mathlib.Omega.{arith}
 use Rattle.massey.proofs.words.packed.Goals as goal
 

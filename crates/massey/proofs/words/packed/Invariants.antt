@@ -1,9 +1,7 @@
 -- `words::packed` meets its contract. The invariant: w is the word of the first i terms. The measure is the
 -- number of those left. Assumes nothing.
 use Prim.Native.Nat.{◌-◌, ◌≤◌}
-use Rattle.massey.proofs.words.Packing.{PackingWord, packed_none, packed_more, packed-fits, packed-end}
-use borrow.Author.Rules.{rules}
-use native.Mathlib.Omega.{arith}
+use Rattle.massey.proofs.words.Packing.{PackingWord}
 use Rattle.massey.proofs.words.packed.Given as goal
 
 abbrev pub invariant-loop-i : goal.invariant-loop-i

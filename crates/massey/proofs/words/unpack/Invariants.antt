@@ -1,13 +1,8 @@
 -- `words::unpack` meets its contract. The invariant: the first i bits are written. The measure is the number
 -- of those left. Assumes nothing.
 use Prim.Native.Nat.{◌-◌, ◌≤◌}
-use mathlib.Core.Path.{◌∙◌}
-use Rattle.arith.proofs.Writing.{Writing, writing_none, front-more}
+use Rattle.arith.proofs.Writing.{Writing}
 use Rattle.massey.specs.words.Words.{bits_from}
-use Rattle.massey.proofs.Lent.{written-end}
-use Rattle.massey.proofs.words.Packing.{length-bits, bits-next}
-use borrow.Author.Rules.{rules}
-use native.Mathlib.Omega.{arith}
 use Rattle.massey.proofs.words.unpack.Given as goal
 
 abbrev pub invariant-loop-i : goal.invariant-loop-i

@@ -1,7 +1,6 @@
 -- `words::window` meets its contract. Assumes nothing.
 use Rattle.massey.proofs.words.Moving.{window-bits}
 use native.Mathlib.Omega.{arith}
-use borrow.Author.Rules.{rules}
 use Rattle.massey.proofs.words.window.Goals as goal
 
 pub returns : goal.returns

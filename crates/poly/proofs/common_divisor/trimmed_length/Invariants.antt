@@ -1,9 +1,6 @@
 -- `trimmed_length` meets its contract. The invariant is `Trimming`, and the measure n.
 -- Assumes nothing.
-use borrow.Author.Rules.{rules}
-use Rattle.poly.proofs.common_divisor.Trimming.{Trimming, trimming_start, trimming_next}
-use Rattle.poly.proofs.common_divisor.Trimming.{trimming_found, trimming_end}
-use native.Mathlib.Omega.{arith}
+use Rattle.poly.proofs.common_divisor.Trimming.{Trimming}
 use Rattle.poly.proofs.common_divisor.trimmed_length.Given as goal
 
 abbrev pub invariant-loop-n : goal.invariant-loop-n

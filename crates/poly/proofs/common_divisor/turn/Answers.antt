@@ -1,7 +1,6 @@
 -- `common_divisor::turn` meets its contract: the remainder is what the next turn takes.
 -- Assumes nothing.
 use native.Mathlib.Omega.{arith}
-use borrow.Author.Rules.{rules}
 use Rattle.arith.proofs.Represented.{field-is_field}
 use Rattle.poly.proofs.common_divisor.Euclid.{divisor-nonempty, euclid_divisible, euclid_turned}
 use Rattle.poly.proofs.common_divisor.turn.Goals as goal

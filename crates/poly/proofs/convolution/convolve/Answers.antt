@@ -1,14 +1,10 @@
 -- `convolution::convolve` meets its contract. The invariant: the places after the first `left` are
 -- made, and all others as they were. The measure is `left`. Assumes nothing.
-use Prim.Native.Nat.{◌+◌, ◌-◌, ◌≤◌}
+use Prim.Native.Nat.{◌+◌, ◌-◌}
 use mathlib.Core.Path.{refl}
 use native.Mathlib.Nat.{mod-lt}
 use native.Mathlib.Omega.{arith}
-use borrow.Author.Rules.{rules}
-use Rattle.meaning.specs.Sequence.{known}
 use Rattle.arith.specs.Represented.{field_of}
-use Rattle.poly.specs.convolution.Convolution.{convolved}
-use Rattle.poly.proofs.convolution.Between.{Between}
 use Rattle.poly.proofs.convolution.Made.{blocks_none, blocks_next, blocks_more, blocks_all}
 use Rattle.poly.proofs.convolution.convolve.Goals as goal
 

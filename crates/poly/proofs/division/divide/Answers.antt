@@ -1,5 +1,4 @@
 -- `division::divide` meets its contract. Assumes nothing.
-use borrow.Author.Rules.{rules}
 use native.Mathlib.Omega.{arith}
 use mathlib.Core.Path.{ap, ◌∙◌}
 use Rattle.meaning.specs.Field.{negative}

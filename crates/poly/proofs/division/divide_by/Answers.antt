@@ -1,6 +1,5 @@
 -- `division::divide_by` meets its contract. The invariant is `Dividing`, and the measure i.
 -- Assumes nothing.
-use borrow.Author.Rules.{rules}
 use native.Mathlib.Omega.{arith}
 use Prim.Native.Nat.{◌-◌}
 use mathlib.Core.Path.{ap, ◌∙◌}
@@ -12,7 +11,7 @@ use Rattle.bridge.proofs.Lists.Polynomials.{leading-nonempty, get_or-below}
 use Rattle.arith.specs.Represented.{field_of}
 use Rattle.arith.specs.Inverse.{inverse}
 use Rattle.arith.proofs.Represented.{field-is_field}
-use Rattle.poly.proofs.division.Dividing.{Dividing, dividing_start, dividing_next, dividing_end}
+use Rattle.poly.proofs.division.Dividing.{dividing_start, dividing_next, dividing_end}
 use Rattle.poly.proofs.division.Dividing.{lent-length-at, reduced_put_at, inverse-digit}
 use Rattle.poly.proofs.division.divide_by.Goals as goal
 

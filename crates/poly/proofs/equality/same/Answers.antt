@@ -1,10 +1,7 @@
 -- `equality::same` meets its contract. The invariant: the lists have one length, and from i on they
 -- decide. Assumes nothing.
-use Prim.Native.Nat.{◌-◌}
 use native.Mathlib.Omega.{arith}
-use mathlib.Core.Path.{◌≡◌, refl}
-use lib.ListN.{length, drop}
-use Rattle.meaning.specs.Polynomial.{same}
+use mathlib.Core.Path.{refl}
 use Rattle.poly.proofs.equality.Equality.{same_length, same-differ, same_next, same_over}
 use Rattle.poly.proofs.equality.same.Goals as goal
 

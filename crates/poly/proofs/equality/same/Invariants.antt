@@ -1,11 +1,9 @@
 -- `equality::same` meets its contract. The invariant: the lists have one length, and from i on they
 -- decide. Assumes nothing.
 use Prim.Native.Nat.{◌-◌}
-use native.Mathlib.Omega.{arith}
-use mathlib.Core.Path.{◌≡◌, refl}
+use mathlib.Core.Path.{◌≡◌}
 use lib.ListN.{length, drop}
 use Rattle.meaning.specs.Polynomial.{same}
-use Rattle.poly.proofs.equality.Equality.{same_length, same-differ, same_next, same_over}
 use Rattle.poly.proofs.equality.same.Given as goal
 
 abbrev pub invariant-loop-i : goal.invariant-loop-i

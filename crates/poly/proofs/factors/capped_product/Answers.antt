@@ -2,7 +2,6 @@
 -- Assumes nothing.
 use native.Mathlib.Nat.{mul-zero}
 use native.Mathlib.Omega.{arith}
-use borrow.Author.Rules.{rules}
 use Rattle.poly.proofs.factors.Capped.{capped_within, product-beyond, product-within}
 use Rattle.poly.proofs.factors.capped_product.Goals as goal
 

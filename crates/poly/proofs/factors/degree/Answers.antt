@@ -1,7 +1,6 @@
 -- `degree` meets its contract.
 -- Assumes nothing.
 use native.Mathlib.Omega.{arith}
-use borrow.Author.Rules.{rules}
 use Rattle.meaning.specs.Polynomial.{degree}
 use Rattle.poly.proofs.factors.degree.Goals as goal
 

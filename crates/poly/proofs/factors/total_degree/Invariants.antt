@@ -1,15 +1,11 @@
 -- `total_degree` meets its contract. The invariant: sum, at most 4,096, and the total degree from i on are
 -- the whole.
 -- Assumes nothing.
-use Prim.Native.Nat.{◌+◌, ◌*◌, ◌-◌, ◌≤◌, zero-le}
-use native.Mathlib.Nat.{zero-add, min-le_right}
-use native.Mathlib.Omega.{arith}
+use Prim.Native.Nat.{◌+◌, ◌-◌, ◌≤◌}
 use mathlib.Core.Path.{◌≡◌}
 use lib.ListN.{length, drop}
-use borrow.Author.Rules.{rules}
 use Rattle.meaning.specs.Conditions.{named, total_degree}
 use Rattle.meaning.specs.Slices.{lists_of}
-use Rattle.poly.proofs.factors.Totals.{total_over, total-beyond, total-next}
 use Rattle.poly.proofs.factors.total_degree.Given as goal
 
 abbrev pub invariant-loop-i : goal.invariant-loop-i

@@ -1,6 +1,5 @@
 -- `multiples::monic_multiple` meets its contract: the copy is the multiple where f is monic, and else it is
 -- multiplied. Assumes nothing.
-use borrow.Author.Rules.{rules}
 use native.Mathlib.Omega.{arith}
 use Rattle.arith.proofs.Represented.{field-is_field}
 use Rattle.poly.proofs.multiples.MonicMultiples.{factor-nonempty, left_as_copied, left-multiplied}

@@ -1,8 +1,7 @@
 -- `parts::nine_parts` meets its contract: each slice holds its part. Assumes nothing.
 use mathlib.Core.Path.{◌∙◌}
 use native.Mathlib.Omega.{arith}
-use borrow.Author.Rules.{rules}
-use Rattle.poly.proofs.parts.Splitting.{Each, over, ◌&◌, split-length, each_lists}
+use Rattle.poly.proofs.parts.Splitting.{over, ◌&◌, split-length, each_lists}
 use Rattle.poly.proofs.parts.nine_parts.Goals as goal
 
 pub returns : goal.returns

@@ -1,9 +1,7 @@
 -- `parts::part_at` meets its contract. The invariant: part i is part i − j of the bytes from `from` on, cut
 -- by the lengths from j on. The measure is the number of parts that are left. Assumes nothing.
 use Prim.Native.Nat.{◌-◌}
-use native.Mathlib.Omega.{arith}
-use borrow.Author.Rules.{rules}
-use Rattle.poly.proofs.parts.Splitting.{PartFrom, part-start, part-next, part-found}
+use Rattle.poly.proofs.parts.Splitting.{PartFrom}
 use Rattle.poly.proofs.parts.part_at.Given as goal
 
 abbrev pub invariant-loop-j : goal.invariant-loop-j

@@ -1,10 +1,8 @@
 -- `products::multiply` meets its contract. The invariant is `Multiplying`, and the measure b.
 -- Assumes nothing.
 use native.Mathlib.Omega.{arith}
-use borrow.Author.Rules.{rules}
-use Rattle.arith.specs.Represented.{field_of}
 use Rattle.arith.proofs.Represented.{field-is_field}
-use Rattle.poly.proofs.products.Growing.{Multiplying, multiplying_start, multiplying_next}
+use Rattle.poly.proofs.products.Growing.{multiplying_start, multiplying_next}
 use Rattle.poly.proofs.products.Growing.{multiplying_end}
 use Rattle.poly.proofs.products.Growing.{next-below}
 use Rattle.poly.proofs.products.multiply.Goals as goal

@@ -1,6 +1,5 @@
 -- `products::times_spread` meets its contract: zeros are written after the polynomial, and then it is
 -- multiplied. Assumes nothing.
-use borrow.Author.Rules.{rules}
 use Rattle.arith.proofs.Represented.{field-is_field}
 use Rattle.poly.proofs.products.Zeros.{growing_padded, padded_grown}
 use Rattle.poly.proofs.products.times_spread.Goals as goal

@@ -1,6 +1,5 @@
 -- `raising::times_level` meets its contract. Assumes nothing.
 use mathlib.Core.Path.{subst}
-use borrow.Author.Rules.{rules}
 use Rattle.meaning.specs.Polynomial.{power}
 use Rattle.arith.specs.Represented.{field_of}
 use Rattle.lent.proofs.raising.Levels.{raised-part}

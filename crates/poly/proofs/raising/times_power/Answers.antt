@@ -2,11 +2,10 @@
 -- Assumes nothing.
 use Prim.Native.Nat.{◌≤◌}
 use mathlib.Core.Path.{◌≡◌, sym, subst}
-use borrow.Author.Rules.{rules}
 use native.Mathlib.Nat.{div-lt_self}
 use native.Mathlib.Omega.{arith}
 use Rattle.arith.proofs.Represented.{characteristic_least, characteristic_most}
-use Rattle.poly.proofs.raising.Raising.{Raised, raised-start, raised-next, raised-end, raised_growing}
+use Rattle.poly.proofs.raising.Raising.{raised-start, raised-next, raised-end, raised_growing}
 use Rattle.poly.proofs.raising.Raising.{raised-elements, raised-length, raised_levelled, place-fits}
 use Rattle.poly.proofs.raising.Raising.{exponent-fits}
 use Rattle.poly.proofs.raising.times_power.Goals as goal

@@ -1,11 +1,6 @@
 -- `raising::times_spreads` meets its contract. The invariant: the product with k of the factors.
 -- Assumes nothing.
-use Prim.Native.Nat.{◌-◌, ◌≤◌}
-use Rattle.meaning.specs.Polynomial.{power}
-use Rattle.bridge.proofs.Lists.Spread.{spread}
-use Rattle.arith.specs.Represented.{field_of}
 use Rattle.arith.proofs.Represented.{field-is_field}
-use Rattle.poly.specs.products.Product.{Multiplied}
 use Rattle.poly.proofs.raising.Repeating.{repeat_none, repeat_more, repeat_growing, repeat_length_lem}
 use Rattle.poly.proofs.raising.Repeating.{repeat_all}
 use native.Mathlib.Omega.{arith}

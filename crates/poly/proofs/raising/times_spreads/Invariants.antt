@@ -4,11 +4,7 @@ use Prim.Native.Nat.{◌-◌, ◌≤◌}
 use Rattle.meaning.specs.Polynomial.{power}
 use Rattle.bridge.proofs.Lists.Spread.{spread}
 use Rattle.arith.specs.Represented.{field_of}
-use Rattle.arith.proofs.Represented.{field-is_field}
 use Rattle.poly.specs.products.Product.{Multiplied}
-use Rattle.poly.proofs.raising.Repeating.{repeat_none, repeat_more, repeat_growing, repeat_length_lem}
-use Rattle.poly.proofs.raising.Repeating.{repeat_all}
-use native.Mathlib.Omega.{arith}
 use Rattle.poly.proofs.raising.times_spreads.Given as goal
 
 abbrev pub invariant-loop-k : goal.invariant-loop-k

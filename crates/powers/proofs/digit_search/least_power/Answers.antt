@@ -1,7 +1,7 @@
 -- `digit_search::least_power` meets its contract. Assumes nothing.
-use Prim.Native.Nat.{ℕ, ◌+◌, ◌*◌, ◌-◌, ◌/◌, ◌≤◌, ◌<◌}
+use Prim.Native.Nat.{ℕ, ◌+◌, ◌*◌, ◌-◌, ◌/◌, ◌≤◌}
 use mathlib.Core.Logic.{◌⊎◌, inl, inr}
-use mathlib.Core.Path.{◌≡◌, refl, sym, ap, subst, ◌∙◌}
+use mathlib.Core.Path.{◌≡◌, sym, ap, subst, ◌∙◌}
 use mathlib.Core.Bool.{Bool, false}
 use mathlib.Core.List.{List}
 use native.Mathlib.Nat as ℕ
@@ -11,18 +11,17 @@ use Rattle.meaning.specs.Polynomial.{degree}
 use Rattle.bridge.proofs.Basics.Searches.{true-T, false-T}
 use Rattle.bridge.proofs.Sequences.KnownActions.{all_zero}
 use Rattle.arith.proofs.Represented.{field-is_field, characteristic_least, characteristic_most}
-use Rattle.lent.specs.halves.Halves.{half, Halves}
-use Rattle.lent.specs.halves.Kept.{Kept}
+use Rattle.lent.specs.halves.Halves.{half}
 use Rattle.lent.proofs.halves.Bytes.{lent-half, acted-values, acted-same, acted_halves, acted-again}
 use Rattle.lent.proofs.halves.Bytes.{acted-zero, acted-nonzero, acted-enough, acted-kept, kept_same}
 use Rattle.lent.proofs.halves.Bytes.{kept_trans}
 use Rattle.powers.proofs.digit_search.Trying.{Trying, Tried, trying_none, trying_more, trying_stop}
-use Rattle.powers.proofs.digit_search.Trying.{trying_all, tried-low}
+use Rattle.powers.proofs.digit_search.Trying.{trying_all}
 use Rattle.arith.specs.declared.field.GaloisField.{GaloisField}
 use Rattle.arith.specs.Represented.{WellFormed}
-use Rattle.powers.proofs.digit_search.Seeking.{step_of, Seeking, Going, seeking_start, seeking_zero}
+use Rattle.powers.proofs.digit_search.Seeking.{Seeking, Going, seeking_start, seeking_zero}
 use Rattle.powers.proofs.digit_search.Seeking.{seeking_first, seeking_later, going_end}
-use Rattle.powers.proofs.digit_search.Seeking.{level_below, near_below, going_fits, going_next}
+use Rattle.powers.proofs.digit_search.Seeking.{level_below, near_below, going_next}
 use Rattle.powers.proofs.digit_search.least_power.Goals as goal
 use Rattle.powers.proofs.digit_search.least_power.Goals.{then-power-eq0, else-power-eq0}
 use Rattle.powers.proofs.digit_search.least_power.Goals.{then-i-p, else-i-p+then-act_at_level}

@@ -1,9 +1,6 @@
 -- `levels::level_dividing` meets its contract. The invariant: n is power·rest, and `power` is p^exponent. The
 -- measure is the rest. Assumes nothing.
-use native.Mathlib.Omega.{arith}
-use Rattle.powers.proofs.levels.Climbing.{Splitting, splitting_none, splitting_more, splitting_end}
-use Rattle.powers.proofs.levels.Climbing.{splitting_low, splitting_exponent, splitting_falls}
-use Rattle.powers.proofs.levels.Climbing.{product_small}
+use Rattle.powers.proofs.levels.Climbing.{Splitting}
 use Rattle.powers.proofs.levels.level_dividing.Given as goal
 
 abbrev pub invariant-loop-rest : goal.invariant-loop-rest

@@ -1,8 +1,7 @@
 -- `levels::level_reaching` meets its contract. The invariant: `power` is p^exponent, and the power before it
 -- is less than r. The measure is how much is missing to r. Assumes nothing.
-use Prim.Native.Nat.{◌-◌, ◌<◌}
 use native.Mathlib.Omega.{arith}
-use Rattle.powers.proofs.levels.Climbing.{Climbing, climbing_none, climbing_more, climbing_end}
+use Rattle.powers.proofs.levels.Climbing.{climbing_none, climbing_more, climbing_end}
 use Rattle.powers.proofs.levels.Climbing.{climbing_exponent, climbing_rises, product_small}
 use Rattle.powers.proofs.levels.level_reaching.Goals as goal
 

@@ -1,5 +1,4 @@
 -- `product::write_power` meets its contract. Assumes nothing.
-use borrow.Author.Rules.{rules}
 use Rattle.arith.proofs.Represented.{field-is_field}
 use Rattle.meaning.specs.Slices.{lists_of}
 use Rattle.powers.proofs.product.Products.{one_input, one_written}

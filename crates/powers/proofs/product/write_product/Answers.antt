@@ -1,11 +1,10 @@
 -- `product::write_product` meets its contract. The invariant: the product of the powers of the factors
 -- before i is written, and n is its degree. The measure is the number of factors that are left. Assumes
 -- nothing.
-use Prim.Native.Nat.{◌-◌, ◌<◌}
-use mathlib.Core.Path.{◌≡◌, refl, sym, subst, ◌∙◌}
+use Prim.Native.Nat.{◌<◌}
+use mathlib.Core.Path.{refl, sym, subst, ◌∙◌}
 use native.Mathlib.Omega.{arith}
 use lib.ListN.{length, get_or, length-set}
-use borrow.Author.Rules.{rules}
 use Rattle.meaning.specs.Polynomial.{power}
 use Rattle.arith.specs.Represented.{field_of}
 use Rattle.arith.proofs.Represented.{field-is_field}
@@ -13,7 +12,7 @@ use Rattle.meaning.specs.Slices.{lists_of}
 use Rattle.meaning.proofs.Slices.{lists_length, lists_at}
 use Rattle.poly.specs.products.Product.{Multiplied}
 use Rattle.poly.specs.raising.Raising.{Raising}
-use Rattle.powers.proofs.product.Products.{Multiplying, multiplying_start, multiplying_end}
+use Rattle.powers.proofs.product.Products.{multiplying_start, multiplying_end}
 use Rattle.powers.proofs.product.Products.{multiplying_raising, multiplying_more}
 use Rattle.powers.proofs.product.write_product.Goals as goal
 

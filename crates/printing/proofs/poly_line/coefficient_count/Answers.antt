@@ -1,6 +1,5 @@
 -- `coefficient_count` meets its contract: at each arm the outcome is the one that the arm names.
 -- Assumes nothing.
-use borrow.Author.Rules.{rules}
 use mathlib.Core.Path.{sym, ap, ◌∙◌}
 use Rattle.printing.specs.poly_line.PolyLine.{coefficient_count}
 use Rattle.printing.proofs.poly_line.coefficient_count.Goals as goal

@@ -1,7 +1,6 @@
 -- `put_poly` meets its contract: nothing, or the word, the coefficients and the line feed.
 -- Assumes nothing.
 use native.Mathlib.Omega.{arith}
-use borrow.Author.Rules.{rules}
 use Prim.Native.Nat.{◌-◌}
 use native.Mathlib.Nat.{sub-zero}
 use mathlib.Core.Path.{ap, ◌∙◌}

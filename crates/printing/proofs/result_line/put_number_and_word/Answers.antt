@@ -1,7 +1,6 @@
 -- `put_number_and_word` meets its contract: the digits, of which there are at most 20, and the word.
 -- Assumes nothing.
 use native.Mathlib.Omega.{arith}
-use borrow.Author.Rules.{rules}
 use Rattle.printing.proofs.words.Putting.{put_join}
 use Rattle.printing.proofs.words.Decimals.{word-digits}
 use Rattle.printing.proofs.result_line.put_number_and_word.Goals as goal

@@ -1,7 +1,6 @@
 -- `put_powers_line` meets its contract: the start, as many powers as are counted, and the line feed.
 -- Assumes nothing.
 use native.Mathlib.Omega.{arith}
-use borrow.Author.Rules.{rules}
 use Prim.Native.Nat.{◌-◌}
 use native.Mathlib.Nat.{sub-zero}
 use mathlib.Core.Path.{◌≡◌, ap, ◌∙◌}

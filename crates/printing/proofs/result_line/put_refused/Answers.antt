@@ -1,7 +1,6 @@
 -- `put_refused` meets its contract: the parts of the line are put one after the other.
 -- Assumes nothing.
 use native.Mathlib.Omega.{arith}
-use borrow.Author.Rules.{rules}
 use Rattle.meaning.specs.Print.{text}
 use Rattle.printing.proofs.words.Putting.{put_join, put_as}
 use Rattle.printing.proofs.result_line.Parts.{refused_parts}

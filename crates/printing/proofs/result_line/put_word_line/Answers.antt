@@ -1,7 +1,6 @@
 -- `put_word_line` meets its contract: the start, the word and the line feed.
 -- Assumes nothing.
 use native.Mathlib.Omega.{arith}
-use borrow.Author.Rules.{rules}
 use Rattle.meaning.specs.Print.{text}
 use Rattle.printing.proofs.words.Putting.{put_join, put_as}
 use Rattle.printing.proofs.result_line.Parts.{rated-parts}

@@ -3,13 +3,12 @@
 -- Assumes nothing.
 use borrow.Author.Rules.{rules}
 use native.Mathlib.Omega.{arith}
-use Prim.Native.Nat.{◌+◌, ◌-◌, ◌*◌, ◌≤◌}
-use mathlib.Core.Path.{◌≡◌, refl, ap, ◌∙◌}
+use mathlib.Core.Path.{refl, ap, ◌∙◌}
 use mathlib.Core.List.{map}
-use lib.ListN.{length, take, length-set}
+use lib.ListN.{length-set}
 use lib.Seq.{take_all}
 use Rattle.meaning.specs.Print.{text, decimal}
-use Rattle.printing.specs.words.Words.{Put, led}
+use Rattle.printing.specs.words.Words.{led}
 use Rattle.printing.proofs.words.Putting.{put_none, put_as}
 use Rattle.printing.proofs.words.Decimals.{word-digits}
 use Rattle.printing.proofs.words.Joining.{put_led}

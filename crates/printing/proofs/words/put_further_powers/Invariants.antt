@@ -1,18 +1,12 @@
 -- `put_further_powers` meets its contract: after i turns the first i powers are put, each with a comma
 -- before it and of at most 21 bytes with it.
 -- Assumes nothing.
-use borrow.Author.Rules.{rules}
-use native.Mathlib.Omega.{arith}
 use Prim.Native.Nat.{◌+◌, ◌-◌, ◌*◌, ◌≤◌}
-use mathlib.Core.Path.{◌≡◌, refl, ap, ◌∙◌}
+use mathlib.Core.Path.{◌≡◌}
 use mathlib.Core.List.{map}
-use lib.ListN.{length, take, length-set}
-use lib.Seq.{take_all}
+use lib.ListN.{length, take}
 use Rattle.meaning.specs.Print.{text, decimal}
 use Rattle.printing.specs.words.Words.{Put, led}
-use Rattle.printing.proofs.words.Putting.{put_none, put_as}
-use Rattle.printing.proofs.words.Decimals.{word-digits}
-use Rattle.printing.proofs.words.Joining.{put_led}
 use Rattle.printing.proofs.words.put_further_powers.Given as goal
 
 abbrev pub invariant-loop-i : goal.invariant-loop-i

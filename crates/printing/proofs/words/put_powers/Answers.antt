@@ -1,7 +1,6 @@
 -- `put_powers` meets its contract: the first power is put, then the others, each with a comma before it.
 -- Assumes nothing.
 use native.Mathlib.Omega.{arith}
-use borrow.Author.Rules.{rules}
 use Prim.Native.Nat.{◌-◌}
 use mathlib.Core.Path.{ap}
 use mathlib.Core.List.{map}

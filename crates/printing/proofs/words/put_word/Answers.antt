@@ -2,11 +2,9 @@
 -- Assumes nothing.
 use borrow.Author.Rules.{rules}
 use native.Mathlib.Omega.{arith}
-use Prim.Native.Nat.{◌+◌, ◌-◌, ◌≤◌}
-use mathlib.Core.Path.{◌≡◌, refl}
-use lib.ListN.{length, take, length-set}
+use mathlib.Core.Path.{refl}
+use lib.ListN.{length-set}
 use lib.Seq.{take_all}
-use Rattle.printing.specs.words.Words.{Put}
 use Rattle.printing.proofs.words.Putting.{put_none, put_more, put_as}
 use Rattle.printing.proofs.words.put_word.Goals as goal
 

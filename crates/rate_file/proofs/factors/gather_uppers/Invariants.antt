@@ -1,14 +1,10 @@
 -- `gather_uppers` meets its contract. The invariant: the first i upper powers stand in their places.
 -- Assumes nothing.
 use Prim.Native.Nat.{◌-◌, ◌≤◌}
-use native.Mathlib.Omega.{arith}
-use mathlib.Core.Path.{◌≡◌, refl}
+use mathlib.Core.Path.{◌≡◌}
 use mathlib.Core.List.{map}
-use lib.ListN.{length, take, length-set}
-use borrow.Author.Rules.{rules}
-use Rattle.meaning.specs.File.{file_factor}
+use lib.ListN.{length, take}
 use Rattle.rate_file.specs.factors.Written.{factors_in}
-use Rattle.rate_file.proofs.factors.Places.{number-next, numbers-all}
 use Rattle.rate_file.proofs.factors.gather_uppers.Given as goal
 
 abbrev pub invariant-loop-i : goal.invariant-loop-i

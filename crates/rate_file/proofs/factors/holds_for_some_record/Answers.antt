@@ -1,14 +1,8 @@
 -- `holds_for_some_record` meets its contract. The invariant: the records from i on decide.
 -- Assumes nothing.
-use Prim.Native.Nat.{◌-◌}
 use native.Mathlib.Omega.{arith}
-use mathlib.Core.Path.{◌≡◌, refl, sym, ◌∙◌}
+use mathlib.Core.Path.{refl, sym, ◌∙◌}
 use mathlib.Core.List.{[]}
-use lib.ListN.{drop}
-use borrow.Author.Rules.{rules}
-use Rattle.meaning.specs.Search.{holds_for_some}
-use Rattle.arith.specs.Represented.{field_of}
-use Rattle.refusals.specs.conditions.factors.Factors.{holds_of}
 use Rattle.refusals.proofs.conditions.factors.Scan.{some-scan, scan-found, scan-next, scan_over}
 use Rattle.rate_file.specs.factors.Written.{bodies_in}
 use Rattle.rate_file.proofs.factors.holds_for_some_record.Goals as goal

@@ -1,13 +1,11 @@
 -- `pack_factors` meets its contract. The invariant is `Packing`, and the measure the number of factors that
 -- are left. Assumes nothing.
-use Prim.Native.Nat.{◌-◌}
 use native.Mathlib.Omega.{arith}
 use mathlib.Core.Path.{refl, sym, ◌∙◌}
 use lib.ListN.{length-map}
-use borrow.Author.Rules.{rules}
-use Rattle.poly.proofs.parts.Packing.{Packing, packing_start, packed}
+use Rattle.poly.proofs.parts.Packing.{packing_start, packed}
 use Rattle.meaning.specs.File.{polynomial_of}
-use Rattle.rate_file.specs.factors.Written.{factors_in, polynomials_in}
+use Rattle.rate_file.specs.factors.Written.{factors_in}
 use Rattle.rate_file.proofs.factors.Places.{factor-place, factor-room, factor-packed}
 use Rattle.rate_file.proofs.factors.pack_factors.Goals as goal
 

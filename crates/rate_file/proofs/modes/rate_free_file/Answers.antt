@@ -1,6 +1,5 @@
 -- `modes::rate_free_file` meets its contract.
 -- Assumes nothing.
-use borrow.Author.Rules.{rules}
 use Rattle.rate_file.proofs.modes.Calls.{free-rated}
 use Rattle.rate_file.proofs.modes.rate_free_file.Goals as goal
 

@@ -4,7 +4,6 @@ use mathlib.Core.Path.{◌≡◌, sym, ap, ◌∙◌}
 use mathlib.Core.List.{[]}
 use native.Mathlib.Omega.{arith}
 use lib.ListN.{length, get_or}
-use borrow.Author.Rules.{rules}
 use Rattle.irreducible.proofs.Accepted.{accepted-short}
 use Rattle.rate_file.specs.factors.Written.{polynomials_in}
 use Rattle.rate_file.proofs.factors.Places.{polynomial-at, front-factor}

@@ -6,7 +6,6 @@ use native.Mathlib.Omega.{arith}
 use mathlib.Core.Path.{◌≡◌, ap, ◌∙◌}
 use mathlib.Core.List.{List, map, flatten}
 use lib.ListN.{length, take, drop, length-map}
-use borrow.Author.Rules.{rules}
 use Rattle.meaning.specs.Field.{Field}
 use Rattle.meaning.specs.File.{polynomial_of}
 use Rattle.meaning.specs.Slices.{lists_of}

@@ -1,6 +1,5 @@
 -- `outcomes::of_free` meets its contract.
 -- Assumes nothing.
-use borrow.Author.Rules.{rules}
 use Rattle.rate_file.proofs.outcomes.Figures.{free_refused, free-unique, free_several}
 use Rattle.rate_file.proofs.outcomes.of_free.Goals as goal
 

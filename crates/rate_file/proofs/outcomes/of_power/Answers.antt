@@ -1,6 +1,5 @@
 -- `outcomes::of_power` meets its contract.
 -- Assumes nothing.
-use borrow.Author.Rules.{rules}
 use Rattle.rate_file.proofs.outcomes.Figures.{power_refused, power-rated}
 use Rattle.rate_file.proofs.outcomes.of_power.Goals as goal
 

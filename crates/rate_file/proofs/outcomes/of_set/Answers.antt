@@ -1,6 +1,5 @@
 -- `outcomes::of_set` meets its contract.
 -- Assumes nothing.
-use borrow.Author.Rules.{rules}
 use Rattle.rate_file.proofs.outcomes.Figures.{set_refused, set_told}
 use Rattle.rate_file.proofs.outcomes.of_set.Goals as goal
 

@@ -2,7 +2,6 @@
 -- Assumes nothing.
 use mathlib.Core.Path.{◌≡◌}
 use Prim.Native.Nat.{ℕ}
-use borrow.Author.Rules.{rules}
 use Rattle.meaning.specs.declared.FieldName.{FieldName}
 use Rattle.rate_file.proofs.records.binary_name.Goals as goal
 

@@ -1,7 +1,6 @@
 -- `rate_accepted` meets its contract: a law of the records at each way out.
 -- Assumes nothing.
 use mathlib.Core.Path.{◌≡◌}
-use borrow.Author.Rules.{rules}
 use Rattle.bridge.proofs.Basics.Interpretation.{IsField}
 use Rattle.arith.specs.Represented.{field_of}
 use Rattle.arith.proofs.Represented.{field-is_field}

@@ -1,6 +1,5 @@
 -- `rate_in` meets its contract: the terms are refused, or else the rest decides.
 -- Assumes nothing.
-use borrow.Author.Rules.{rules}
 use Rattle.arith.proofs.Represented.{field-is_field}
 use Rattle.rate_file.proofs.modes.Calls.{refused_rated}
 use Rattle.rate_file.proofs.records.Rates.{terms-number, rateable, records-terms}

@@ -1,6 +1,5 @@
 -- `rate_records` meets its contract: the name of the field is refused, or the records are rated in it.
 -- Assumes nothing.
-use borrow.Author.Rules.{rules}
 use Rattle.arith.proofs.Door.{made-named}
 use Rattle.rate_file.proofs.records.Rates.{name_refused, name-made}
 use Rattle.rate_file.proofs.records.rate_records.Goals as goal

@@ -2,7 +2,6 @@
 -- Assumes nothing.
 use mathlib.Core.Path.{sym, ◌∙◌}
 use mathlib.Core.List.{List}
-use borrow.Author.Rules.{rules}
 use Rattle.meaning.specs.Result.{Check}
 use Rattle.meaning.specs.Answers.{number_of}
 use Rattle.meaning.specs.Irreducibility.{irreducible_table}

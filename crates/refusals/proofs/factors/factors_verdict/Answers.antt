@@ -3,7 +3,6 @@
 use mathlib.Core.Path.{◌≡◌, sym, ap, ◌∙◌}
 use mathlib.Core.List.{List}
 use lib.ListN.{length}
-use borrow.Author.Rules.{rules}
 use Rattle.meaning.specs.Result.{Check}
 use Rattle.meaning.specs.Answers.{number_of}
 use Rattle.meaning.specs.Conditions.{factor_count_out_of_range}

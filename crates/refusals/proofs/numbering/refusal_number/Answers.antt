@@ -1,7 +1,6 @@
 -- `refusal_number` meets its contract: at each arm the refusal is the one that the arm names.
 -- Assumes nothing.
 use mathlib.Core.Path.{sym, ap}
-use borrow.Author.Rules.{rules}
 use Rattle.meaning.specs.Answers.{number_of}
 use Rattle.refusals.proofs.numbering.refusal_number.Goals as goal
 

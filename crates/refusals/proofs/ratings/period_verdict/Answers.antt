@@ -1,7 +1,6 @@
 -- `ratings::period_verdict` meets its contract: the multiple is reducible, or else the rest decides.
 -- Assumes nothing.
 use mathlib.Core.Path.{sym, ◌∙◌}
-use borrow.Author.Rules.{rules}
 use Rattle.meaning.specs.Answers.{number_of}
 use Rattle.refusals.specs.Verdicts.{number_in, period_rest}
 use Rattle.refusals.proofs.Order.{first_here, first_skip}

@@ -3,7 +3,6 @@
 use Prim.Native.Nat.{ℕ}
 use mathlib.Core.Path.{◌≡◌, sym, ap, ◌∙◌}
 use mathlib.Core.List.{List}
-use borrow.Author.Rules.{rules}
 use Rattle.meaning.specs.Result.{Check}
 use Rattle.meaning.specs.Answers.{number_of}
 use Rattle.meaning.specs.Polynomial.{Polynomial}

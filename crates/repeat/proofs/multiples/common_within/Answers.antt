@@ -1,6 +1,5 @@
 -- `multiples::common_within` meets its contract. Assumes nothing.
 use mathlib.Core.Path.{◌∙◌}
-use borrow.Author.Rules.{rules}
 use Rattle.repeat.proofs.multiples.Trying.{common_swapped, common_none}
 use Rattle.repeat.proofs.multiples.common_within.Goals as goal
 

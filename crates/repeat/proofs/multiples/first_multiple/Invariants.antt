@@ -1,10 +1,7 @@
 -- `multiples::first_multiple` meets its contract. The invariant is `Trying`, and the measure what is left of
 -- the limit. Assumes nothing.
 use Prim.Native.Nat.{◌+◌, ◌-◌, ◌≤◌}
-use native.Mathlib.Omega.{arith}
-use borrow.Author.Rules.{rules}
-use Rattle.repeat.proofs.multiples.Trying.{Trying, trying_start, trying_next, trying_found}
-use Rattle.repeat.proofs.multiples.Trying.{trying_missing}
+use Rattle.repeat.proofs.multiples.Trying.{Trying}
 use Rattle.repeat.proofs.multiples.first_multiple.Given as goal
 
 abbrev pub invariant-loop-k : goal.invariant-loop-k

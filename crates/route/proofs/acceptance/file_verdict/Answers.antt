@@ -1,7 +1,6 @@
 -- `acceptance::file_verdict` meets its contract: each way out is a law of the records.
 -- Assumes nothing.
 use mathlib.Core.Path.{sym, ap, ◌∙◌}
-use borrow.Author.Rules.{rules}
 use Rattle.meaning.specs.Answers.{number_of}
 use Rattle.route.specs.walk.Walking.{told_verdict}
 use Rattle.route.proofs.acceptance.Accepting.{verdict_long, verdict_refused, verdict_unsuited}

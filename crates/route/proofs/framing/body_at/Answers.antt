@@ -1,7 +1,6 @@
 -- `framing::body_at` meets its contract.
 -- Assumes nothing.
 use mathlib.Core.Path.{◌∙◌}
-use borrow.Author.Rules.{rules}
 use Rattle.meaning.specs.Route.{end_record}
 use Rattle.route.specs.framing.Framing.{record_at}
 use Rattle.route.proofs.framing.Frames.{from_inside, from_over}

@@ -1,14 +1,11 @@
 -- `framing::body_of` meets its contract. Body `left` of those from `at` on is body i of all, and at `at`
 -- there is a record of the kind, or the file is over.
 -- Assumes nothing.
-use Prim.Native.Nat.{◌<◌}
 use mathlib.Core.Path.{◌≡◌, ap, ◌∙◌}
 use mathlib.Core.List.{[]}
 use native.Mathlib.Omega.{arith}
 use borrow.Author.Rules.{rules}
-use lib.ListN.{length, get_or}
-use Rattle.meaning.specs.Route.{bodies}
-use Rattle.route.specs.framing.Framing.{records_from}
+use lib.ListN.{get_or}
 use Rattle.route.proofs.framing.Frames.{get_or-sought, get_d_over, body_here}
 use Rattle.route.proofs.framing.body_of.Goals as goal
 

@@ -2,14 +2,11 @@
 -- there is a record of the kind, or the file is over.
 -- Assumes nothing.
 use Prim.Native.Nat.{◌<◌}
-use mathlib.Core.Path.{◌≡◌, ap, ◌∙◌}
+use mathlib.Core.Path.{◌≡◌}
 use mathlib.Core.List.{[]}
-use native.Mathlib.Omega.{arith}
-use borrow.Author.Rules.{rules}
 use lib.ListN.{length, get_or}
 use Rattle.meaning.specs.Route.{bodies}
 use Rattle.route.specs.framing.Framing.{records_from}
-use Rattle.route.proofs.framing.Frames.{get_or-sought, get_d_over, body_here}
 use Rattle.route.proofs.framing.body_of.Given as goal
 
 abbrev pub invariant-loop-left : goal.invariant-loop-left

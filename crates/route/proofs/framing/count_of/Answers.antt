@@ -1,14 +1,11 @@
 -- `framing::count_of` meets its contract. The count and the records of the kind from `at` on are all of the
 -- kind; each that is counted lies before `at`, so the count does not wrap.
 -- Assumes nothing.
-use Prim.Native.Nat.{◌+◌, ◌-◌, ◌<◌, ◌≤◌}
-use mathlib.Core.Path.{◌≡◌, ap, ◌∙◌}
+use mathlib.Core.Path.{ap, ◌∙◌}
 use native.Mathlib.Nat.{zero-add}
 use native.Mathlib.Omega.{arith}
 use borrow.Author.Rules.{rules}
-use lib.ListN.{length, get_or}
-use Rattle.meaning.specs.Route.{bodies}
-use Rattle.route.specs.framing.Framing.{records_from}
+use lib.ListN.{length}
 use Rattle.route.proofs.framing.Frames.{length-sought, length_over}
 use Rattle.route.proofs.framing.count_of.Goals as goal
 

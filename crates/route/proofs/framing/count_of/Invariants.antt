@@ -2,14 +2,10 @@
 -- kind; each that is counted lies before `at`, so the count does not wrap.
 -- Assumes nothing.
 use Prim.Native.Nat.{◌+◌, ◌-◌, ◌<◌, ◌≤◌}
-use mathlib.Core.Path.{◌≡◌, ap, ◌∙◌}
-use native.Mathlib.Nat.{zero-add}
-use native.Mathlib.Omega.{arith}
-use borrow.Author.Rules.{rules}
+use mathlib.Core.Path.{◌≡◌}
 use lib.ListN.{length, get_or}
 use Rattle.meaning.specs.Route.{bodies}
 use Rattle.route.specs.framing.Framing.{records_from}
-use Rattle.route.proofs.framing.Frames.{length-sought, length_over}
 use Rattle.route.proofs.framing.count_of.Given as goal
 
 abbrev pub invariant-loop-at : goal.invariant-loop-at

@@ -1,6 +1,5 @@
 -- `framing::kind_at` meets its contract.
 -- Assumes nothing.
-use borrow.Author.Rules.{rules}
 use Rattle.meaning.specs.Route.{end_record}
 use Rattle.route.specs.framing.Framing.{record_at}
 use Rattle.route.proofs.framing.Frames.{from_inside, from_over}

@@ -4,8 +4,6 @@
 use mathlib.Core.Path.{◌≡◌, refl, sym, ◌∙◌}
 use native.Mathlib.Omega.{arith}
 use borrow.Author.Rules.{rules}
-use lib.ListN.{drop}
-use Rattle.route.specs.framing.Framing.{records_from}
 use Rattle.route.proofs.framing.Frames.{over_drop, drop-next}
 use Rattle.route.proofs.framing.place_of.Goals as goal
 

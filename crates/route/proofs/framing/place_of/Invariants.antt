@@ -1,12 +1,9 @@
 -- `framing::place_of` meets its contract. The records from `at` on, less `left` of them, are all records less
 -- n.
 -- Assumes nothing.
-use mathlib.Core.Path.{◌≡◌, refl, sym, ◌∙◌}
-use native.Mathlib.Omega.{arith}
-use borrow.Author.Rules.{rules}
+use mathlib.Core.Path.{◌≡◌}
 use lib.ListN.{drop}
 use Rattle.route.specs.framing.Framing.{records_from}
-use Rattle.route.proofs.framing.Frames.{over_drop, drop-next}
 use Rattle.route.proofs.framing.place_of.Given as goal
 
 abbrev pub invariant-loop-left : goal.invariant-loop-left

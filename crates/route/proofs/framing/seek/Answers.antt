@@ -1,12 +1,8 @@
 -- `framing::seek` meets its contract. No record of the kind lies between `at` and `here`.
 -- Assumes nothing.
-use Prim.Native.Nat.{◌≤◌, ◌-◌}
-use mathlib.Core.Path.{◌≡◌, refl, ◌∙◌}
+use mathlib.Core.Path.{refl, ◌∙◌}
 use native.Mathlib.Omega.{arith}
 use borrow.Author.Rules.{rules}
-use lib.ListN.{length}
-use Rattle.meaning.specs.Route.{bodies}
-use Rattle.route.specs.framing.Framing.{records_from}
 use Rattle.route.proofs.framing.Frames.{bodies-next}
 use Rattle.route.proofs.framing.seek.Goals as goal
 

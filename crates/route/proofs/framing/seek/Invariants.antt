@@ -1,13 +1,10 @@
 -- `framing::seek` meets its contract. No record of the kind lies between `at` and `here`.
 -- Assumes nothing.
 use Prim.Native.Nat.{◌≤◌, ◌-◌}
-use mathlib.Core.Path.{◌≡◌, refl, ◌∙◌}
-use native.Mathlib.Omega.{arith}
-use borrow.Author.Rules.{rules}
+use mathlib.Core.Path.{◌≡◌}
 use lib.ListN.{length}
 use Rattle.meaning.specs.Route.{bodies}
 use Rattle.route.specs.framing.Framing.{records_from}
-use Rattle.route.proofs.framing.Frames.{bodies-next}
 use Rattle.route.proofs.framing.seek.Given as goal
 
 abbrev pub invariant-loop-here : goal.invariant-loop-here

@@ -1,13 +1,9 @@
 -- `payload::big_endian` meets its contract. n is below 256^i, so it does not wrap.
 -- Assumes nothing.
 use Prim.Native.Nat.{◌-◌, ◌*◌, ◌^◌, ◌<◌, ◌≤◌}
-use mathlib.Core.Path.{◌≡◌, sym, ◌∙◌}
-use native.Mathlib.Omega.{arith}
-use borrow.Author.Rules.{rules}
-use lib.ListN.{length, get_or, drop}
+use mathlib.Core.Path.{◌≡◌}
+use lib.ListN.{length, drop}
 use Rattle.meaning.specs.Route.{appended, number}
-use Rattle.bridge.proofs.Basics.Bytes.{number-below, number_fits}
-use Rattle.route.proofs.payload.Numbers.{number-start, number_more, number-end}
 use Rattle.route.proofs.payload.big_endian.Given as goal
 
 abbrev pub invariant-loop-i : goal.invariant-loop-i

@@ -1,7 +1,6 @@
 -- `payload::byte_at` meets its contract.
 -- Assumes nothing.
 use mathlib.Core.Path.{sym}
-use borrow.Author.Rules.{rules}
 use lib.ListN.{get_or-eq_default}
 use Rattle.route.proofs.payload.byte_at.Goals as goal
 

@@ -1,7 +1,6 @@
 -- `payload::byte_of` meets its contract.
 -- Assumes nothing.
 use mathlib.Core.Path.{ap, ◌∙◌}
-use borrow.Author.Rules.{rules}
 use lib.ListN.{get_or}
 use Rattle.meaning.specs.Route.{byte_of}
 use Rattle.route.proofs.payload.byte_of.Goals as goal

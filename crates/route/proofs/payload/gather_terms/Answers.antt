@@ -2,15 +2,11 @@
 -- their stores leave what all stores leave, and at most `at` terms lie before `at`, so the count does not
 -- wrap.
 -- Assumes nothing.
-use Prim.Native.Nat.{◌+◌, ◌-◌, ◌≤◌}
-use mathlib.Core.Path.{◌≡◌, refl, sym, ap, ◌∙◌}
+use mathlib.Core.Path.{refl, sym, ap, ◌∙◌}
 use native.Mathlib.Nat.{zero-add}
 use native.Mathlib.Omega.{arith}
 use borrow.Author.Rules.{rules}
 use lib.ListN.{length, get_or}
-use lib.Seq.{sets}
-use Rattle.meaning.specs.File.{terms_of}
-use Rattle.route.specs.framing.Framing.{records_from}
 use Rattle.route.proofs.framing.Frames.{length-small}
 use Rattle.route.proofs.payload.Terms.{count-split, stores_split, terms-short, terms_over}
 use Rattle.route.proofs.payload.gather_terms.Goals as goal

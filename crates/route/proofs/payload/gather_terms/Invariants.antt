@@ -3,16 +3,11 @@
 -- wrap.
 -- Assumes nothing.
 use Prim.Native.Nat.{◌+◌, ◌-◌, ◌≤◌}
-use mathlib.Core.Path.{◌≡◌, refl, sym, ap, ◌∙◌}
-use native.Mathlib.Nat.{zero-add}
-use native.Mathlib.Omega.{arith}
-use borrow.Author.Rules.{rules}
-use lib.ListN.{length, get_or}
+use mathlib.Core.Path.{◌≡◌}
+use lib.ListN.{length}
 use lib.Seq.{sets}
 use Rattle.meaning.specs.File.{terms_of}
 use Rattle.route.specs.framing.Framing.{records_from}
-use Rattle.route.proofs.framing.Frames.{length-small}
-use Rattle.route.proofs.payload.Terms.{count-split, stores_split, terms-short, terms_over}
 use Rattle.route.proofs.payload.gather_terms.Given as goal
 
 abbrev pub invariant-loop-at : goal.invariant-loop-at

@@ -1,12 +1,10 @@
 -- `payload::lay` meets its contract. What is left to store, from `place` on, leaves what all stores leave;
 -- stores past the end leave nothing.
 -- Assumes nothing.
-use Prim.Native.Nat.{◌-◌, ◌≤◌}
-use mathlib.Core.Path.{◌≡◌, refl, sym, ◌∙◌}
+use mathlib.Core.Path.{refl, sym, ◌∙◌}
 use native.Mathlib.Omega.{arith}
 use borrow.Author.Rules.{rules}
-use lib.ListN.{length, drop, length-set}
-use lib.Seq.{sets}
+use lib.ListN.{drop, length-set}
 use Rattle.route.proofs.payload.Stores.{sets_more, sets_end, sets_out}
 use Rattle.route.proofs.payload.lay.Goals as goal
 

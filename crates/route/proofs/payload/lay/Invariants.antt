@@ -2,12 +2,9 @@
 -- stores past the end leave nothing.
 -- Assumes nothing.
 use Prim.Native.Nat.{◌-◌, ◌≤◌}
-use mathlib.Core.Path.{◌≡◌, refl, sym, ◌∙◌}
-use native.Mathlib.Omega.{arith}
-use borrow.Author.Rules.{rules}
-use lib.ListN.{length, drop, length-set}
+use mathlib.Core.Path.{◌≡◌}
+use lib.ListN.{length, drop}
 use lib.Seq.{sets}
-use Rattle.route.proofs.payload.Stores.{sets_more, sets_end, sets_out}
 use Rattle.route.proofs.payload.lay.Given as goal
 
 abbrev pub invariant-loop-i : goal.invariant-loop-i

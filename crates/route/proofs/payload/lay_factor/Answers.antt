@@ -1,8 +1,6 @@
 -- `payload::lay_factor` meets its contract.
 -- Assumes nothing.
 use mathlib.Core.Path.{refl, ◌∙◌}
-use native.Mathlib.Omega.{arith}
-use borrow.Author.Rules.{rules}
 use Rattle.route.proofs.payload.Factors.{factor_laid}
 use Rattle.route.proofs.payload.lay_factor.Goals as goal
 

@@ -1,7 +1,6 @@
 -- `payload::mode_unsuited` meets its contract: each way out is a law of its mode.
 -- Assumes nothing.
 use mathlib.Core.Path.{ap, ◌∙◌}
-use borrow.Author.Rules.{rules}
 use Rattle.meaning.specs.Route.{factor_upper}
 use Rattle.route.proofs.payload.Modes.{period-count, period-upper, set-none, set_most, free-none}
 use Rattle.route.proofs.payload.Modes.{unsuited_unknown}

@@ -1,6 +1,5 @@
 -- `reader::body_start` meets its contract.
 -- Assumes nothing.
-use borrow.Author.Rules.{rules}
 use Rattle.route.proofs.reader.Starts.{start-inside, start_over}
 use Rattle.route.proofs.reader.body_start.Goals as goal
 

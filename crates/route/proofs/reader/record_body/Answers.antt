@@ -1,7 +1,6 @@
 -- `reader::record_body` meets its contract.
 -- Assumes nothing.
 use mathlib.Core.Path.{ap}
-use borrow.Author.Rules.{rules}
 use Rattle.meaning.specs.Calls.{body_after}
 use Rattle.route.specs.walk.Walking.{told_verdict}
 use Rattle.route.proofs.reader.Readings.{read_refused, read_found}

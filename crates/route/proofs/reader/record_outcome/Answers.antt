@@ -1,7 +1,6 @@
 -- `reader::record_outcome` meets its contract.
 -- Assumes nothing.
 use mathlib.Core.Path.{ap}
-use borrow.Author.Rules.{rules}
 use Rattle.meaning.specs.Answers.{told_record}
 use Rattle.meaning.specs.Result.{map_result}
 use Rattle.route.specs.walk.Walking.{told_verdict}

@@ -1,14 +1,10 @@
 -- `walk::walk_file` meets its contract. What is left of the walk has the verdict of the whole.
 -- Assumes nothing.
 use Prim.Native.Nat.{◌≤◌, ◌-◌}
-use mathlib.Core.Path.{◌≡◌, refl, sym, ◌∙◌}
-use native.Mathlib.Omega.{arith}
-use borrow.Author.Rules.{rules}
+use mathlib.Core.Path.{◌≡◌}
 use lib.ListN.{length, drop}
-use Rattle.meaning.specs.Answers.{number_of}
 use Rattle.meaning.specs.Route.{walk, at_start}
-use Rattle.route.specs.walk.Walking.{stage_of, verdict_of, told_verdict}
-use Rattle.route.proofs.walk.Steps.{turn-onwards, turn-kept, turn_bad, over_early, over_late}
+use Rattle.route.specs.walk.Walking.{stage_of, verdict_of}
 use Rattle.route.proofs.walk.walk_file.Given as goal
 
 abbrev pub invariant-loop-at : goal.invariant-loop-at

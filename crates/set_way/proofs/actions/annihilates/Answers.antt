@@ -1,6 +1,5 @@
 -- `actions::annihilates` meets its contract. Assumes nothing.
 use native.Mathlib.Omega.{arith}
-use borrow.Author.Rules.{rules}
 use Rattle.lent.specs.halves.Halves.{Halves}
 use Rattle.arith.proofs.Represented.{field-is_field}
 use Rattle.set_way.proofs.actions.Loaded.{left_halves, decided-none, decided-set}

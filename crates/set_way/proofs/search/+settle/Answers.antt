@@ -1,10 +1,10 @@
 -- `search::settle` meets its contract: of no factor, of one, or of both halves of the factors. Assumes nothing.
 use native.Mathlib.Omega.{arith}
 use Prim.Native.Nat.{ℕ, ◌-◌, ◌/◌, ◌≤◌}
-use mathlib.Core.Path.{◌≡◌, refl, sym, ap, ◌∙◌}
+use mathlib.Core.Path.{◌≡◌, refl, sym, ◌∙◌}
 use mathlib.Core.List.{List}
 use denote.Ref.{Bor}
-use lib.ListN.{length, take, drop, length-take, length-drop, length-replicate}
+use lib.ListN.{length, take, drop, length-take, length-drop}
 use Rattle.meaning.specs.Conditions.{named, total_degree}
 use Rattle.meaning.specs.Slices.{lists_of}
 use Rattle.meaning.proofs.Slices.{lists_length}
@@ -15,7 +15,7 @@ use Rattle.set_way.specs.actions.SetActions.{SetInput}
 use Rattle.set_way.proofs.search.Parts.{HalvedInput, halved, enough_uppers, first-whole, second-whole}
 use Rattle.set_way.proofs.search.Parts.{first-left, first-length, first_rest, second-left}
 use Rattle.set_way.proofs.search.Parts.{second-length, second-rest, parts-settled, none-settled}
-use Rattle.set_way.proofs.search.Parts.{alone_settled, Filled, once-length, rest-length, both-places}
+use Rattle.set_way.proofs.search.Parts.{alone_settled, Filled, rest-length, both-places}
 use Rattle.set_way.proofs.search.+settle.Goals as goal
 
 -- What the call is given

@@ -3,7 +3,6 @@ use Prim.Native.Nat.{ℕ, ◌-◌}
 use mathlib.Core.Path.{◌≡◌, ap, ◌∙◌}
 use native.Mathlib.Omega.{arith}
 use lib.ListN.{length, length-take, length-replicate}
-use borrow.Author.Rules.{rules}
 use Rattle.meaning.proofs.Slices.{lists_length}
 use Rattle.set_way.proofs.search.Parts.{settled-searched}
 use Rattle.set_way.proofs.search.least_powers.Goals as goal

@@ -3,7 +3,6 @@ use Prim.Native.Nat.{◌<◌}
 use mathlib.Core.Path.{◌≡◌, sym, subst, ◌∙◌}
 use native.Mathlib.Omega.{arith}
 use lib.ListN.{length, get_or}
-use borrow.Author.Rules.{rules}
 use Rattle.powers.specs.levels.Levels.{Base, Reaching}
 use Rattle.powers.proofs.levels.Climbing.{field-base}
 use Rattle.powers.specs.digit_search.Searching.{Searchable, Searched}

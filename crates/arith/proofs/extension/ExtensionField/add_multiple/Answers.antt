@@ -1,13 +1,9 @@
 -- `arith::ExtensionField::add_multiple` meets its contract. The invariant: the first i numbers of a + c·b
 -- are written over a. The measure is what is left of b. Assumes nothing.
-use Prim.Native.Nat.{◌-◌, ◌≤◌}
-use mathlib.Core.Path.{◌≡◌, refl, ap, ◌∙◌}
-use lib.ListN.{length}
-use Rattle.arith.specs.Slices.{combined}
+use mathlib.Core.Path.{refl, ap, ◌∙◌}
 use Rattle.arith.specs.extension.Extension.{extension_of}
-use Rattle.arith.proofs.Writing.{Writing, writing_none, combined-front, combined-end}
+use Rattle.arith.proofs.Writing.{writing_none, combined-front, combined-end}
 use Rattle.arith.proofs.extension.Elements.{times-element}
-use borrow.Author.Rules.{rules}
 use native.Mathlib.Omega.{arith}
 use Rattle.arith.proofs.extension.ExtensionField.add_multiple.Goals as goal
 

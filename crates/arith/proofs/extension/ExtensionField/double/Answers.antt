@@ -1,7 +1,6 @@
 -- `arith::ExtensionField::double` meets its contract. Assumes nothing.
 use Rattle.arith.proofs.extension.Elements.{size-high, double-kept, double-reduced, double_byte}
 use native.Mathlib.Omega.{arith}
-use borrow.Author.Rules.{rules}
 use Rattle.arith.proofs.extension.ExtensionField.double.Goals as goal
 
 pub overflow_cast-result : goal.overflow_cast-result

@@ -1,7 +1,6 @@
 -- `arith::ExtensionField::element` meets its contract. Assumes nothing.
 use Rattle.arith.proofs.extension.Elements.{size-high, element_mask}
 use native.Mathlib.Omega.{arith}
-use borrow.Author.Rules.{rules}
 use Rattle.arith.proofs.extension.ExtensionField.element.Goals as goal
 
 pub overflow_cast-mask : goal.overflow_cast-mask

@@ -1,6 +1,5 @@
 -- `arith::ExtensionField::multiples` meets its contract. Assumes nothing.
 use Rattle.arith.proofs.extension.Elements.{element_under, double_under, multiples_of}
-use borrow.Author.Rules.{rules}
 use Rattle.arith.proofs.extension.ExtensionField.multiples.Goals as goal
 
 pub double-m1-requires : goal.double-m1-requires

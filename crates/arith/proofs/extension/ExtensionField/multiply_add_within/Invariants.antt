@@ -1,12 +1,8 @@
 -- `arith::ExtensionField::multiply_add_within` meets its contract. The invariant: the first i numbers of b +
 -- c·a are written over w from x on. The measure is what is left of n. Assumes nothing.
 use Prim.Native.Nat.{◌-◌}
-use mathlib.Core.Path.{ap, ◌∙◌}
 use Rattle.arith.specs.extension.Extension.{extension_of}
-use Rattle.arith.proofs.Writing.{Combining, same-places, combining_none, combining_more, combining_end}
-use Rattle.arith.proofs.extension.Elements.{times-element}
-use borrow.Author.Rules.{rules}
-use native.Mathlib.Omega.{arith}
+use Rattle.arith.proofs.Writing.{Combining}
 use Rattle.arith.proofs.extension.ExtensionField.multiply_add_within.Given as goal
 
 abbrev pub invariant-loop-i : goal.invariant-loop-i

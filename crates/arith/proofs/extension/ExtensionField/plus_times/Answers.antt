@@ -2,7 +2,6 @@
 use mathlib.Core.Path.{ap₂, ◌∙◌}
 use lib.Bits.{bit_xor}
 use Rattle.arith.proofs.extension.Elements.{product_byte, add-element}
-use borrow.Author.Rules.{rules}
 use Rattle.arith.proofs.extension.ExtensionField.plus_times.Goals as goal
 
 pub returns : goal.returns

@@ -1,16 +1,12 @@
 -- `arith::ExtensionField::square` meets its contract. The invariant: the first i numbers are squared. The
 -- measure is what is left of a. Assumes nothing.
 use Prim.Native.Nat.{◌-◌, ◌≤◌}
-use mathlib.Core.Path.{◌≡◌, refl, sym, ap, ◌∙◌}
+use mathlib.Core.Path.{◌≡◌}
 use mathlib.Core.List.{map}
-use lib.ListN.{length, length-map, drop_of_length-le}
+use lib.ListN.{length}
 use Rattle.bridge.proofs.Lists.Spread.{raise}
-use Rattle.bridge.proofs.Lists.Monics.{get_or_mapped}
 use Rattle.arith.specs.extension.Extension.{extension_of}
-use Rattle.arith.proofs.Writing.{Writing, writing_none, front-more, front_read, front-end}
-use Rattle.arith.proofs.extension.Elements.{square-raise}
-use borrow.Author.Rules.{rules}
-use native.Mathlib.Omega.{arith}
+use Rattle.arith.proofs.Writing.{Writing}
 use Rattle.arith.proofs.extension.ExtensionField.square.Given as goal
 
 abbrev pub invariant-loop-i : goal.invariant-loop-i

@@ -3,7 +3,6 @@ use mathlib.Core.Path.{ap, ◌∙◌}
 use Rattle.bridge.proofs.Binary.BinaryNumbers.{picks}
 use Rattle.arith.specs.extension.Extension.{list_of}
 use Rattle.arith.proofs.extension.Elements.{picks-eight}
-use borrow.Author.Rules.{rules}
 use Rattle.arith.proofs.extension.ExtensionField.times.Goals as goal
 
 pub returns : goal.returns

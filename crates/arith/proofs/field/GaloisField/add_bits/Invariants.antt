@@ -1,13 +1,11 @@
 -- `arith::GaloisField::add_bits` meets its contract. The invariant: the first i numbers of a + b are
 -- written over a. The measure is what is left of b. Assumes nothing.
 use Prim.Native.Nat.{◌-◌, ◌≤◌}
-use mathlib.Core.Path.{◌≡◌, refl}
-use native.Mathlib.Omega.{arith}
-use borrow.Author.Rules.{rules}
+use mathlib.Core.Path.{◌≡◌}
 use lib.ListN.{length}
 use Rattle.arith.specs.Represented.{field_of}
 use Rattle.arith.specs.Slices.{combined}
-use Rattle.arith.proofs.Writing.{Writing, writing_none, combined-front, combined-end}
+use Rattle.arith.proofs.Writing.{Writing}
 use Rattle.arith.proofs.field.GaloisField.add_bits.Given as goal
 
 abbrev pub invariant-loop-i : goal.invariant-loop-i

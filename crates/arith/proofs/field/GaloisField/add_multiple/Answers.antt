@@ -1,7 +1,6 @@
 -- `arith::GaloisField::add_multiple` meets its contract. Assumes nothing.
 use mathlib.Core.Path.{ap, ◌∙◌}
 use Rattle.arith.specs.Slices.{combined}
-use borrow.Author.Rules.{rules}
 use Rattle.arith.proofs.field.GaloisField.add_multiple.Goals as goal
 
 pub returns-then-self-ne0 : goal.returns-then-self-ne0

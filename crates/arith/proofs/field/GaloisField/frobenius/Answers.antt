@@ -5,7 +5,6 @@ use Rattle.bridge.proofs.Lists.Spread.{raise}
 use Rattle.arith.specs.Represented.{field_of}
 use Rattle.arith.proofs.field.Sorts.{prime-raised, binary_characteristic}
 use native.Mathlib.Omega.{arith}
-use borrow.Author.Rules.{rules}
 use Rattle.arith.proofs.field.GaloisField.frobenius.Goals as goal
 
 pub returns-then-self-eq0 : goal.returns-then-self-eq0

@@ -1,7 +1,6 @@
 -- `arith::GaloisField::multiply_add_within` meets its contract. Assumes nothing.
 use mathlib.Core.Path.{ap, ◌∙◌}
 use Rattle.arith.specs.Slices.{multiplied_within}
-use borrow.Author.Rules.{rules}
 use Rattle.arith.proofs.field.GaloisField.multiply_add_within.Goals as goal
 
 pub returns-then-self-ne0 : goal.returns-then-self-ne0

@@ -1,6 +1,5 @@
 -- `arith::GaloisField::of` meets its contract. Assumes nothing.
 use mathlib.Core.Path.{sym, subst, ◌∙◌}
-use borrow.Author.Rules.{rules}
 use Rattle.meaning.specs.declared.Refusal.TheVariants.{NotPrime, NotBinaryField}
 use Rattle.bridge.proofs.Basics.Searches.{true-T, not-true, not-not_true}
 use Rattle.arith.specs.Represented.{FieldMade, FieldNamed, Declined}

@@ -1,7 +1,6 @@
 -- `arith::GaloisField::of_binary` meets its contract. Assumes nothing.
 use mathlib.Core.Path.{refl}
 use native.Mathlib.Omega.{arith}
-use borrow.Author.Rules.{rules}
 use Rattle.bridge.proofs.Binary.BinaryNumbers.{binary-name}
 use Rattle.arith.proofs.field.Sorts.{binary-made}
 use Rattle.arith.proofs.field.GaloisField.of_binary.Goals as goal

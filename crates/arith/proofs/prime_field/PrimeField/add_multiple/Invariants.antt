@@ -1,13 +1,11 @@
 -- `arith::PrimeField::add_multiple` meets its contract. The invariant: the first i numbers of a + c·b are
 -- written over a. The measure is what is left of b. Assumes nothing.
 use Prim.Native.Nat.{◌-◌, ◌≤◌}
-use mathlib.Core.Path.{◌≡◌, refl}
-use native.Mathlib.Omega.{arith}
-use borrow.Author.Rules.{rules}
+use mathlib.Core.Path.{◌≡◌}
 use lib.ListN.{length}
 use Rattle.arith.specs.prime_field.PrimeForm.{prime_field_of}
 use Rattle.arith.specs.Slices.{combined}
-use Rattle.arith.proofs.Writing.{Writing, writing_none, combined-front, combined-end}
+use Rattle.arith.proofs.Writing.{Writing}
 use Rattle.arith.proofs.prime_field.PrimeField.add_multiple.Given as goal
 
 abbrev pub invariant-loop-i : goal.invariant-loop-i

@@ -1,10 +1,7 @@
 -- `arith::PrimeField::add_multiple_within` meets its contract. The invariant: the first i numbers of a + c·b
 -- are written from x on. The measure is what is left of the n places. Assumes nothing.
-use Prim.Native.Nat.{◌-◌}
 use native.Mathlib.Omega.{arith}
-use borrow.Author.Rules.{rules}
-use Rattle.arith.specs.prime_field.PrimeForm.{prime_field_of}
-use Rattle.arith.proofs.Writing.{Combining, same-places, combining_none, combining_more, combining_end}
+use Rattle.arith.proofs.Writing.{same-places, combining_none, combining_more, combining_end}
 use Rattle.arith.proofs.prime_field.PrimeField.add_multiple_within.Goals as goal
 
 pub loop-i-init : goal.loop-i-init

@@ -4,7 +4,6 @@ use Prim.Native.Nat.{ℕ}
 use mathlib.Core.Path.{◌≡◌, sym, ap, ◌∙◌}
 use mathlib.Core.Bool.{Bool}
 use mathlib.Core.List.{List}
-use borrow.Author.Rules.{rules}
 use Rattle.meaning.specs.Field.{Field}
 use Rattle.refusals.specs.declared.conditions.factors.FactorCondition.{FactorCondition}
 use Rattle.refusals.specs.conditions.factors.Factors.{holds_of}

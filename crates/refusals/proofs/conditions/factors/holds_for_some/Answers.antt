@@ -1,14 +1,7 @@
 -- `holds_for_some` meets its contract. The invariant: the factors from i on decide.
 -- Assumes nothing.
-use Prim.Native.Nat.{◌-◌}
 use native.Mathlib.Omega.{arith}
-use mathlib.Core.Path.{◌≡◌, refl, sym, ◌∙◌}
-use lib.ListN.{length, drop}
-use borrow.Author.Rules.{rules}
-use Rattle.meaning.specs.Search.{holds_for_some}
-use Rattle.arith.specs.Represented.{field_of}
-use Rattle.refusals.specs.conditions.factors.Factors.{holds_of}
-use Rattle.meaning.specs.Slices.{lists_of}
+use mathlib.Core.Path.{refl, sym, ◌∙◌}
 use Rattle.refusals.proofs.conditions.factors.Scan.{some-scan, factor-found, factor-next, factors_over}
 use Rattle.refusals.proofs.conditions.factors.holds_for_some.Goals as goal
 

@@ -1,13 +1,7 @@
 -- `occurs_from` meets its contract. The invariant: the factors from i on decide.
 -- Assumes nothing.
-use Prim.Native.Nat.{◌-◌}
 use native.Mathlib.Omega.{arith}
-use mathlib.Core.Path.{◌≡◌, refl, sym, ◌∙◌}
-use lib.ListN.{length, drop}
-use borrow.Author.Rules.{rules}
-use Rattle.meaning.specs.Search.{holds_for_some}
-use Rattle.meaning.specs.Polynomial.{same}
-use Rattle.meaning.specs.Slices.{lists_of}
+use mathlib.Core.Path.{refl, sym, ◌∙◌}
 use Rattle.refusals.proofs.conditions.factors.Scan.{some-scan, factor-found, factor-next, factors_over}
 use Rattle.refusals.proofs.conditions.factors.occurs_from.Goals as goal
 

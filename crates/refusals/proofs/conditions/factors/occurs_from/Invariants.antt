@@ -1,14 +1,11 @@
 -- `occurs_from` meets its contract. The invariant: the factors from i on decide.
 -- Assumes nothing.
 use Prim.Native.Nat.{◌-◌}
-use native.Mathlib.Omega.{arith}
-use mathlib.Core.Path.{◌≡◌, refl, sym, ◌∙◌}
+use mathlib.Core.Path.{◌≡◌}
 use lib.ListN.{length, drop}
-use borrow.Author.Rules.{rules}
 use Rattle.meaning.specs.Search.{holds_for_some}
 use Rattle.meaning.specs.Polynomial.{same}
 use Rattle.meaning.specs.Slices.{lists_of}
-use Rattle.refusals.proofs.conditions.factors.Scan.{some-scan, factor-found, factor-next, factors_over}
 use Rattle.refusals.proofs.conditions.factors.occurs_from.Given as goal
 
 abbrev pub invariant-loop-i : goal.invariant-loop-i

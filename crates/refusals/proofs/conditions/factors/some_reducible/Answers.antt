@@ -1,15 +1,9 @@
 -- `some_reducible` meets its contract. The invariant: the factors from i on decide.
 -- Assumes nothing.
-use Prim.Native.Nat.{◌-◌}
 use native.Mathlib.Omega.{arith}
-use mathlib.Core.Path.{◌≡◌, refl, sym, subst, ◌∙◌}
-use lib.ListN.{length, drop}
-use borrow.Author.Rules.{rules}
-use Rattle.meaning.specs.Search.{holds_for_some}
-use Rattle.meaning.specs.Conditions.{is_reducible}
+use mathlib.Core.Path.{refl, sym, subst, ◌∙◌}
 use Rattle.meaning.proofs.Slices.{lists_length, lists_at}
 use Rattle.irreducible.specs.Accepted.{Accepted}
-use Rattle.meaning.specs.Slices.{lists_of}
 use Rattle.arith.specs.Represented.{field_of}
 use Rattle.refusals.proofs.conditions.factors.Scan.{some-scan, factor-found, factor-next, factors_over}
 use Rattle.refusals.proofs.conditions.factors.some_reducible.Goals as goal

@@ -1,15 +1,12 @@
 -- `some_upper_zero` meets its contract. The invariant: the factors from i on decide.
 -- Assumes nothing.
 use Prim.Native.Nat.{◌-◌}
-use native.Mathlib.Omega.{arith}
-use mathlib.Core.Path.{◌≡◌, refl, sym, ◌∙◌}
+use mathlib.Core.Path.{◌≡◌}
 use lib.ListN.{length, drop}
 use lib.Dec.{eqb}
-use borrow.Author.Rules.{rules}
 use Rattle.meaning.specs.Search.{holds_for_some}
 use Rattle.meaning.specs.Conditions.{named}
 use Rattle.meaning.specs.Slices.{lists_of}
-use Rattle.refusals.proofs.conditions.factors.Uppers.{zero-found, zero-next, zeros_over}
 use Rattle.refusals.proofs.conditions.factors.some_upper_zero.Given as goal
 
 abbrev pub invariant-loop-i : goal.invariant-loop-i

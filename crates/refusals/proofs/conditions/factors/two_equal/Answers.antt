@@ -1,12 +1,7 @@
 -- `two_equal` meets its contract. The invariant: the factors from i on decide.
 -- Assumes nothing.
-use Prim.Native.Nat.{◌-◌}
 use native.Mathlib.Omega.{arith}
-use mathlib.Core.Path.{◌≡◌, refl, sym, ◌∙◌}
-use lib.ListN.{length, drop}
-use borrow.Author.Rules.{rules}
-use Rattle.meaning.specs.Conditions.{two_equal}
-use Rattle.meaning.specs.Slices.{lists_of}
+use mathlib.Core.Path.{refl, sym, ◌∙◌}
 use Rattle.refusals.proofs.conditions.factors.Scan.{equal-scan, factor-found, factor-next}
 use Rattle.refusals.proofs.conditions.factors.Scan.{factors_over}
 use Rattle.refusals.proofs.conditions.factors.two_equal.Goals as goal

@@ -1,7 +1,6 @@
 -- `upper_powers_out_of_range` meets its contract.
 -- Assumes nothing.
 use mathlib.Core.Path.{sym, ◌∙◌}
-use borrow.Author.Rules.{rules}
 use Rattle.refusals.proofs.conditions.factors.Uppers.{zero-upper, large-total}
 use Rattle.refusals.proofs.conditions.factors.upper_powers_out_of_range.Goals as goal
 

@@ -3,7 +3,6 @@
 use native.Mathlib.Omega.{arith}
 use mathlib.Core.Path.{◌∙◌, sym, ap}
 use lib.Dec.{ltb}
-use borrow.Author.Rules.{rules}
 use Rattle.refusals.proofs.conditions.files.FileFactor.{file-without-coefficients, file-without-upper}
 use Rattle.refusals.proofs.conditions.files.FileFactor.{file_foreign, file-upper}
 use Rattle.refusals.proofs.conditions.files.file_coefficient_out_of_range.Goals as goal

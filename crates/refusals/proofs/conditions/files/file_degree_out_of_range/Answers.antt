@@ -1,7 +1,6 @@
 -- `files::file_degree_out_of_range` meets its contract.
 -- Assumes nothing.
 use native.Mathlib.Omega.{arith}
-use borrow.Author.Rules.{rules}
 use Rattle.meaning.specs.File.{file_factor, file_degree_out_of_range}
 use Rattle.refusals.proofs.conditions.files.FileFactor.{file-degree-empty}
 use Rattle.refusals.proofs.conditions.files.file_degree_out_of_range.Goals as goal

@@ -2,7 +2,6 @@
 -- Assumes nothing.
 use native.Mathlib.Omega.{arith}
 use mathlib.Core.Path.{◌∙◌, sym}
-use borrow.Author.Rules.{rules}
 use Rattle.refusals.proofs.conditions.lists.Coefficients.{foreign_coefficient, empty-coefficient}
 use Rattle.refusals.proofs.conditions.lists.Coefficients.{leading-coefficient}
 use Rattle.refusals.proofs.conditions.lists.coefficient_out_of_range.Goals as goal

@@ -2,7 +2,6 @@
 -- Assumes nothing.
 use native.Mathlib.Omega.{arith}
 use mathlib.Core.Path.{◌∙◌}
-use borrow.Author.Rules.{rules}
 use Rattle.bridge.proofs.Lists.Irreducibles.{list-degree}
 use Rattle.refusals.proofs.conditions.lists.Coefficients.{empty-degree-passes}
 use Rattle.refusals.proofs.conditions.lists.factor_degree_out_of_range.Goals as goal

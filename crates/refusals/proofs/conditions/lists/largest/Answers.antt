@@ -1,13 +1,9 @@
 -- `lists::largest` meets its contract. The invariant: the larger of m and the largest from i on is the
 -- largest of all.
 -- Assumes nothing.
-use Prim.Native.Nat.{◌-◌, ◌≤◌, max, zero-le}
+use Prim.Native.Nat.{zero-le}
 use native.Mathlib.Nat.{zero-max}
 use native.Mathlib.Omega.{arith}
-use mathlib.Core.Path.{◌≡◌}
-use mathlib.Core.Logic.{⊎_elim}
-use lib.ListN.{length, drop}
-use Rattle.refusals.specs.conditions.lists.Lists.{largest}
 use Rattle.refusals.proofs.conditions.lists.Maximum.{largest_over, larger_found, larger_kept}
 use Rattle.refusals.proofs.conditions.lists.largest.Goals as goal
 use Rattle.refusals.proofs.conditions.lists.largest.Goals.{then-m-l, else-m-l}

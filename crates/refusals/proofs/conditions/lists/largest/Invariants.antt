@@ -1,14 +1,10 @@
 -- `lists::largest` meets its contract. The invariant: the larger of m and the largest from i on is the
 -- largest of all.
 -- Assumes nothing.
-use Prim.Native.Nat.{◌-◌, ◌≤◌, max, zero-le}
-use native.Mathlib.Nat.{zero-max}
-use native.Mathlib.Omega.{arith}
+use Prim.Native.Nat.{◌-◌, ◌≤◌, max}
 use mathlib.Core.Path.{◌≡◌}
-use mathlib.Core.Logic.{⊎_elim}
 use lib.ListN.{length, drop}
 use Rattle.refusals.specs.conditions.lists.Lists.{largest}
-use Rattle.refusals.proofs.conditions.lists.Maximum.{largest_over, larger_found, larger_kept}
 use Rattle.refusals.proofs.conditions.lists.largest.Given as goal
 
 abbrev pub invariant-loop-i : goal.invariant-loop-i

@@ -2,7 +2,6 @@
 -- Assumes nothing.
 use native.Mathlib.Omega.{arith}
 use mathlib.Core.Path.{◌∙◌, sym}
-use borrow.Author.Rules.{rules}
 use Rattle.refusals.proofs.conditions.lists.Coefficients.{foreign_not-monic, empty-not-monic}
 use Rattle.refusals.proofs.conditions.lists.Coefficients.{leading-not-monic}
 use Rattle.refusals.proofs.conditions.lists.not_monic.Goals as goal

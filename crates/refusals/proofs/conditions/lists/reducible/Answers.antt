@@ -1,7 +1,6 @@
 -- `lists::reducible` meets its contract. Assumes nothing.
 use mathlib.Core.Path.{sym, ap, ◌∙◌}
 use mathlib.Core.Bool.{not}
-use borrow.Author.Rules.{rules}
 use Rattle.bridge.proofs.Lists.Irreducibles.{reducible_asked}
 use Rattle.refusals.proofs.conditions.lists.reducible.Goals as goal
 

@@ -2,7 +2,6 @@
 -- Assumes nothing.
 use mathlib.Core.Path.{◌∙◌, ap₂, sym}
 use lib.Dec.{leb}
-use borrow.Author.Rules.{rules}
 use Rattle.arith.proofs.Represented.{field-size}
 use Rattle.refusals.proofs.conditions.lists.Coefficients.{empty-terms_pass}
 use Rattle.refusals.proofs.conditions.lists.Maximum.{terms-largest}

@@ -1,7 +1,6 @@
 -- `numbers::degree_out_of_range` meets its contract.
 -- Assumes nothing.
 use mathlib.Core.Path.{sym}
-use borrow.Author.Rules.{rules}
 use borrow.Author.Tests.{eq-eqb, ne_eqb, lt-ltb, le-ltb}
 use Rattle.arith.proofs.Represented.{field-size}
 use Rattle.refusals.proofs.conditions.numbers.Tests.{degree-tests}

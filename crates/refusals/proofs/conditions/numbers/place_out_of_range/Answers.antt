@@ -1,6 +1,5 @@
 -- `numbers::place_out_of_range` meets its contract.
 -- Assumes nothing.
-use borrow.Author.Rules.{rules}
 use borrow.Author.Tests.{lt-ltb, le-ltb}
 use Rattle.meaning.specs.Conditions.{place_out_of_range}
 use Rattle.refusals.proofs.conditions.numbers.place_out_of_range.Goals as goal

@@ -1,9 +1,9 @@
 -- `numbers::power_exceeds` meets its contract. The invariant: `power` is p^i, and at most 65,536.
 -- Assumes nothing.
-use Prim.Native.Nat.{◌-◌, ◌^◌, ◌≤◌, zero-le}
+use Prim.Native.Nat.{zero-le}
 use native.Mathlib.Nat.{pow-zero, mul-le-mul}
 use native.Mathlib.Omega.{arith}
-use mathlib.Core.Path.{◌≡◌, sym}
+use mathlib.Core.Path.{sym}
 use Rattle.bridge.proofs.Basics.Levels.{power-next}
 use Rattle.refusals.proofs.conditions.numbers.Powers.{power-beyond, power_of_large, power-within}
 use Rattle.refusals.proofs.conditions.numbers.power_exceeds.Goals as goal

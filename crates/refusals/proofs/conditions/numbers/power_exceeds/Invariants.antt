@@ -1,11 +1,7 @@
 -- `numbers::power_exceeds` meets its contract. The invariant: `power` is p^i, and at most 65,536.
 -- Assumes nothing.
-use Prim.Native.Nat.{◌-◌, ◌^◌, ◌≤◌, zero-le}
-use native.Mathlib.Nat.{pow-zero, mul-le-mul}
-use native.Mathlib.Omega.{arith}
-use mathlib.Core.Path.{◌≡◌, sym}
-use Rattle.bridge.proofs.Basics.Levels.{power-next}
-use Rattle.refusals.proofs.conditions.numbers.Powers.{power-beyond, power_of_large, power-within}
+use Prim.Native.Nat.{◌-◌, ◌^◌, ◌≤◌}
+use mathlib.Core.Path.{◌≡◌}
 use Rattle.refusals.proofs.conditions.numbers.power_exceeds.Given as goal
 
 abbrev pub invariant-loop-i : goal.invariant-loop-i
