@@ -1,6 +1,6 @@
 -- Parts of lists, a list pasted into another, and the list a + c·b, by their places.
 --
---   length_part, get_d_part          == the length and the numbers of a part
+--   length_part, get_or-part          == the length and the numbers of a part
 --   get_or_paste_inside, -before, -after == the numbers of `paste l x t n`, which is l with the first n numbers
 --                          of t from place x on
 --   part_paste_inside, -before, -after == its parts: what was pasted, and parts apart from it
@@ -26,8 +26,8 @@ use Rattle.arith.specs.Slices.{part, combined}
 pub length_part : (l : List ℕ) (x n : ℕ) → x + n ≤ length l → length (part l x n) ≡ n
 length_part l x n h = simp (length-take, length-drop) (omega arith)
 
-pub get_d_part : (l : List ℕ) (x n i : ℕ) → i < n → get_or (part l x n) i 0 ≡ get_or l (x + i) 0
-get_d_part l x n i h = get_or-take n (drop x l) i 0 h ∙ get_or-drop x l i 0
+pub get_or-part : (l : List ℕ) (x n i : ℕ) → i < n → get_or (part l x n) i 0 ≡ get_or l (x + i) 0
+get_or-part l x n i h = get_or-take n (drop x l) i 0 h ∙ get_or-drop x l i 0
 
 pub part-equal : (l m : List ℕ) (x y n : ℕ) → x + n ≤ length l → y + n ≤ length m
     → ((i : ℕ) → i < n → get_or l (x + i) 0 ≡ get_or m (y + i) 0)
@@ -38,7 +38,7 @@ part-equal l m x y n h k e =
     place : (i : ℕ) → i < length (part l x n) → get_or (part l x n) i 0 ≡ get_or (part m y n) i 0
     place i c =
         let b : i < n = omega (arith, length_part l x n h) in
-        get_d_part l x n i b ∙ e i b ∙ sym (get_d_part m y n i b)
+        get_or-part l x n i b ∙ e i b ∙ sym (get_or-part m y n i b)
 
 -- A list pasted into another
 module _ (l : List ℕ) (x : ℕ) (t : List ℕ) (n : ℕ) (h : x + n ≤ length l) (k : n ≤ length t) where

@@ -27,7 +27,7 @@ use Rattle.meaning.specs.Polynomial.{scale}
 use Rattle.bridge.proofs.Lists.Polynomials.{length-scale}
 use Rattle.bridge.proofs.Basics.Padding.{get_or-scale}
 use Rattle.arith.specs.Slices.{part, combined, combined_within, Places}
-use Rattle.arith.proofs.Slices.{length_part, get_d_part, get_or_paste_before, get_or_paste_after}
+use Rattle.arith.proofs.Slices.{length_part, get_or-part, get_or_paste_before, get_or_paste_after}
 use Rattle.arith.proofs.Slices.{length-combined, get_or-combined, drop-combined}
 
 pub record Writing (l : List ℕ) (x : ℕ) (t w : List ℕ) (i : ℕ) : Type 0 where
@@ -104,8 +104,8 @@ module _ {F : Field} {l : List ℕ} {x y c z n : ℕ} {w : List ℕ} {i : ℕ} (
             writing_more h.written (omega (arith, p.first)) (omega arith)
             (e
             ∙ ap₂ (λ a b. F.add a (F.mul c b))
-            (writing_read h.written y p.apart k ∙ sym (get_d_part l y n i k))
-            (writing_read h.written z q.apart k ∙ sym (get_d_part l z n i k))
+            (writing_read h.written y p.apart k ∙ sym (get_or-part l y n i k))
+            (writing_read h.written z q.apart k ∙ sym (get_or-part l z n i k))
             ∙ sym (get_or-combined F (part l y n) c (part l z n) i (omega arith) (omega arith)));
       }
 

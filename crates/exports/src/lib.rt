@@ -6,8 +6,8 @@
 // `tools/library` builds the library that has them all.
 #![tactic(auto)]
 
-pub mod catalogue;
 pub mod continuation;
+pub mod entries;
 mod field;
 pub mod profile;
 pub mod questions;

@@ -22,7 +22,7 @@ use Rattle.meaning.specs.Search.{holds_for_all}
 use Rattle.bridge.proofs.Basics.Searches.{T-same, T_true, true-T, T_false, false-T}
 use Rattle.bridge.proofs.Sequences.KnownActions.{all_zero, all_zero-nil, all_zero-get_or, get_or-all_zero}
 use Rattle.arith.specs.Slices.{part}
-use Rattle.arith.proofs.Slices.{get_d_part}
+use Rattle.arith.proofs.Slices.{get_or-part}
 
 -- Whether a number is not 0
 pub record Anything (a : ℕ) (l : List ℕ) (i : ℕ) : Type 0 where
@@ -97,4 +97,4 @@ module _ (l : List ℕ) where
       (λ z.
       false-T (sym e ∙ b)
       (get_or-all_zero (part l i m)
-      (λ j c. get_d_part l i m j (omega (arith, length-take m (drop i l))) ∙ all_zero-get_or l z (i + j)))))
+      (λ j c. get_or-part l i m j (omega (arith, length-take m (drop i l))) ∙ all_zero-get_or l z (i + j)))))

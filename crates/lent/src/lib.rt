@@ -23,7 +23,10 @@ pub fn copy(from: &[u8], to: &mut [u8])
     requires { length from.now ≤ length to.old }
     ensures { to.new ≡ from.now ++ drop (length from.now) to.old }
 {
-    to[..from.len()].copy_from_slice(from);
+    // Invariant: the first i bytes are copied, and the others as they were.
+    for i in 0..from.len() {
+        to[i] = from[i];
+    }
 }
 
 // Fills a part with zeros.

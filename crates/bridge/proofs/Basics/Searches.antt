@@ -602,10 +602,10 @@ least-same b t u same = elim (least-either b t) [
         }
 
 -- within a list the default does not matter
-get_d_any : {A : Type 0} (l : List A) (i : ℕ) (d e : A) → i < length l → get_or l i d ≡ get_or l i e
-get_d_any [] i d e l = absurd (not-suc-le-zero l)
-get_d_any (a ∷ l) zero d e _ = refl
-get_d_any (a ∷ l) (suc i) d e h = get_d_any l i d e (le_of_suc-le-suc h)
+get_or_any : {A : Type 0} (l : List A) (i : ℕ) (d e : A) → i < length l → get_or l i d ≡ get_or l i e
+get_or_any [] i d e l = absurd (not-suc-le-zero l)
+get_or_any (a ∷ l) zero d e _ = refl
+get_or_any (a ∷ l) (suc i) d e h = get_or_any l i d e (le_of_suc-le-suc h)
 
 -- All the values of a list of answers
 module _ {A : Type 0} where
@@ -634,7 +634,7 @@ module _ {A : Type 0} where
     get_or_answers :
         (a n i : ℕ) (xs : List A) → i < n → get_or (map f (range a n)) i (some d) ≡ f (a + i)
     get_or_answers a n i xs l =
-        get_d_any (map f (range a n)) i (some d) (f 0) (rw (length-map, length-range) l)
+        get_or_any (map f (range a n)) i (some d) (f 0) (rw (length-map, length-range) l)
         ∙ get_or-map f (range a n) i 0
         ∙ ap f (get_or-range a n i 0 l)
 

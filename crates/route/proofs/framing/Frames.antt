@@ -124,8 +124,8 @@ module _ (file : List ℕ) (k at : ℕ) where
   unfolding bodies
   bodies_over h = rw (from_over file at h)
 
-  pub get_d_over : (i : ℕ) → length file ≤ at → [] ≡ get_or (bodies k (records_from file at)) i []
-  get_d_over i h = rw (bodies_over h)
+  pub get_or_over : (i : ℕ) → length file ≤ at → [] ≡ get_or (bodies k (records_from file at)) i []
+  get_or_over i h = rw (bodies_over h)
 
   pub length_over : length file ≤ at → length (bodies k (records_from file at)) ≡ 0
   length_over h = ap length (bodies_over h)

@@ -6,7 +6,7 @@ use mathlib.Core.List.{[]}
 use native.Mathlib.Omega.{arith}
 use borrow.Author.Rules.{rules}
 use lib.ListN.{get_or}
-use Rattle.route.proofs.framing.Frames.{get_or-sought, get_d_over, body_here}
+use Rattle.route.proofs.framing.Frames.{get_or-sought, get_or_over, body_here}
 use Rattle.route.proofs.framing.body_of.Goals as goal
 
 pub loop-left-init : goal.loop-left-init
@@ -16,7 +16,7 @@ loop-left-init c =
 pub returns-then-file-at : goal.returns-then-file-at
 returns-then-file-at c =
     let a = c.args in
-    get_d_over a.file.now a.kind c.loop-left.at c.loop-left.left c.if-file-at.true ∙ c.loop-left.invariant.0
+    get_or_over a.file.now a.kind c.loop-left.at c.loop-left.left c.if-file-at.true ∙ c.loop-left.invariant.0
 
 pub loop-left-preserved : goal.loop-left-preserved
 loop-left-preserved c =

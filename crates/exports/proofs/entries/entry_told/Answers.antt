@@ -2,7 +2,7 @@
 -- Assumes nothing.
 use Rattle.meaning.specs.Answers.{told_entry}
 use Rattle.meaning.specs.Exports.{entry_told}
-use Rattle.exports.proofs.catalogue.entry_told.Goals as goal
+use Rattle.exports.proofs.entries.entry_told.Goals as goal
 
 pub returns-in-Found : goal.returns-in-Found
 unfolding told_entry entry_told
