@@ -359,7 +359,7 @@ def proofs_said(names):
 
 
 def crate_names():
-    return [l.split(':')[0] for l in open('crates.txt') if ':' in l and not l.startswith('#')]
+    return [l.split(':')[0].split()[0] for l in open('crates.txt') if ':' in l and not l.startswith('#')]
 
 
 def crates():
