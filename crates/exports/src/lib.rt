@@ -6,10 +6,10 @@
 // `tools/library` builds the library that has them all.
 #![tactic(auto)]
 
+pub mod asking;
 pub mod continuation;
 pub mod entries;
 mod field;
 pub mod profile;
-pub mod questions;
 pub mod ratings;
 pub mod reader;

@@ -2,7 +2,7 @@
 -- Assumes nothing.
 use Rattle.meaning.specs.Answers.{told_irreducible}
 use Rattle.meaning.specs.Exports.{answer_told}
-use Rattle.exports.proofs.questions.answer_told.Goals as goal
+use Rattle.exports.proofs.asking.answer_told.Goals as goal
 
 pub returns-in-Irreducible : goal.returns-in-Irreducible
 unfolding told_irreducible answer_told

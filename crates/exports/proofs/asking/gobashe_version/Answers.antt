@@ -2,7 +2,7 @@
 -- Assumes nothing.
 use mathlib.Core.Path.{refl}
 use Rattle.meaning.specs.Exports.{version}
-use Rattle.exports.proofs.questions.gobashe_version.Goals as goal
+use Rattle.exports.proofs.asking.gobashe_version.Goals as goal
 
 pub returns : goal.returns
 unfolding version
