@@ -1,7 +1,8 @@
 -- Parts of lists, a list pasted into another, and the list a + c·b, by their places.
 --
 --   length_part, get_or-part          == the length and the numbers of a part
---   get_or_paste_inside, -before, -after == the numbers of `paste l x t n`, which is l with the first n numbers
+--   get_or_paste_inside, -before, -after == the numbers of `paste l x t n`, which is l with the first n
+-- numbers
 --                          of t from place x on
 --   part_paste_inside, -before, -after == its parts: what was pasted, and parts apart from it
 --   drop-plus            == past the end of b the sum a + b is a
@@ -14,7 +15,8 @@ use mathlib.Core.List.{List, [], ◌∷◌, ◌++◌}
 use native.Mathlib.Nat.{not-suc-le-zero, le_of_suc-le-suc}
 use native.Mathlib.Omega.{arith}
 use lib.ListN.{length, get_or, take, drop, length-take, length-drop, get_or-append}
-use lib.Seq.{paste, length-take-le, length-paste, length_paste_head, get_or-append-add, get_or-take, get_or-drop}
+use lib.Seq.{paste, length-take-le, length-paste, length_paste_head, get_or-append-add, get_or-take}
+use lib.Seq.{get_or-drop}
 use lib.Seq.{ext_get_or}
 use Rattle.meaning.specs.Field.{Field}
 use Rattle.meaning.specs.Polynomial.{plus, scale}

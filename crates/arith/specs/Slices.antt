@@ -5,7 +5,8 @@
 --   Places l x y n    == the n numbers from x on and the n numbers from y on are in l, and whoever writes the
 --                        first ones from the front has written none of the second ones that he has yet to
 --                        read: the two parts are apart, or the second does not begin before the first
---   combined_within F l x y c z n == l with a + c·b in the n places from x on, where a is the n numbers from y
+--   combined_within F l x y c z n == l with a + c·b in the n places from x on, where a is the n numbers from
+--                                    y
 --                        on and b those from z on
 --   added_within F l x c y n      == l with a + c·b in the place of a, where a is the n numbers from x on and
 --                        b those from y on

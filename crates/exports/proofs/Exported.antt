@@ -26,7 +26,8 @@ use Rattle.meaning.specs.Portion.{SetFigures, rate_set}
 use Rattle.meaning.specs.Free.{rate_free}
 use Rattle.meaning.specs.Continuation.{continue_sequence}
 use Rattle.meaning.specs.Irreducibility.{ask_irreducible}
-use Rattle.meaning.specs.Answers.{number_of, told_irreducible, told_power, told_free, told_entry, told_filling}
+use Rattle.meaning.specs.Answers.{number_of, told_irreducible, told_power, told_free, told_entry}
+use Rattle.meaning.specs.Answers.{told_filling}
 use Rattle.meaning.specs.Answers.{told_set, set_figures_told, set_padded}
 use Rattle.meaning.specs.Calls.{LentAfter, IrreducibleCall, PeriodCall, SetCall, FreeCall, EntryCall}
 use Rattle.meaning.specs.Calls.{ContinueCall}

@@ -124,7 +124,8 @@ pub record Boundaries : Type 0 where
   -- also with x among the factors; 0 where x has a power
   pub repeat_of_one : rate_set (GF 2) (x+1 ∷ []) (2 ∷ 0 ∷ 7 ∷ []) (1 ∷ 0 ∷ []) 4097 8192
       ≡ set_answer (2 ∷ []) 2 2 (1 ∷ 0 ∷ 1 ∷ [])
-  pub repeat_on_zeros : rate_set (GF 2) (x+1 ∷ []) (1 ∷ []) (0 ∷ []) 4097 8192 ≡ set_answer (0 ∷ []) 0 1 (1 ∷ [])
+  pub repeat_on_zeros : rate_set (GF 2) (x+1 ∷ []) (1 ∷ []) (0 ∷ []) 4097 8192 ≡ set_answer (0 ∷ []) 0 1
+      (1 ∷ [])
   pub repeat_of_one_power : rate_set (GF 2) (x+1 ∷ x²+x+1 ∷ []) (1 ∷ 1 ∷ []) (1 ∷ 1 ∷ 1 ∷ []) 4097 8192
       ≡ set_answer (1 ∷ 0 ∷ []) 1 1 x+1
   pub repeat_of_both : rate_set (GF 2) (x+1 ∷ x²+x+1 ∷ []) (2 ∷ 1 ∷ []) (0 ∷ 0 ∷ 0 ∷ 1 ∷ []) 4097 8192

@@ -152,9 +152,24 @@ call_rows =
       period_b = record { rating = refl; lent = record { answer_bytes = refl; work_bytes = refl } };
       period_f = record { rating = refl; lent = record { answer_bytes = refl; work_bytes = refl } };
       period_twelve = record { rating = refl; lent = record { answer_bytes = refl; work_bytes = refl } };
-      set_g = record { rating = refl; powers = refl; lent = record { answer_bytes = refl; work_bytes = refl } };
-      set_l = record { rating = refl; powers = refl; lent = record { answer_bytes = refl; work_bytes = refl } };
-      set_k = record { rating = refl; powers = refl; lent = record { answer_bytes = refl; work_bytes = refl } };
+      set_g = record {
+        rating = refl;
+        powers = refl;
+        lent = record
+            { answer_bytes = refl; work_bytes = refl };
+      };
+      set_l = record {
+        rating = refl;
+        powers = refl;
+        lent = record
+            { answer_bytes = refl; work_bytes = refl };
+      };
+      set_k = record {
+        rating = refl;
+        powers = refl;
+        lent = record
+            { answer_bytes = refl; work_bytes = refl };
+      };
       set_nine =
           record { rating = refl; powers = refl; lent = record { answer_bytes = refl; work_bytes = refl } };
       free_h =

@@ -67,7 +67,8 @@ unfolding prime is_prime largest_prime prime_in_range is_element are_elements mu
 open_field = tt
 
 unfoldable pub open_polynomial-1 : Unit {0}
-unfolding degree leading is_monic is_monic_over plus scale times power product each_head monics same has_factor_of
+unfolding degree leading is_monic is_monic_over plus scale times power product each_head monics same
+    has_factor_of
 open_polynomial-1 = tt
 
 unfoldable pub open_polynomial-2 : Unit {0}
@@ -96,11 +97,13 @@ unfolding map_result first_of value_of settle figures_of written cleared answer_
 open_result = tt
 
 unfoldable pub open_conditions-1 : Unit {0}
-unfolding named total_degree not_prime count_out_of_range place_out_of_range term_out_of_field factor_count_out_of_range
+unfolding named total_degree not_prime count_out_of_range place_out_of_range term_out_of_field
+    factor_count_out_of_range
 open_conditions-1 = tt
 
 unfoldable pub open_conditions-2 : Unit {0}
-unfolding degree_out_of_range factor_degree_out_of_range continuation_degree_out_of_range coefficient_out_of_range not_monic
+unfolding degree_out_of_range factor_degree_out_of_range continuation_degree_out_of_range
+    coefficient_out_of_range not_monic
     is_asked is_reducible two_equal
 open_conditions-2 = tt
 
@@ -126,7 +129,8 @@ unfolding period_power period_table period_answer period_in rate_period
 open_period = tt
 
 unfoldable pub open_portion : Unit {0}
-unfolding factors_of with_power least_at set_powers onward set_rating set_table set_answer set_in rate_set factor_table
+unfolding factors_of with_power least_at set_powers onward set_rating set_table set_answer set_in rate_set
+    factor_table
     accepted_factors
 open_portion = tt
 
@@ -155,7 +159,8 @@ unfolding irreducible_table irreducible_in ask_irreducible
 open_irreducibility = tt
 
 unfoldable pub open_route-1 : Unit {0}
-unfolding look_up body_lengths admitted stopped before walk bodies appended number byte_of factor_upper mode_of
+unfolding look_up body_lengths admitted stopped before walk bodies appended number byte_of factor_upper
+    mode_of
 open_route-1 = tt
 
 unfoldable pub open_route-2 : Unit {0}
@@ -163,7 +168,8 @@ unfolding suits mode_unsuited suited records end_record read_record box_of
 open_route-2 = tt
 
 unfoldable pub open_file-1 : Unit {0}
-unfolding file_factor polynomial_of file_degree_out_of_range file_coefficient_out_of_range terms_of file_answer of_period
+unfolding file_factor polynomial_of file_degree_out_of_range file_coefficient_out_of_range terms_of
+    file_answer of_period
     of_set
 open_file-1 = tt
 
@@ -176,7 +182,8 @@ unfolding text digits decimal joined line header label_word density result_line 
 open_print = tt
 
 unfoldable pub open_answers-1 : Unit {0}
-unfolding number_of told_irreducible told_filling told_power told_free told_set set_figures_told told_file label_told
+unfolding number_of told_irreducible told_filling told_power told_free told_set set_figures_told told_file
+    label_told
 open_answers-1 = tt
 
 unfoldable pub open_answers-2 : Unit {0}
@@ -188,7 +195,8 @@ unfolding buffer_after body_after
 open_calls = tt
 
 unfoldable pub open_exports : Unit {0}
-unfolding version named_by status_of period_told set_told word_number free_told entry_told answer_told body_start
+unfolding version named_by status_of period_told set_told word_number free_told entry_told answer_told
+    body_start
     record_told
 open_exports = tt
 

@@ -108,7 +108,8 @@ some_same a b e = cc
 numbered : ℕ × Refusal → Bool
 numbered e = eqb (number_of e.1) e.0
 
-looked_up : (l : List (ℕ × Refusal)) (n : ℕ) {x : Refusal} → T (holds_for_all numbered l) → look_up n l ≡ some x
+looked_up : (l : List (ℕ × Refusal)) (n : ℕ) {x : Refusal} → T (holds_for_all numbered l) → look_up n l ≡
+    some x
     → number_of x ≡ n
 unfolding look_up holds_for_all numbered
 looked_up [] n h e = absurd (none-ne-some _ e)

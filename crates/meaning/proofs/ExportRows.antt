@@ -77,7 +77,8 @@ pub record ExportRows : Type 0 where
   -- the set way: the powers in the order of the factors
   pub set : rate_set_by two (x+1 ∷ x²+x+1 ∷ []) (1 ∷ 1 ∷ []) (0 ∷ 1 ∷ 1 ∷ [])
       ≡ rating 0 2 3 0 (0 ∷ 1 ∷ replicate 6 0)
-  pub set_four : rate_set_by four ((2 ∷ 1 ∷ []) ∷ []) (2 ∷ []) (1 ∷ 0 ∷ []) ≡ rating 0 2 6 0 (2 ∷ replicate 7 0)
+  pub set_four : rate_set_by four ((2 ∷ 1 ∷ []) ∷ []) (2 ∷ []) (1 ∷ 0 ∷ []) ≡ rating 0 2 6 0
+      (2 ∷ replicate 7 0)
   pub set_nine : rate_set_by two [] [] (0 ∷ []) ≡ refused_by 9
   -- the free way: 1 for `one`, 2 for `some`, 0 where refused
   pub one : rate_free_by two (1 ∷ 0 ∷ []) ≡ rating 0 1 0 1 (replicate 8 0)
@@ -88,7 +89,8 @@ pub record ExportRows : Type 0 where
   pub yes : answer_told (ask_irreducible two x²+x+1) ≡ record { status = 0; yes = 1 }
   pub no : answer_told (ask_irreducible two x²+1) ≡ record { status = 0; yes = 0 }
   pub no_four : answer_told (ask_irreducible four x²+x+1) ≡ record { status = 0; yes = 0 }
-  pub asked_twenty : answer_told (ask_irreducible (named_by (numbers 2 1)) x+1) ≡ record { status = 20; yes = 0 }
+  pub asked_twenty : answer_told (ask_irreducible (named_by (numbers 2 1)) x+1) ≡ record
+      { status = 20; yes = 0 }
   -- the search
   pub entry : entry_told (find_entry (0 ∷ 0 ∷ 0 ∷ 1 ∷ []) 8192) ≡ record { status = 0; entry = 3; power = 4 }
   pub no_entry : entry_told (find_entry [] 8192) ≡ record { status = 7; entry = 0; power = 0 }

@@ -56,7 +56,8 @@ pub record ExtensionRows : Type 0 where
   pub whole : irreducible (binary 2 3) (2 ∷ 1 ∷ 1 ∷ []) ≡ true
   pub parted : irreducible (binary 2 3) (1 ∷ 1 ∷ 1 ∷ []) ≡ false
   -- 8 and 11 over GF(8)
-  pub eight : (term_out_of_field (binary 3 3) (7 ∷ []) ≡ false) × (term_out_of_field (binary 3 3) (8 ∷ []) ≡ true)
+  pub eight : (term_out_of_field (binary 3 3) (7 ∷ []) ≡ false) ×
+      (term_out_of_field (binary 3 3) (8 ∷ []) ≡ true)
   pub eleven :
       (coefficient_out_of_range (binary 3 3) (1 ∷ 7 ∷ []) ≡ false)
       × (coefficient_out_of_range (binary 3 3) (8 ∷ 1 ∷ []) ≡ true)
@@ -91,8 +92,10 @@ pub record ExtensionFiles : Type 0 where
   -- 20: n is 0, 1, 9; low has a bit at n; y^8 + 1 and y^2 are reducible.
   pub named20 :
       (of_file (headed 0 2 3 (term 0 ++ end)) ≡ some 20) × (of_file (headed 0 3 3 (term 0 ++ end)) ≡ some 20)
-      × (of_file (headed 1 1 3 (term 0 ++ end)) ≡ some 20) × (of_file (headed 9 3 3 (term 0 ++ end)) ≡ some 20)
-      × (of_file (headed 3 11 3 (term 0 ++ end)) ≡ some 20) × (of_file (headed 8 1 3 (term 0 ++ end)) ≡ some 20)
+      × (of_file (headed 1 1 3 (term 0 ++ end)) ≡ some 20) ×
+      (of_file (headed 9 3 3 (term 0 ++ end)) ≡ some 20)
+      × (of_file (headed 3 11 3 (term 0 ++ end)) ≡ some 20) ×
+      (of_file (headed 8 1 3 (term 0 ++ end)) ≡ some 20)
       × (of_file (headed 2 0 3 (term 0 ++ end)) ≡ some 20) × (of_file (headed 2 3 3 (term 0 ++ end)) ≡ none)
   -- 5 before 20, 20 before 7 and 8
   pub five_first : of_file (headed 8 1 4 end) ≡ some 5

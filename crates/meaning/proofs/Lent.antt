@@ -22,10 +22,12 @@ pub record Lent : Type 0 where
   pub coefficients_first : answer_after (rate_period (GF 2) x+1 (1 ∷ []) 4099 8194) answer ≡ 1 ∷ 1 ∷ replicate
       4097 7
   pub answer_of_zeros : answer_after (rate_period (GF 2) x+1 (0 ∷ []) 4099 8194) answer ≡ 1 ∷ replicate 4098 7
-  pub answer_after_seventeen : answer_after (rate_set (GF 2) (x+1 ∷ []) (1 ∷ []) (1 ∷ 0 ∷ []) 4099 8194) answer
+  pub answer_after_seventeen : answer_after (rate_set (GF 2) (x+1 ∷ []) (1 ∷ []) (1 ∷ 0 ∷ []) 4099 8194)
+      answer
       ≡ answer
   pub answer_after_sixteen : answer_after (rate_period (GF 2) x+1 (1 ∷ []) 4099 8) answer ≡ answer
-  pub work_rated : work_after (rate_period (GF 2) x+1 (1 ∷ []) 4099 8194) work ≡ replicate 8192 0 ++ (9 ∷ 9 ∷ [])
+  pub work_rated : work_after (rate_period (GF 2) x+1 (1 ∷ []) 4099 8194) work ≡ replicate 8192 0 ++
+      (9 ∷ 9 ∷ [])
   pub work_after_seventeen : work_after (rate_set (GF 2) (x+1 ∷ []) (1 ∷ []) (1 ∷ 0 ∷ []) 4099 8194) work
       ≡ replicate 8192 0 ++ (9 ∷ 9 ∷ [])
   pub work_after_sixteen : work_after (rate_period (GF 2) x+1 (1 ∷ []) 4096 8194) work ≡ work

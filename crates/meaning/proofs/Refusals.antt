@@ -87,10 +87,13 @@ pub record Refusals : Type 0 where
   pub set11 : number_in (rate_set (GF 2) (x+1 ∷ [] ∷ []) (1 ∷ 1 ∷ []) (0 ∷ 1 ∷ 1 ∷ []) 4097 8192) ≡ some 11
   pub set12 : number_in (rate_set (GF 2) (x+1 ∷ x²+1 ∷ []) (1 ∷ 1 ∷ []) (0 ∷ 1 ∷ 1 ∷ []) 4097 8192) ≡ some 12
   pub set13 : number_in (rate_set (GF 2) (x+1 ∷ x+1 ∷ []) (1 ∷ 2 ∷ []) (0 ∷ 1 ∷ 1 ∷ []) 4097 8192) ≡ some 13
-  pub set14 : number_in (rate_set (GF 2) (x+1 ∷ x²+x+1 ∷ []) (1 ∷ 0 ∷ []) (0 ∷ 1 ∷ 1 ∷ []) 4097 8192) ≡ some 14
+  pub set14 : number_in (rate_set (GF 2) (x+1 ∷ x²+x+1 ∷ []) (1 ∷ 0 ∷ []) (0 ∷ 1 ∷ 1 ∷ []) 4097 8192) ≡ some
+      14
   pub set15 : number_in (rate_set (GF 2) (x+1 ∷ x²+x+1 ∷ []) (1 ∷ 1 ∷ []) (0 ∷ 1 ∷ []) 4097 8192) ≡ some 15
-  pub set16 : number_in (rate_set (GF 2) (x+1 ∷ x²+x+1 ∷ []) (1 ∷ 1 ∷ []) (0 ∷ 1 ∷ 1 ∷ []) 4097 8191) ≡ some 16
-  pub set17 : number_in (rate_set (GF 2) (x+1 ∷ x²+x+1 ∷ []) (1 ∷ 1 ∷ []) (0 ∷ 1 ∷ 1 ∷ 1 ∷ []) 4097 8192) ≡ some
+  pub set16 : number_in (rate_set (GF 2) (x+1 ∷ x²+x+1 ∷ []) (1 ∷ 1 ∷ []) (0 ∷ 1 ∷ 1 ∷ []) 4097 8191) ≡ some
+      16
+  pub set17 : number_in (rate_set (GF 2) (x+1 ∷ x²+x+1 ∷ []) (1 ∷ 1 ∷ []) (0 ∷ 1 ∷ 1 ∷ 1 ∷ []) 4097 8192) ≡
+      some
       17
   -- the free way
   pub free6 : number_in (rate_free (GF 1) (0 ∷ []) 4097 8192) ≡ some 6
@@ -124,9 +127,11 @@ pub record Refusals : Type 0 where
   pub accepted14 : accepted_factors (GF 2) (x+1 ∷ x²+x+1 ∷ []) (1 ∷ 0 ∷ []) ≡ false
   pub accepted20 : accepted_factors (FieldName.Binary 1 1) (x+1 ∷ []) (1 ∷ []) ≡ false
   -- and all others are: eight factors of total degree 4,096, x and multiples among them, and no more
-  pub accepted_most : accepted_factors (GF 11) eight_factors (512 ∷ 512 ∷ 512 ∷ 512 ∷ 512 ∷ 512 ∷ 512 ∷ 512 ∷ [])
+  pub accepted_most : accepted_factors (GF 11) eight_factors
+      (512 ∷ 512 ∷ 512 ∷ 512 ∷ 512 ∷ 512 ∷ 512 ∷ 512 ∷ [])
       ≡ true
-  pub accepted_more : accepted_factors (GF 11) eight_factors (513 ∷ 512 ∷ 512 ∷ 512 ∷ 512 ∷ 512 ∷ 512 ∷ 512 ∷ [])
+  pub accepted_more : accepted_factors (GF 11) eight_factors
+      (513 ∷ 512 ∷ 512 ∷ 512 ∷ 512 ∷ 512 ∷ 512 ∷ 512 ∷ [])
       ≡ false
 
 pub refusals : Refusals

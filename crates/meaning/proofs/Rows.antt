@@ -7,7 +7,8 @@
 --   box, field, mode, factor, record5, term, stop, end == the bytes of one record of the route file
 --   terms ts          == a record of kind 6 for each term
 --   headed p m rest   == a file of box 7 whose header names the field p and the mode m
---   case_a d cs        == case A of paper 01 as the file that box 7 sends in mode 2, with the factor of degree
+--   case_a d cs        == case A of paper 01 as the file that box 7 sends in mode 2, with the factor of
+--                         degree
 --                        d and the coefficients cs, and a stop before the terms
 -- Assumes nothing.
 use Prim.Native.Nat.{ℕ, ◌-◌}

@@ -2,7 +2,7 @@
 -- x + 1, or x for the last of them. Factors over GF(3), one of them a multiple of x, and over GF(4).
 --
 --   alternating, ones, one_then_zeros == 1, 0, 1, 0, …; 1, 1, 1, …; 1 and then zeros
---   …-inField             == it is a sequence of GF(2)
+--   …-in_field            == it is a sequence of GF(2)
 --   …-annihilated         == the factor to its upper power annihilates it
 --   accepted-…            == the factor with its upper power is accepted; `plain`: its multiple is not x
 --   multiples, factor4    == the factors over GF(3) and GF(4)
@@ -144,7 +144,12 @@ ones k = 1
 
 pub ones_refused : SetCall (GF 2) factors (2 ∷ []) (cut ones 0 1) answer work too_few_terms answer work
 unfolding computed ones
-ones_refused = record { rating = refl; powers = refl; lent = record { answer_bytes = refl; work_bytes = refl } }
+ones_refused = record {
+  rating = refl;
+  powers = refl;
+  lent = record
+      { answer_bytes = refl; work_bytes = refl };
+}
 
 -- THE FACTOR x
 abbrev pub x : List Polynomial
@@ -170,13 +175,15 @@ unfolding computed one_then_zeros
 one_then_zeros-annihilated zero = refl
 one_then_zeros-annihilated (suc k) = refl
 
-pub one_then_zeros-set-0 : SetCall (GF 2) x (1 ∷ []) (cut one_then_zeros 0 1) answer work (rated 1 0 1) after-x
+pub one_then_zeros-set-0 : SetCall (GF 2) x (1 ∷ []) (cut one_then_zeros 0 1) answer work (rated 1 0 1)
+    after-x
     clean
 unfolding computed one_then_zeros
 one_then_zeros-set-0 =
     record { rating = refl; powers = refl; lent = record { answer_bytes = refl; work_bytes = refl } }
 
-pub one_then_zeros-set-1 : SetCall (GF 2) x (1 ∷ []) (cut one_then_zeros 1 1) answer work (rated 0 1 0) after-1
+pub one_then_zeros-set-1 : SetCall (GF 2) x (1 ∷ []) (cut one_then_zeros 1 1) answer work (rated 0 1 0)
+    after-1
     clean
 unfolding computed one_then_zeros
 one_then_zeros-set-1 =

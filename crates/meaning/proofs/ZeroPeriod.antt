@@ -21,7 +21,8 @@ use Rattle.meaning.specs.Sequence.{act_at, periodic, annihilates_period}
 use Rattle.meaning.specs.Result.{value_of, answered, Rated}
 use Rattle.meaning.specs.Power.{PowerFigures, power_rating}
 use Rattle.meaning.specs.Repeat.{repeats_every, shortest_period}
-use Rattle.meaning.specs.Conditions.{not_prime, count_out_of_range, term_out_of_field, coefficient_out_of_range}
+use Rattle.meaning.specs.Conditions.{not_prime, count_out_of_range, term_out_of_field}
+use Rattle.meaning.specs.Conditions.{coefficient_out_of_range}
 use Rattle.meaning.specs.Conditions.{factor_degree_out_of_range, lent_too_short, accepted_lent}
 use Rattle.meaning.specs.FieldNames.{named_field, not_field}
 use Rattle.meaning.specs.Portion.{accepted_factors, factor_table}
@@ -163,7 +164,8 @@ zeros-elements F zero l = refl
 zeros-elements F (suc n) l = rw (lt-ltb 0 F.size l, holds_for_all) (zeros-elements F n l)
 
 pub terms_pass :
-    (name : FieldName) (n : ℕ) → not_field name ≡ false → term_out_of_field (named_field name) (zeros n) ≡ false
+    (name : FieldName) (n : ℕ) → not_field name ≡ false → term_out_of_field (named_field name) (zeros n) ≡
+    false
 unfolding named_field not_field term_out_of_field not_prime prime_in_range is_prime largest_prime prime binary
 terms_pass (FieldName.Prime zero) n h = absurd (true≢false h)
 terms_pass (FieldName.Prime (suc p)) n h = rw (zeros-elements (prime (suc p)) n (omega arith))
@@ -211,6 +213,7 @@ zero-period name n f answer work h a l m =
     let exists = accepted-field name (f ∷ []) (1 ∷ []) h in
     in_field_lem name _ exists
     ∙ settle-none _ _ (zeros-passes name n f answer work h (not_false_of _ a) l m).none_holds
-    ∙ ap (λ o. value_of (bind o (power_rating (named_field name) (monic_multiple (named_field name) f) (zeros n))))
+    ∙ ap (λ o. value_of (bind o (power_rating (named_field name) (monic_multiple (named_field name) f)
+    (zeros n))))
     (power_zero name (monic_multiple (named_field name) f) n exists)
     ∙ ap (λ o. value_of (map_option zero-rating o)) (repeat_one n l)

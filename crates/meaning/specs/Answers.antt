@@ -2,7 +2,8 @@
 -- an answer. The contracts and the theorems speak of the answers through these definitions alone.
 --
 --   number_of r        == the number of the refusal in the list of paper 01
---   told_irreducible, told_filling, told_power, told_free, told_start, told_entry, told_set, told_file, told_record ==
+--   told_irreducible, told_filling, told_power, told_free, told_start, told_entry, told_set, told_file,
+-- told_record ==
 --                          the result that an answer tells; of a start the meter itself
 --   SetTold, FileTold == what the answers of a set and of a file tell beside their eight powers; `count` is
 --                        the number of powers, and `denominator` the number after the stroke of the density

@@ -7,7 +7,8 @@
 --                         these polynomials have the numbers from 2 to 2,047
 --   entry_power ts n    == the least power of the polynomial of n that annihilates the period ts, or none
 --   EntryFigures       == an entry of the catalogue, and a power; entry_figures ts n == n with its power
---   first_entry ts      == the first entry that has such a power, with it, or none where no entry has one. For
+--   first_entry ts      == the first entry that has such a power, with it, or none where no entry has one.
+--                          For
 --                         the zero sequence that is x, with the power 0
 --   entry_table         == the refusals that the search meets, in order; 16 looks at the work bytes alone, as
 --                         for answer bytes that are enough

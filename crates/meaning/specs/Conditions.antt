@@ -5,7 +5,8 @@
 --   named factors uppers == each factor with its upper power, in order; 0 for a factor without one; further
 --                          upper powers belong to no factor
 --   total_degree l        == the sum of upper power × degree (D in paper 01)
-use Rattle.std.specs.Prelude.{ℕ, ◌+◌, ◌*◌, ◌-◌, ◌^◌, ◌/◌, Bool, true, false, not, ◌||◌, ◌&&◌, List, [], ◌∷◌, length, leb, ltb, eqb}
+use Rattle.std.specs.Prelude.{ℕ, ◌+◌, ◌*◌, ◌-◌, ◌^◌, ◌/◌, Bool, true, false, not, ◌||◌, ◌&&◌, List, [], ◌∷◌}
+use Rattle.std.specs.Prelude.{length, leb, ltb, eqb}
 use Rattle.meaning.specs.Search.{holds_for_some}
 use Rattle.meaning.specs.Field.{Field, prime, prime_in_range, are_elements}
 use Rattle.meaning.specs.Polynomial.{Polynomial, degree, leading, is_monic, same, irreducible}

@@ -1,6 +1,7 @@
 -- The continuation way: the sequence that a polynomial and its starting terms define, in a lent buffer.
 --
---   continue_table       == the refusals that the continuation meets in the field F, in order, for a buffer of
+--   continue_table       == the refusals that the continuation meets in the field F, in order, for a buffer
+--                           of
 --                          `size` bytes
 --   filled F g start place buffer == the buffer with the continued sequence from the place to its end
 --   continue_in F g start place buffer == the buffer afterwards, or the refusal, in the field F; the

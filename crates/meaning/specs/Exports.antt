@@ -6,7 +6,8 @@
 --                         else GF(2^degree), reduced by y^degree and the bits of the number. No numbers make
 --                         the name of a field of 2^0 elements
 --   status_of r         == 0 where the call is accepted, and else the number of the refusal
---   period_told, set_told, free_told == the struct of a rating, from the result of the way: zeros where refused.
+--   period_told, set_told, free_told == the struct of a rating, from the result of the way: zeros where
+--                                       refused.
 --                         The period way has one power; the free way has a word and no powers and no repeat
 --                         length
 --   word_number u       == the word as a number: 1 for `one`, 2 for `some`
@@ -23,7 +24,8 @@
 --   Filled r …         == `gobashe_continue_sequence` with the result r
 --   Question r a       == `gobashe_is_irreducible` with the result r
 --   RecordExported …   == `gobashe_record`
-use Rattle.std.specs.Prelude.{ℕ, zero, suc, ◌+◌, ◌/◌, ◌≡◌, Bool, true, false, List, [], ◌∷◌, length, get_or, take, eqb}
+use Rattle.std.specs.Prelude.{ℕ, zero, suc, ◌+◌, ◌/◌, ◌≡◌, Bool, true, false, List, [], ◌∷◌, length, get_or}
+use Rattle.std.specs.Prelude.{take, eqb}
 use Rattle.meaning.specs.declared.FieldName.{FieldName}
 use Rattle.meaning.specs.declared.FieldNumbers.{FieldNumbers}
 use Rattle.meaning.specs.declared.Rating.{Rating}

@@ -11,7 +11,8 @@
 --   reducing n low     == the reducing polynomial: the bits of low, and y^n
 --   binary n low       == GF(2^n) with that reducing polynomial; of a number from 2^n on the n lowest bits
 --                         count. Nothing here says that the laws hold
-use Rattle.std.specs.Prelude.{ℕ, zero, suc, ◌+◌, ◌*◌, ◌-◌, ◌/◌, ◌%◌, ◌^◌, List, [], ◌∷◌, ◌++◌, length, get_or, take}
+use Rattle.std.specs.Prelude.{ℕ, zero, suc, ◌+◌, ◌*◌, ◌-◌, ◌/◌, ◌%◌, ◌^◌, List, [], ◌∷◌, ◌++◌, length, get_or}
+use Rattle.std.specs.Prelude.{take}
 use Rattle.meaning.specs.Field.{Field, prime}
 use Rattle.meaning.specs.Polynomial.{Polynomial, plus, scale, times}
 

@@ -11,7 +11,8 @@
 --   are_elements F l   == every number of the list is an element of F
 --   multiple F n a    == the n-fold sum of a; 0 for n = 0
 --   negative F a      == the element whose sum with a is 0: one multiple of a less than the characteristic
-use Rattle.std.specs.Prelude.{ℕ, zero, suc, ◌+◌, ◌*◌, ◌-◌, ◌%◌, ◌≤◌, ◌≡◌, Bool, true, false, not, ◌&&◌, ◌⊎◌, List, leb, ltb, eqb}
+use Rattle.std.specs.Prelude.{ℕ, zero, suc, ◌+◌, ◌*◌, ◌-◌, ◌%◌, ◌≤◌, ◌≡◌, Bool, true, false, not, ◌&&◌, ◌⊎◌}
+use Rattle.std.specs.Prelude.{List, leb, ltb, eqb}
 use Rattle.meaning.specs.Search.{range, holds_for_all}
 
 pub record Field : Type 0 where

@@ -15,7 +15,8 @@
 --   field_in rs          == the name of the field that the records hold: by kind 9, or else by kind 2
 --   rate_records rs answer work == the answer of the mode's way on what the records hold
 --   rate_file file answer work  == the answer for a file: the refusals 1 to 5, then those of its mode
-use Rattle.std.specs.Prelude.{ℕ, Bool, true, false, not, ◌||◌, List, [], ◌∷◌, ◌++◌, map, length, get_or, take, drop, eqb}
+use Rattle.std.specs.Prelude.{ℕ, Bool, true, false, not, ◌||◌, List, [], ◌∷◌, ◌++◌, map, length, get_or, take}
+use Rattle.std.specs.Prelude.{drop, eqb}
 use Rattle.std.proofs.Math.Option.{none, some}
 use Rattle.meaning.specs.declared.FieldName.{FieldName}
 use Rattle.meaning.specs.Search.{holds_for_all, holds_for_some}

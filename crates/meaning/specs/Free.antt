@@ -2,7 +2,8 @@
 --
 --   fits_degree F ts e  == some monic polynomial of degree e annihilates the known terms, by trying all of
 --                         them
---   least_degree F ts   == the least such degree, at most the number of terms (a polynomial of that degree has
+--   least_degree F ts   == the least such degree, at most the number of terms (a polynomial of that degree
+--                          has
 --                         no places and fits). In words: IsLeastDegree F ts e
 --   Fits F ts e g      == g is monic over F, of degree e, and annihilates the known terms
 --   IsLeastDegree F ts e == some polynomial fits with degree e, and none with a smaller one
@@ -12,7 +13,8 @@
 --   Precedes f g       == f comes before g: the coefficients are compared from the highest degree downwards,
 --                         and at the first difference f has the smaller number; one that is missing counts
 --                         as 0
---   free_polynomial F ts e == the first polynomial of degree e that annihilates the known terms, by trying all
+--   free_polynomial F ts e == the first polynomial of degree e that annihilates the known terms, by trying
+--                             all
 --                         of them in that order, in which `monics` lists them; under `one` the only one
 --   free_table F ts …   == the refusals that the free way meets in the field F, in order; free_in F ts … ==
 --                         the answer in F

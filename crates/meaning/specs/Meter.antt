@@ -20,7 +20,8 @@
 --                         always shows some, so that no entry is missing
 --
 -- Of a meter that was made otherwise than by a start and by terms nothing is claimed.
-use Rattle.std.specs.Prelude.{ℕ, ◌≤◌, ◌/◌, ◌%◌, ◌≡◌, Bool, true, false, List, [], ◌∷◌, ◌++◌, length, take, leb}
+use Rattle.std.specs.Prelude.{ℕ, ◌≤◌, ◌/◌, ◌%◌, ◌≡◌, Bool, true, false, List, [], ◌∷◌, ◌++◌, length, take}
+use Rattle.std.specs.Prelude.{leb}
 use Rattle.std.proofs.Math.Option.{Option, some}
 use Rattle.meaning.specs.declared.FieldName.{FieldName}
 use Rattle.meaning.specs.declared.Meter.{Meter}

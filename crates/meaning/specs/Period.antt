@@ -1,9 +1,11 @@
 -- The period way: the least power of one factor that annihilates the endless repetition of a period.
 --
---   period_power F f ts == the least r with f^r annihilating the period ts, tried up to its length; none where
+--   period_power F f ts == the least r with f^r annihilating the period ts, tried up to its length; none
+--                          where
 --                         no power does. In words: LeastPower F f (periodic ts) r, and NoPower F f ts
 --   NoPower F f ts     == no power of f, however large, annihilates the endless repetition
---   period_table        == the refusals that the period way meets in the field F, in order; `ten` and `eleven`
+--   period_table        == the refusals that the period way meets in the field F, in order; `ten` and
+--                          `eleven`
 --                         say whether these two hold of the factor, which a list and a file write differently
 --   period_answer       == the answer in the field F, with a monic factor and lent bytes of these lengths
 --   period_in F f ts answer work == the answer with any factor: 10 and 11 look at it as it is given, and all

@@ -17,7 +17,8 @@
 --   irreducible F f   == no two monic polynomials of positive degree have the product f, by trying all of
 --                        them; it is asked of monic f of positive degree only
 --   NotAProduct F f   == paper 01's words for it: f is not a product of two polynomials of positive degree
-use Rattle.std.specs.Prelude.{ℕ, zero, suc, ◌-◌, ◌<◌, ◌≢◌, Bool, true, false, not, ◌&&◌, List, [], ◌∷◌, ◌++◌, map, length, eqb, T}
+use Rattle.std.specs.Prelude.{ℕ, zero, suc, ◌-◌, ◌<◌, ◌≢◌, Bool, true, false, not, ◌&&◌, List, [], ◌∷◌, ◌++◌}
+use Rattle.std.specs.Prelude.{map, length, eqb, T}
 use Rattle.std.proofs.Math.Option.{none, some}
 use Rattle.meaning.specs.Search.{range, holds_for_some, least}
 use Rattle.meaning.specs.Field.{Field, are_elements}

@@ -19,7 +19,8 @@
 --                         Period
 --   set_answer          == the answer in the field F, with monic factors
 --   factor_table F factors uppers == the refusals that factors and their upper powers meet, 9 to 14
---   accepted_factors name factors uppers == they are accepted: the name is that of a field, and 9 to 14 do not
+--   accepted_factors name factors uppers == they are accepted: the name is that of a field, and 9 to 14 do
+-- not
 --                          turn them down
 --   set_in F factors uppers ts answer work == the answer with any factors: 9 to 11 look at them as they are
 --                          given, and all that follows at their monic multiples

@@ -4,7 +4,8 @@
 --                         polynomial of degree e annihilates it says that s repeats every n terms
 --   longest_repeat      == 65,536, the longest repeat length that is told
 --   least_within b t    == the least number from 1 to b that passes the test t; 0 where there is none
---   repeat_length g s   == the least n up to the longest repeat after which s comes again, by as many terms as
+--   repeat_length g s   == the least n up to the longest repeat after which s comes again, by as many terms
+--                          as
 --                         the degree of g; 0 where x divides g, or where there is none. For the polynomial 1
 --                         of the zero sequence it is 1
 --   RepeatMeaning g s n == what n says in words: other than 0 it is the least period of s, at most 65,536; 0

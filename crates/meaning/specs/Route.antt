@@ -20,9 +20,11 @@
 --   records file      == the records of the file, or its refusal by 1 to 5
 --   read_record file n == record n, counted from 0; beyond the last the end record
 --   number bytes      == the number of several bytes, the most significant first; 0 for none
---   box_of file        == the box number; 0 where the file does not begin with a whole box record or refusal 1
+--   box_of file        == the box number; 0 where the file does not begin with a whole box record or refusal
+--                         1
 --                        holds
-use Rattle.std.specs.Prelude.{ℕ, zero, suc, ◌+◌, ◌*◌, Bool, true, false, not, ◌&&◌, List, [], ◌∷◌, length, get_or, take, drop, leb, ltb, eqb}
+use Rattle.std.specs.Prelude.{ℕ, zero, suc, ◌+◌, ◌*◌, Bool, true, false, not, ◌&&◌, List, [], ◌∷◌, length}
+use Rattle.std.specs.Prelude.{get_or, take, drop, leb, ltb, eqb}
 use Rattle.std.proofs.Math.Option.{Option, none, some}
 use Rattle.meaning.specs.Result.{Result, refused, answered}
 

@@ -21,7 +21,8 @@
 --   MinimalPolynomial F g s == g is monic over F and annihilates s, and every other such polynomial has a
 --                          larger degree
 --   LeastPower F f s r    == r is the least power for which f^r annihilates s
-use Rattle.std.specs.Prelude.{ℕ, zero, suc, ◌+◌, ◌-◌, ◌%◌, ◌≤◌, ◌<◌, ◌≡◌, ◌≢◌, Bool, List, [], ◌∷◌, ◌++◌, map, length, get_or, take, drop, eqb, T}
+use Rattle.std.specs.Prelude.{ℕ, zero, suc, ◌+◌, ◌-◌, ◌%◌, ◌≤◌, ◌<◌, ◌≡◌, ◌≢◌, Bool, List, [], ◌∷◌, ◌++◌, map}
+use Rattle.std.specs.Prelude.{length, get_or, take, drop, eqb, T}
 use Rattle.meaning.specs.Search.{range, holds_for_all}
 use Rattle.meaning.specs.Field.{Field, negative}
 use Rattle.meaning.specs.Polynomial.{Polynomial, degree, is_monic_over, power}
@@ -46,7 +47,8 @@ abbrev pub AnnihilatesEndless : Field → Polynomial → Sequence → Type 0
 AnnihilatesEndless F g s = (k : ℕ) → act_at F g s k ≡ 0
 
 unfoldable pub annihilates_known : Field → Polynomial → List ℕ → Bool
-annihilates_known F g ts = holds_for_all (λ k. eqb (act_at F g (known ts) k) 0) (range 0 (length ts - degree g))
+annihilates_known F g ts = holds_for_all (λ k. eqb (act_at F g (known ts) k) 0)
+    (range 0 (length ts - degree g))
 
 unfoldable pub annihilates_period : Field → Polynomial → List ℕ → Bool
 annihilates_period F g ts = holds_for_all (λ k. eqb (act_at F g (periodic ts) k) 0) (range 0 (length ts))

@@ -106,7 +106,8 @@ module _ (F : Field) (m : Meter) (t : ℕ) {terms work work' : List ℕ} {k r : 
     stands : Stands (state_after (named_field name) (ts ++ (t ∷ []))) work' r
     stands =
         subst
-        (λ n. Stands (massey_after (named_field name) (inverse (named_field name)) (ts ++ (t ∷ [])) n) work' r)
+        (λ n. Stands (massey_after (named_field name) (inverse (named_field name)) (ts ++ (t ∷ [])) n) work'
+        r)
         seen_all
         stepped.holds
 
@@ -131,7 +132,8 @@ room-left F n t e q = open_below F n t (verdict_passes (term_table F n t) e q)
 
 module _ (m : Meter) (t : ℕ) {terms work : List ℕ} where
   -- nothing is promised of a meter whose numbers are out of range, or whose name is that of no field
-  pub term_unusable : {step : MeterStep} → Usable m false → TermCall meter_model m t terms work step terms work
+  pub term_unusable : {step : MeterStep} → Usable m false → TermCall meter_model m t terms work step terms
+      work
   term_unusable u =
       record { taken = λ name ts h. absurd (subst T (sym (u.holding name ts terms work h)) tt) }
 

@@ -1,7 +1,8 @@
 -- How the meter keeps what it knows, and what the contracts of its parts cite.
 --
 --   state_after F ts   == the state of the Berlekamp-Massey model after the terms ts over F
---   meter_numbers, meter_bytes == the numbers of a state, and its two polynomials in two halves of 4,096 bytes
+--   meter_numbers, meter_bytes == the numbers of a state, and its two polynomials in two halves of 4,096
+--                                 bytes
 --                        with zeros after them
 --   meter_model        == these after the terms held
 --   meter_of name r, recurrence_of m == the numbers of a recurrence as a meter for the field with this name,

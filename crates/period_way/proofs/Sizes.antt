@@ -19,7 +19,8 @@ use Rattle.meaning.specs.Period.{period_power}
 use Rattle.bridge.proofs.Basics.Searches.{T-decided, not-false}
 use Rattle.bridge.proofs.Basics.Interpretation.{IsField, prime-pos}
 use Rattle.bridge.proofs.Sequences.KnownActions.{all_zero}
-use Rattle.bridge.proofs.Ways.PowerSearch.{power_found, power_found-zeros, power_found-digits, digits_found-below}
+use Rattle.bridge.proofs.Ways.PowerSearch.{power_found, power_found-zeros, power_found-digits}
+use Rattle.bridge.proofs.Ways.PowerSearch.{digits_found-below}
 use Rattle.bridge.proofs.Ways.PowerSearch.{act_steps}
 use Rattle.bridge.proofs.Ways.Periods.{PeriodSearch, period-search, period_power-zeros, valuation}
 use Rattle.period_way.specs.Period.{PeriodInput}

@@ -91,8 +91,8 @@ fn rate_in(
 // The least power of the factor, over the field with this name, that annihilates the endless repetition of
 // the terms; the degree of the factor to this power; and the repeat length, which is the shortest period of
 // the terms. Or the refusal by 6 or 20, 7, 8, 10, 11, 12, 16 or 17. The factor stands for its monic multiple.
-// If it accepts, it writes the multiple to the least power at the front of the answer. If it accepts or refuses by
-// 17, it clears the first 8,192 work bytes. Every other lent byte stays as it was.
+// If it accepts, it writes the multiple to the least power at the front of the answer. If it accepts or
+// refuses by 17, it clears the first 8,192 work bytes. Every other lent byte stays as it was.
 pub fn rate_period(
     name: FieldName,
     factor: &[u8],

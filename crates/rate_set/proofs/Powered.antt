@@ -32,7 +32,8 @@ use Rattle.rate_set.specs.Ratings.{Checked}
 
 module _ {F : Field} {fs : List Polynomial} {rs : List ℕ} (x : ProductInput F fs rs) where
   part : (i : ℕ) → i < length fs
-      → power_at (named fs rs) i * degree (factor_at (named fs rs) i) ≡ get_or rs i 0 * degree (get_or fs i [])
+      → power_at (named fs rs) i * degree (factor_at (named fs rs) i) ≡ get_or rs i 0 * degree
+      (get_or fs i [])
   part i k =
       ap (λ r. r * degree (factor_at (named fs rs) i)) (power_at-named fs rs i k)
       ∙ ap (λ f. get_or rs i 0 * degree f) (factor_at-named fs rs i)

@@ -40,7 +40,8 @@ use Rattle.bridge.proofs.Sequences.RepeatLengths.{set-repeat_length}
 use Rattle.arith.specs.declared.field.GaloisField.{GaloisField}
 use Rattle.arith.specs.Represented.{field_of, WellFormed}
 use Rattle.refusals.specs.declared.Verdict.{Verdict}
-use Rattle.refusals.specs.Verdicts.{number_in, multiples_table, powers_table, lent_table, set_rest, set_checks}
+use Rattle.refusals.specs.Verdicts.{number_in, multiples_table, powers_table, lent_table, set_rest}
+use Rattle.refusals.specs.Verdicts.{set_checks}
 use Rattle.refusals.proofs.Settled.{verdict_passes, settle-early, settle-last, settle_over, set_last}
 use Rattle.refusals.proofs.Ways.{set_rest_lem}
 use Rattle.powers.specs.product.Writing.{ProductInput, ProductWritten}

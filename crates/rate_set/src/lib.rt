@@ -117,8 +117,8 @@ fn rate_in(
 // the first D terms, D the total degree of the upper powers; the degree of that polynomial; and the repeat
 // length, which is the least period of that continuation, or 0 if there is none or it exceeds 65,536. Or the
 // refusal by 6 or 20, or 7 to 17. Each factor stands for its monic multiple. If it accepts, it writes the
-// polynomial at the front of the answer. If it accepts or refuses by 17, it clears the first 8,192 work bytes. Every other
-// lent byte stays as it was.
+// polynomial at the front of the answer. If it accepts or refuses by 17, it clears the first 8,192 work
+// bytes. Every other lent byte stays as it was.
 pub fn rate_set(
     name: FieldName,
     factors: &[&[u8]],

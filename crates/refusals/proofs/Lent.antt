@@ -93,7 +93,8 @@ pub name-keeps : {name : FieldName} {x : Refusal} → Declined name x → clears
 name-keeps {name} d = ap clears d.number ∙ number-keeps name
 
 module _ {A : Type 0} {name : FieldName} (rated : Field → Result (Rated A)) {answer work : List ℕ} where
-  pub lent_declined : {x : Refusal} → Declined name x → LentAfter (in_field name rated) answer work answer work
+  pub lent_declined : {x : Refusal} → Declined name x → LentAfter (in_field name rated) answer work answer
+      work
   lent_declined d = lent_refused (at_door rated d) (name-keeps d)
 
   pub lent_behind : {f : GaloisField} {answer' work' : List ℕ} → FieldNamed name f

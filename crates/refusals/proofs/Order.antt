@@ -52,7 +52,8 @@ told-before : (A B : List Check) (v : Verdict) → number_in v ≡ first_of A
 told-before A B v e = first-append A B ∙ ap (λ (x : Option ℕ). otherwise x (first_of B)) (sym e)
 
 module _ (A B : List Check) {v : Verdict} (e : number_in v ≡ first_of A) where
-  pub refused_before : {r : Refusal} → v ≡ Verdict.Refused r → number_in (Verdict.Refused r) ≡ first_of (A ++ B)
+  pub refused_before : {r : Refusal} → v ≡ Verdict.Refused r → number_in (Verdict.Refused r) ≡ first_of
+      (A ++ B)
   unfolding number_in
   refused_before q =
       sym (told-before A B v e ∙ ap (λ (x : Verdict). otherwise (number_in x) (first_of B)) q)

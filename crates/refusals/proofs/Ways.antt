@@ -46,7 +46,8 @@ module _ (F : Field) (ts : List ℕ) (answer work : ℕ) where
       ≡ given_set_table F fs ts
       ++ (set_rest F gs us ts answer work
       ++ ((17, λ _. not (annihilates_known F (product F (named gs us)) ts)) ∷ []))
-  unfolding set_table given_set_table terms_table factors_table set_rest multiples_table powers_table lent_table
+  unfolding set_table given_set_table terms_table factors_table set_rest multiples_table powers_table
+      lent_table
   set-parts fs gs us e = simp (length-named, factors_of-named, e)
 
   -- where 7, 8 and, of a set, 9 pass

@@ -7,9 +7,11 @@
 --   lent_table answer work == the refusal 16
 --   powers_table l ts answer work == the refusals 14, 15 and 16, for factors with their upper powers
 --   all_but_last table   == the table without its last condition
---   given_table F f ts, given_set_table F fs ts == what the terms and the factors as they are given meet: 7, 8,
+--   given_table F f ts, given_set_table F fs ts == what the terms and the factors as they are given meet: 7,
+-- 8,
 --                         10, 11; for a set 7 to 11
---   period_rest, set_rest == what the monic multiples, the upper powers and the lent bytes meet after that: 12,
+--   period_rest, set_rest == what the monic multiples, the upper powers and the lent bytes meet after that:
+--                            12,
 --                         16; 12 to 16
 --   period_checks, set_checks == the tables of the two ways without 17, for monic multiples whose factors 10
 --                         and 11 let pass
@@ -20,7 +22,8 @@ use Rattle.meaning.specs.Field.{Field}
 use Rattle.meaning.specs.Polynomial.{Polynomial}
 use Rattle.meaning.specs.Result.{Check}
 use Rattle.meaning.specs.Conditions.{named, total_degree, count_out_of_range, term_out_of_field}
-use Rattle.meaning.specs.Conditions.{factor_count_out_of_range, factor_degree_out_of_range, coefficient_out_of_range}
+use Rattle.meaning.specs.Conditions.{factor_count_out_of_range, factor_degree_out_of_range}
+use Rattle.meaning.specs.Conditions.{coefficient_out_of_range}
 use Rattle.meaning.specs.Conditions.{is_reducible, two_equal, upper_powers_out_of_range, fewer_terms_than}
 use Rattle.meaning.specs.Conditions.{lent_too_short}
 use Rattle.meaning.specs.Irreducibility.{irreducible_table}

@@ -29,9 +29,11 @@ use Rattle.meaning.specs.Search.{holds_for_all, holds_for_some, is_none, bind, m
 use Rattle.meaning.specs.Field.{Field, prime_in_range}
 use Rattle.meaning.specs.Polynomial.{Polynomial, monic_multiple, product}
 use Rattle.meaning.specs.Sequence.{cut, continuation, annihilates_known}
-use Rattle.meaning.specs.Result.{Check, Result, Rated, answered, refused, figures_of, map_result, answer_after}
+use Rattle.meaning.specs.Result.{Check, Result, Rated, answered, refused, figures_of, map_result}
+use Rattle.meaning.specs.Result.{answer_after}
 use Rattle.meaning.specs.Result.{work_after, written}
-use Rattle.meaning.specs.Conditions.{named, factor_degree_out_of_range, coefficient_out_of_range, is_reducible}
+use Rattle.meaning.specs.Conditions.{named, factor_degree_out_of_range, coefficient_out_of_range}
+use Rattle.meaning.specs.Conditions.{is_reducible}
 use Rattle.meaning.specs.Conditions.{place_out_of_range, count_out_of_range}
 use Rattle.meaning.specs.Power.{PowerFigures, power_rating}
 use Rattle.meaning.specs.Period.{NoPower, period_power, period_table, period_answer, period_in, rate_period}
@@ -360,7 +362,8 @@ module _ (name : FieldName) (fs : List Polynomial) (vs ts answer work : List ℕ
   set_room : Sized (λ a. (set_figures_told a).degree) set_result (length answer) (length work)
   unfolding rate_set
   set_room =
-      name_sized name (λ F. set_in F fs vs ts (length answer) (length work)) (λ a. (set_figures_told a).degree)
+      name_sized name (λ F. set_in F fs vs ts (length answer) (length work))
+      (λ a. (set_figures_told a).degree)
       (length answer) (length work) (λ I. set_sized I fs vs ts (length answer) (length work))
 
 pub set_answers : SetAnswers
@@ -608,7 +611,8 @@ module _ (F : Field) (f : Polynomial) where
   irreducible_decides : Decided (irreducible_conditions F f) (irreducible_in F f)
   unfolding irreducible_in irreducible_table
   irreducible_decides =
-      settle-decided _ (irreducible_table F f) (irreducible_conditions F f) (then (then done)) (λ _. (_, refl))
+      settle-decided _ (irreducible_table F f) (irreducible_conditions F f) (then (then done))
+      (λ _. (_, refl))
 
 pub irreducible-told : (name : FieldName) (f : Polynomial)
     → Tells (irreducible_numbers name) (ask_irreducible name f)

@@ -66,7 +66,12 @@ module _ {n : ℕ} (x : Listed n) where
 
 words-listed : {n : ℕ} → 2 ≤ n → n < 2048 → NotAProduct GF2 (entry_polynomial n) → Listed n
 words-listed {n} l k w =
-    record { at_least = l; less = k; irreducibility = words-irreducible binary-is_field (entry_polynomial n) w }
+    record {
+      at_least = l;
+      less = k;
+      irreducibility = words-irreducible binary-is_field (entry_polynomial n)
+          w;
+    }
 
 pub catalogue_promise : CataloguePromise
 unfolding degree

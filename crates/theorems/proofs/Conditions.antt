@@ -14,8 +14,10 @@ use Rattle.meaning.specs.Polynomial.{Polynomial, degree, leading, irreducible, N
 use Rattle.meaning.specs.Extension.{reducing}
 use Rattle.meaning.specs.Conditions.{not_prime, not_binary, least_extension, largest_extension}
 use Rattle.meaning.specs.Conditions.{count_out_of_range, place_out_of_range, term_out_of_field}
-use Rattle.meaning.specs.Conditions.{factor_count_out_of_range, degree_out_of_range, continuation_degree_out_of_range}
-use Rattle.meaning.specs.Conditions.{coefficient_out_of_range, fewer_terms_than, start_unlike_degree, lent_too_short}
+use Rattle.meaning.specs.Conditions.{factor_count_out_of_range, degree_out_of_range}
+use Rattle.meaning.specs.Conditions.{continuation_degree_out_of_range}
+use Rattle.meaning.specs.Conditions.{coefficient_out_of_range, fewer_terms_than, start_unlike_degree}
+use Rattle.meaning.specs.Conditions.{lent_too_short}
 use Rattle.meaning.specs.FieldNames.{not_field}
 use Rattle.theorems.specs.Ratings.{ConditionWords}
 use Rattle.bridge.proofs.Basics.Interpretation.{in_range_prime, prime-InRange, prime_meaning, meaning_prime}

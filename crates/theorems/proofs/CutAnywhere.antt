@@ -18,7 +18,8 @@ use Rattle.meaning.specs.Polynomial.{Polynomial, degree, power, product, monic_m
 use Rattle.meaning.specs.Sequence.{Sequence, InField, AnnihilatesEndless, cut, periodic, Period}
 use Rattle.meaning.specs.Sequence.{MinimalPolynomial, annihilates_known}
 use Rattle.meaning.specs.Result.{Result, answered, Rated, map_result, figures_of, written, answer_after}
-use Rattle.meaning.specs.Conditions.{named, total_degree, upper_powers_out_of_range, factor_count_out_of_range}
+use Rattle.meaning.specs.Conditions.{named, total_degree, upper_powers_out_of_range}
+use Rattle.meaning.specs.Conditions.{factor_count_out_of_range}
 use Rattle.meaning.specs.Conditions.{coefficient_out_of_range}
 use Rattle.meaning.specs.Power.{PowerFigures, is_x}
 use Rattle.meaning.specs.Period.{rate_period}
@@ -52,7 +53,8 @@ use Rattle.bridge.proofs.Sequences.Cutting.{shifted, shifted-minimal, product-co
 
 -- The total degree of accepted factors is positive: there is one, with an upper power and a degree above 0.
 nonzero-upper :
-    (f : Polynomial) (v : ℕ) (l : List (Polynomial × ℕ)) → upper_powers_out_of_range ((f, v) ∷ l) ≡ false → v ≢ 0
+    (f : Polynomial) (v : ℕ) (l : List (Polynomial × ℕ)) → upper_powers_out_of_range ((f, v) ∷ l) ≡ false →
+    v ≢ 0
 unfolding upper_powers_out_of_range
 nonzero-upper f v l h e =
     let z =
@@ -276,5 +278,6 @@ cut_anywhere name fs vs s accepted noneX in_field annihilated =
           λ f one k n repeats few.
           period-way name fs vs s accepted noneX in_field annihilated f one k n repeats few;
       free-way =
-          λ k m twice terms few. free-way name fs vs s accepted noneX in_field annihilated k m twice terms few;
+          λ k m twice terms few. free-way name fs vs s accepted noneX in_field annihilated k m twice terms
+          few;
     }

@@ -28,7 +28,8 @@ use Rattle.meaning.specs.Route.{RouteRecord, Mode, period_mode, set_mode, free_m
 use Rattle.meaning.specs.Route.{look_up, records, read_record, end_record, box_of}
 use Rattle.meaning.specs.File.{file_factor, terms_of, Label, powers, unique, several, FileFigures, rate_mode}
 use Rattle.meaning.specs.File.{field_in, rate_file}
-use Rattle.meaning.specs.Answers.{told_file, file_figures_told, label_told, told_record, FileTold, file_padded}
+use Rattle.meaning.specs.Answers.{told_file, file_figures_told, label_told, told_record, FileTold}
+use Rattle.meaning.specs.Answers.{file_padded}
 use Rattle.meaning.specs.Answers.{with_powers, with_one, with_some}
 use Rattle.meaning.specs.Calls.{FileCall, body_after}
 use Rattle.meaning.specs.Print.{printed}

@@ -22,7 +22,8 @@ use Rattle.meaning.specs.Result.{Result, refused, answered}
 use Rattle.meaning.specs.Conditions.{factor_degree_out_of_range, not_monic, is_reducible}
 use Rattle.meaning.specs.Route.{RouteRecord, Stage, at_start, after_box, after_field, in_factors, in_terms}
 use Rattle.meaning.specs.Route.{after_end, look_up, body_lengths, admitted, stopped, before, walk, suited}
-use Rattle.meaning.specs.Route.{mode_unsuited, records, Mode, period_mode, set_mode, free_mode, mode_of, byte_of}
+use Rattle.meaning.specs.Route.{mode_unsuited, records, Mode, period_mode, set_mode, free_mode, mode_of}
+use Rattle.meaning.specs.Route.{byte_of}
 use Rattle.meaning.specs.Route.{bodies}
 use Rattle.meaning.specs.File.{WrittenFactor, file_factor, polynomial_of, file_degree_out_of_range}
 use Rattle.meaning.specs.File.{file_coefficient_out_of_range, terms_of, rate_mode, field_in, rate_file}
@@ -139,7 +140,8 @@ module _ (file : List ℕ) where
         | inr bad ↦ inr bad
       ]
 
-      place_says : (n : ℕ) (o : Option Stage) → look_up kind body_lengths ≡ some n → ltb (length rest) n ≡ false
+      place_says : (n : ℕ) (o : Option Stage) → look_up kind body_lengths ≡ some n → ltb (length rest) n ≡
+          false
           → look_up kind (admitted stage) ≡ o
           → Outcome (kind ∷ rest) stage
       place_says n none e t a =
@@ -310,7 +312,8 @@ module _ (file : List ℕ) (rs : List RouteRecord) (its : records file ≡ answe
         twelve
 
     mode-decided : (m : Mode) → mode_of (byte_of 3 rs) ≡ some m
-        → Decided (mode_conditions m fs (terms_of rs) answer work F) (rate_mode m F fs (terms_of rs) answer work)
+        → Decided (mode_conditions m fs (terms_of rs) answer work F)
+        (rate_mode m F fs (terms_of rs) answer work)
     unfolding rate_mode
     mode-decided period_mode mode =
         map-decided _ _ _ (period-map _)

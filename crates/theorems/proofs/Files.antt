@@ -15,7 +15,8 @@ use Rattle.meaning.specs.declared.FileRating.{FileRating}
 use Rattle.meaning.specs.Search.{holds_for_some}
 use Rattle.meaning.specs.Field.{Field}
 use Rattle.meaning.specs.Polynomial.{Polynomial, product}
-use Rattle.meaning.specs.Result.{Check, Result, Rated, refused, answered, map_result, figures_of, answer_after}
+use Rattle.meaning.specs.Result.{Check, Result, Rated, refused, answered, map_result, figures_of}
+use Rattle.meaning.specs.Result.{answer_after}
 use Rattle.meaning.specs.Result.{written}
 use Rattle.meaning.specs.Conditions.{named}
 use Rattle.meaning.specs.FieldNames.{in_field}
@@ -29,7 +30,8 @@ use Rattle.meaning.specs.File.{WrittenFactor, file_factor, polynomial_of, file_d
 use Rattle.meaning.specs.File.{file_coefficient_out_of_range}
 use Rattle.meaning.specs.File.{terms_of, FileFigures, file_answer, free_label, of_period, of_set, of_free}
 use Rattle.meaning.specs.File.{rate_mode, field_in, rate_file}
-use Rattle.meaning.specs.Answers.{told_file, set_figures_told, FileTold, file_figures_told, label_told, file_padded}
+use Rattle.meaning.specs.Answers.{told_file, set_figures_told, FileTold, file_figures_told, label_told}
+use Rattle.meaning.specs.Answers.{file_padded}
 use Rattle.meaning.specs.Answers.{label_powers, padded}
 use Rattle.meaning.specs.Calls.{FileCall}
 use Rattle.bridge.proofs.Basics.Searches.{settle_answered, settle_refused, map_answered, map_refused}
@@ -308,7 +310,8 @@ module _ (file answer work : List ℕ) (r : FileRating) (answer' work' : List �
       mode-seventeen : told_file r.outcome ≡ refused 17 → SeventeenBy m rs
       mode-seventeen e =
           let (exists, w) = name-seventeen (field_in rs) way (sym by_mode ∙ told_refused 17 e) in
-          seventeen-by file rs its (named-is_field (field_in rs) exists) (length answer) (length work) m mode w
+          seventeen-by file rs its (named-is_field (field_in rs) exists) (length answer) (length work) m
+          mode w
 
   -- an answer, or 17, is of a file whose records are accepted
   file-way :

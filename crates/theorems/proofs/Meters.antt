@@ -27,7 +27,8 @@ use Rattle.meaning.specs.Route.{look_up}
 use Rattle.meaning.specs.Result.{Check, Result, refused, answered, figures_of, map_result, settle, first_of}
 use Rattle.meaning.specs.Result.{value_of, written}
 use Rattle.meaning.specs.Free.{FreeFigures, least_degree, is_unique, free_table, free_in, rate_free}
-use Rattle.meaning.specs.Meter.{MeterModel, Remembers, Holding, free_figures, start_meter, term_table, take_term}
+use Rattle.meaning.specs.Meter.{MeterModel, Remembers, Holding, free_figures, start_meter, term_table}
+use Rattle.meaning.specs.Meter.{take_term}
 use Rattle.meaning.specs.Meter.{meter_reading}
 use Rattle.meaning.specs.Meter.{unless_refused, meter_full, profile_entry, profile_of}
 use Rattle.meaning.specs.Answers.{told_free, told_start}
@@ -512,7 +513,8 @@ unfolding unless_refused written start_meter
 profile_export field ts profile status profile' x =
     let numbers = start_numbers name in
     let s =
-    status_told numbers (start_meter name) status (keeping-zero numbers (start-keeping name)) (start-told name)
+    status_told numbers (start_meter name) status (keeping-zero numbers (start-keeping name))
+    (start-told name)
     x.told in
     record {
       status_told = s;

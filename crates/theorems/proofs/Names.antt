@@ -83,7 +83,8 @@ module _ (name : FieldName) where
         go true e = refused_decided _ (no_field name answer e) (inl (refl, true-T e))
         go false e =
             subst (Decided _) (sym (in_field_lem name answer e))
-            (append-decided ((field_number name, T (not_field name)) ∷ []) l (answer (GF name)) (false-T e, tt)
+            (append-decided ((field_number name, T (not_field name)) ∷ []) l (answer (GF name))
+            (false-T e, tt)
             (h (named-is_field name e)))
 
     pub name_tells : (numbers : List ℕ)

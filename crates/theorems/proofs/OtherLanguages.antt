@@ -252,7 +252,8 @@ unfolding end_record
 end-length = refl
 
 part_body : (rs : List RouteRecord) (n : ℕ)
-    → take (length (get_or rs n end_record).body) (drop (body_start rs n) (flat rs)) ≡ (get_or rs n end_record).body
+    → take (length (get_or rs n end_record).body) (drop (body_start rs n) (flat rs)) ≡
+    (get_or rs n end_record).body
 unfolding end_record
 part_body [] n = refl
 part_body (r ∷ rs) zero =
@@ -366,7 +367,8 @@ export_answers =
           exactly-rated period_told (rate_period (named_by field) f ts (length answer) (length work)) answer
           work;
       set = λ field fs vs ts answer work.
-          exactly-rated set_told (rate_set (named_by field) fs vs ts (length answer) (length work)) answer work;
+          exactly-rated set_told (rate_set (named_by field) fs vs ts (length answer) (length work)) answer
+          work;
       free = λ field ts answer work.
           exactly-rated free_told (rate_free (named_by field) ts (length answer) (length work)) answer work;
       continuation = λ field g start buffer place. record {

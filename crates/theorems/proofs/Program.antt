@@ -10,7 +10,8 @@ use lib.ListN.{length, get_or, take, replicate, length-replicate, get_or-eq_defa
 use lib.Seq.{take_at}
 use Rattle.meaning.specs.declared.FileRating.{FileRating}
 use Rattle.meaning.specs.Polynomial.{Polynomial}
-use Rattle.meaning.specs.Result.{Result, Rated, refused, answered, map_result, figures_of, answer_after, written}
+use Rattle.meaning.specs.Result.{Result, Rated, refused, answered, map_result, figures_of, answer_after}
+use Rattle.meaning.specs.Result.{written}
 use Rattle.meaning.specs.Route.{RouteRecord, records, end_record, box_of, look_up, body_lengths}
 use Rattle.meaning.specs.File.{Label, powers, unique, several, FileFigures, rate_file}
 use Rattle.meaning.specs.Answers.{told_file, file_figures_told, label_told, file_padded, label_powers, padded}
@@ -121,7 +122,8 @@ module _ (input answer work : List ℕ) (r : FileRating) (answer' work' : List �
   told e = c.rating ∙ ap (λ x. map_result file_figures_told (figures_of x)) e
 
   report-told : (x : Result (Rated FileFigures)) → result ≡ x → report (box_of input) x ≡ lines
-  unfolding report result_line poly_line density file_figures_told figures_of map_result file_padded answer_after
+  unfolding report result_line poly_line density file_figures_told figures_of map_result file_padded
+      answer_after
   report-told (refused n) e =
       ap (λ l. header ++ l) (append-nil _)
       ∙ sym (λ i. header ++ lines_told (c.sender i) (told e i) r.powers answer')

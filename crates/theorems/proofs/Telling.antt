@@ -195,7 +195,8 @@ by-seventeen : (n : ℕ) → (n ≡ 17) ⊎ (n ≡ 17 → ⊥)
 by-seventeen n = elim (ℕ_discrete n 17) [ yes e ↦ inl e | no e ↦ inr e ]
 
 refused_lent :
-    {B : Type 0} (numbers : List ℕ) (conditions : List Condition) (degree_from : B → ℕ) (n : ℕ) (told : Result B)
+    {B : Type 0} (numbers : List ℕ) (conditions : List Condition) (degree_from : B → ℕ) (n : ℕ)
+    (told : Result B)
     (answer work answer' work' : List ℕ)
     → told ≡ refused n
     → OneOf n numbers
@@ -204,7 +205,8 @@ refused_lent :
     → (n ≡ 17 → (work' ≡ cleared work) × (8192 ≤ length work))
     → ((n ≡ 17 → ⊥) → work' ≡ work)
     → RatingAnswers numbers conditions degree_from told answer work answer' work'
-refused_lent numbers conditions degree_from n told answer work answer' work' e h decided kept seventeen other =
+refused_lent numbers conditions degree_from n told answer work answer' work' e h decided kept seventeen
+    other =
     record {
       tells = inr (n, e, h);
       decided = decided;
@@ -251,7 +253,8 @@ pub rating_answers :
     → LentAfter result answer work answer' work'
     → RatingAnswers numbers conditions degree_from told answer work answer' work'
 unfolding map_result figures_of answer_after work_after
-rating_answers {A} numbers conditions degree_from g (refused n) told answer work answer' work' e kept t d sized
+rating_answers {A} numbers conditions degree_from g (refused n) told answer work answer' work' e kept t d
+    sized
     lent =
     let named : OneOf n numbers = elim t [
       | inl (a, q) ↦ never_answered q

@@ -21,7 +21,8 @@ use Rattle.meaning.specs.Field.{Field, are_elements}
 use Rattle.meaning.specs.Polynomial.{Polynomial, degree, is_monic_over, power, product, irreducible}
 use Rattle.meaning.specs.Polynomial.{monic_multiple}
 use Rattle.meaning.specs.Sequence.{periodic, annihilates_known, MinimalPolynomial}
-use Rattle.meaning.specs.Result.{Check, Result, Rated, answered, refused, figures_of, map_result, answer_after}
+use Rattle.meaning.specs.Result.{Check, Result, Rated, answered, refused, figures_of, map_result}
+use Rattle.meaning.specs.Result.{answer_after}
 use Rattle.meaning.specs.Result.{written}
 use Rattle.meaning.specs.Conditions.{named, total_degree, factor_degree_out_of_range, not_monic}
 use Rattle.meaning.specs.Conditions.{coefficient_out_of_range, is_reducible, two_equal}
@@ -164,7 +165,8 @@ period_repeat I g ts min l few {n} z =
 module _ {F : Field} (I : IsField F) (f : Polynomial) (ts : List ℕ) (size work : ℕ) where
   abbrev period_checks : List Check
   period_checks =
-      period_table F (factor_degree_out_of_range F f) (coefficient_out_of_range F f) (monic_multiple F f) ts size work
+      period_table F (factor_degree_out_of_range F f) (coefficient_out_of_range F f) (monic_multiple F f) ts
+      size work
 
   -- an answer with its polynomial in the answer bytes
   pub period_answered :
@@ -250,7 +252,8 @@ unfolding factors_of
 single_of {F} I fs vs {f} e ten eleven twelve =
     let same = only (map (monic_multiple F) fs) vs e in
     one-factor_of I f
-    (of_one _ f (ap (holds_for_some (factor_degree_out_of_range F)) (sym same) ∙ multiples-ten I fs eleven ten))
+    (of_one _ f (ap (holds_for_some (factor_degree_out_of_range F)) (sym same) ∙ multiples-ten I fs eleven
+    ten))
     (of_one _ f (ap (holds_for_some (not_monic F)) (sym same) ∙ multiples-eleven I fs eleven))
     (of_one _ f (ap (λ l. holds_for_some (is_reducible F) (factors_of l)) (sym e) ∙ twelve))
 
@@ -304,7 +307,8 @@ module _ {F : Field} (I : IsField F) (fs : List Polynomial) (vs ts : List ℕ) (
 
   abbrev set_checks : List Check
   set_checks =
-      set_table F (holds_for_some (factor_degree_out_of_range F) fs) (holds_for_some (coefficient_out_of_range F) fs) l ts
+      set_table F (holds_for_some (factor_degree_out_of_range F) fs)
+      (holds_for_some (coefficient_out_of_range F) fs) l ts
       size work
 
   set-factors : Passes set_checks → Factors F (factors_of l)
@@ -356,7 +360,8 @@ module _ {F : Field} (I : IsField F) (fs : List Polynomial) (vs ts : List ℕ) (
         at_most =
             λ i k.
             let found = (set_powers-places I l nonempties ts y).1 i (omega (arith, length-named gs vs)) in
-            subst (λ v. get_or rs i 0 ≤ v) (power_at-named gs vs i k) (least_at-upper I l nonempties ts i found);
+            subst (λ v. get_or rs i 0 ≤ v) (power_at-named gs vs i k)
+            (least_at-upper I l nonempties ts i found);
         agrees =
             annihilated_agrees I l monics ts els enough
             (not-false (annihilates_known F (product F l) ts) h.annihilated);

@@ -35,7 +35,8 @@ use Rattle.bridge.proofs.Lists.Multiples.{Leads}
 use Rattle.bridge.proofs.Basics.Searches.{and_T, not-false, settle_answered, in_answered, map_answered}
 use Rattle.bridge.proofs.Basics.Searches.{map_refused}
 use Rattle.bridge.proofs.Basics.Interpretation.{IsField, prime-is_field, in_range_prime}
-use Rattle.bridge.proofs.Basics.Interpretation.{prime-InRange, is_prime-prime, prime-is_prime, is_prime_meaning}
+use Rattle.bridge.proofs.Basics.Interpretation.{prime-InRange, is_prime-prime, prime-is_prime}
+use Rattle.bridge.proofs.Basics.Interpretation.{is_prime_meaning}
 use Rattle.bridge.proofs.Basics.Interpretation.{meaning_is_prime}
 use Rattle.bridge.proofs.Basics.Interpretation.{prime_meaning, meaning_prime}
 use Rattle.bridge.proofs.Lists.Polynomials.{monic-nonempty}
@@ -157,7 +158,8 @@ irreducible_promise name f r c said e =
 
 -- THE CONTINUATION
 -- 15 of a continuation
-start-length : (g : Polynomial) (start : List ℕ) → start_unlike_degree g start ≡ false → length start ≡ degree g
+start-length : (g : Polynomial) (start : List ℕ) → start_unlike_degree g start ≡ false → length start ≡
+    degree g
 unfolding start_unlike_degree
 start-length g start h = eqb→eq (length start) (degree g) (not-false (eqb (length start) (degree g)) h)
 

@@ -19,7 +19,8 @@
 --
 -- `tell` is what a result tells, `degree_from` the degree in what is told, and `Call` the contract on one
 -- input, of a result and the lent bytes that it leaves.
-use Rattle.std.specs.Prelude.{ℕ, suc, ◌≤◌, ◌<◌, ◌≡◌, ◌⊎◌, ◌↔◌, ◌≢◌, Bool, List, [], ◌∷◌, ◌++◌, map, length, get_or, take, drop, replicate, T, eqb}
+use Rattle.std.specs.Prelude.{ℕ, suc, ◌≤◌, ◌<◌, ◌≡◌, ◌⊎◌, ◌↔◌, ◌≢◌, Bool, List, [], ◌∷◌, ◌++◌, map, length}
+use Rattle.std.specs.Prelude.{get_or, take, drop, replicate, T, eqb}
 use Rattle.std.proofs.Math.Option.{none, some}
 use Rattle.meaning.specs.declared.FieldName.{FieldName}
 use Rattle.meaning.specs.declared.Filling.{Filling}
@@ -34,7 +35,8 @@ use Rattle.meaning.specs.Conditions.{named, total_degree, count_out_of_range, pl
 use Rattle.meaning.specs.Conditions.{term_out_of_field, factor_count_out_of_range, factor_degree_out_of_range}
 use Rattle.meaning.specs.Conditions.{continuation_degree_out_of_range, coefficient_out_of_range, is_reducible}
 use Rattle.meaning.specs.Conditions.{two_equal}
-use Rattle.meaning.specs.Conditions.{upper_powers_out_of_range, fewer_terms_than, start_unlike_degree, lent_too_short}
+use Rattle.meaning.specs.Conditions.{upper_powers_out_of_range, fewer_terms_than, start_unlike_degree}
+use Rattle.meaning.specs.Conditions.{lent_too_short}
 use Rattle.meaning.specs.FieldNames.{not_field, field_number}
 use Rattle.meaning.specs.Period.{NoPower, rate_period}
 use Rattle.meaning.specs.Portion.{factors_of, rate_set}
@@ -42,7 +44,8 @@ use Rattle.meaning.specs.Free.{rate_free}
 use Rattle.meaning.specs.Catalogue.{find_entry}
 use Rattle.meaning.specs.Continuation.{continue_sequence}
 use Rattle.meaning.specs.Irreducibility.{ask_irreducible}
-use Rattle.meaning.specs.Route.{RouteRecord, Mode, period_mode, set_mode, free_mode, mode_of, byte_of, records}
+use Rattle.meaning.specs.Route.{RouteRecord, Mode, period_mode, set_mode, free_mode, mode_of, byte_of}
+use Rattle.meaning.specs.Route.{records}
 use Rattle.meaning.specs.Route.{Stage, at_start, after_end, look_up, body_lengths, admitted, walk, bodies}
 use Rattle.meaning.specs.Route.{mode_unsuited, read_record}
 use Rattle.meaning.specs.File.{WrittenFactor, file_factor, polynomial_of, file_degree_out_of_range}
@@ -81,7 +84,11 @@ mode_numbers free_mode = free_numbers
 
 abbrev pub file_numbers : Result (List RouteRecord) → List ℕ
 file_numbers (refused n) = reader_numbers
-file_numbers (answered rs) = elim (mode_of (byte_of 3 rs)) [ none ↦ [] | some m ↦ mode_numbers m (field_in rs) ]
+file_numbers (answered rs) = elim (mode_of (byte_of 3 rs)) [
+  | none ↦ []
+  | some m ↦ mode_numbers m
+      (field_in rs)
+]
 
 -- AN ANSWER, OR A REFUSAL BY ONE OF THE NUMBERS
 
@@ -238,7 +245,8 @@ mode_conditions period_mode fs ts answer work F =
     period_conditions F (holds_for_some (file_degree_out_of_range F) fs)
     (holds_for_some (file_coefficient_out_of_range F) fs) (get_or (map polynomial_of fs) 0 []) ts answer work
 mode_conditions set_mode fs ts answer work F =
-    set_conditions F (holds_for_some (file_degree_out_of_range F) fs) (holds_for_some (file_coefficient_out_of_range F) fs)
+    set_conditions F (holds_for_some (file_degree_out_of_range F) fs)
+    (holds_for_some (file_coefficient_out_of_range F) fs)
     (map (λ f. (polynomial_of f, f.upper)) fs) ts answer work
 mode_conditions free_mode fs ts answer work F = free_conditions F ts answer work
 
@@ -293,14 +301,16 @@ abbrev pub list_conditions : FieldName → Polynomial → List ℕ → ℕ → �
 list_conditions name f ts answer work =
     under_name name
     (λ F.
-    period_conditions F (factor_degree_out_of_range F f) (coefficient_out_of_range F f) (monic_multiple F f) ts answer
+    period_conditions F (factor_degree_out_of_range F f) (coefficient_out_of_range F f) (monic_multiple F f)
+    ts answer
     work)
 
 abbrev pub lists_conditions : FieldName → List Polynomial → List ℕ → List ℕ → ℕ → ℕ → List Condition
 lists_conditions name fs vs ts answer work =
     under_name name
     (λ F.
-    set_conditions F (holds_for_some (factor_degree_out_of_range F) fs) (holds_for_some (coefficient_out_of_range F) fs)
+    set_conditions F (holds_for_some (factor_degree_out_of_range F) fs)
+    (holds_for_some (coefficient_out_of_range F) fs)
     (named (map (monic_multiple F) fs) vs) ts answer work)
 
 -- no factor

@@ -13,7 +13,8 @@
 --   SearchExport     == the same of the search for other languages, and SearchExportAnswers == its demand 1.
 --                       (The exported question for entry i has the contract `CatalogueCall`, and so its
 --                       promises and its demand 1, EntryAnswers.)
-use Rattle.std.specs.Prelude.{ℕ, suc, ◌≤◌, ◌<◌, ◌≡◌, ◌⊎◌, ◌↔◌, List, [], ◌∷◌, length, get_or, take, drop, replicate, T}
+use Rattle.std.specs.Prelude.{ℕ, suc, ◌≤◌, ◌<◌, ◌≡◌, ◌⊎◌, ◌↔◌, List, [], ◌∷◌, length, get_or, take, drop}
+use Rattle.std.specs.Prelude.{replicate, T}
 use Rattle.meaning.specs.declared.Entry as struct
 use Rattle.meaning.specs.declared.EntryRating.{EntryRating}
 use Rattle.meaning.specs.Field.{Field, prime}

@@ -12,7 +12,8 @@
 --   rated_lines, lines_told == the result line and the poly line, from what a rating tells and leaves
 --   ProgramAsCall    == the program prints the lines of what the rating of the file tells and leaves
 --   ProgramPromise   == what it prints is right
-use Rattle.std.specs.Prelude.{ℕ, zero, suc, ◌≤◌, ◌<◌, ◌≡◌, true, false, List, [], ◌∷◌, ◌++◌, map, length, take}
+use Rattle.std.specs.Prelude.{ℕ, zero, suc, ◌≤◌, ◌<◌, ◌≡◌, true, false, List, [], ◌∷◌, ◌++◌, map, length}
+use Rattle.std.specs.Prelude.{take}
 use Rattle.std.proofs.Math.Option.{some}
 use Rattle.meaning.specs.declared.FileRating.{FileRating}
 use Rattle.meaning.specs.declared.RecordOutcome.{RecordOutcome}
@@ -142,7 +143,8 @@ lines_told box (refused n) eight answer' = line (decimal box ∷ text "refused" 
 lines_told box (answered (with_powers d m n)) eight answer' =
     rated_lines box d m (joined (text ",") (map decimal (take n eight))) (list_in answer' d)
 lines_told box (answered (with_one d m)) eight answer' = rated_lines box d m (text "one") (list_in answer' d)
-lines_told box (answered (with_some d m)) eight answer' = rated_lines box d m (text "some") (list_in answer' d)
+lines_told box (answered (with_some d m)) eight answer' =
+    rated_lines box d m (text "some") (list_in answer' d)
 
 -- Whatever meets the contract of the rating of the same file, with 4,097 answer and 8,192 work bytes.
 abbrev pub ProgramAsCall : Type 0

@@ -29,7 +29,8 @@ use Rattle.meaning.specs.Continuation.{continue_sequence}
 use Rattle.meaning.specs.Irreducibility.{ask_irreducible}
 use Rattle.meaning.specs.Answers.{set_figures_told}
 use Rattle.meaning.specs.Calls.{PrimeCall}
-use Rattle.meaning.specs.Exports.{version, named_by, status_of, period_told, set_told, free_told, RatingExported}
+use Rattle.meaning.specs.Exports.{version, named_by, status_of, period_told, set_told, free_told}
+use Rattle.meaning.specs.Exports.{RatingExported}
 use Rattle.meaning.specs.Exports.{Filled, answer_told, Question, RecordExported}
 use Rattle.theorems.specs.Answering.{period_numbers, set_numbers, free_numbers, reader_numbers}
 use Rattle.theorems.specs.Answering.{continue_numbers, irreducible_numbers, Answered, Tells}
@@ -63,7 +64,8 @@ pub record PeriodExportRight (name : FieldName) (f : Polynomial) (ts answer work
 abbrev pub PeriodExport : Type 0
 PeriodExport =
     (field : FieldNumbers) (f : Polynomial) (ts answer work : List ℕ) (r : Rating) (answer' work' : List ℕ)
-    → RatingExported period_told (rate_period (named_by field) f ts (length answer) (length work)) answer work r
+    → RatingExported period_told (rate_period (named_by field) f ts (length answer) (length work)) answer
+    work r
     answer' work'
     → PeriodExportRight (named_by field) f ts answer work r answer' work'
 

@@ -25,10 +25,10 @@
 --   f ∷ []           == the list of f alone; (f, v): f with its upper power v
 --
 -- `name` is the name of a field and `GF name` that field (`NameWords`); F any field; f a factor, which stands
--- for its monic multiple, `monic_multiple (GF name) f`; fs and vs the factors and their upper powers, `map` of
--- that over fs the list of their monic multiples, `named fs vs` each with its own, and `product` of that the
--- product of the factors to their upper powers; ts the terms given; s an endless sequence; g a polynomial; r
--- what a call returns, and `told…` of it what it tells.
+-- for its monic multiple, `monic_multiple (GF name) f`; fs and vs the factors and their upper powers, `map`
+-- of that over fs the list of their monic multiples, `named fs vs` each with its own, and `product` of that
+-- the product of the factors to their upper powers; ts the terms given; s an endless sequence; g a
+-- polynomial; r what a call returns, and `told…` of it what it tells.
 use Rattle.theorems.specs.Answering.{PeriodAnswers, SetAnswers, FreeAnswers}
 use Rattle.theorems.specs.Answering.{ContinueAnswers, IrreducibleAnswers, PrimeAnswers, FileAnswers}
 use Rattle.theorems.specs.Answering.{RecordAnswers, ProgramAnswers, NeverZero}

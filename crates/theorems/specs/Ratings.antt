@@ -20,7 +20,8 @@
 --   PrimeWords, IrreducibleWords == the tests for primes and irreducible polynomials are the words of the
 --                                   request
 --   ConditionWords   == the tests of the conditions are the words of the numbered list
-use Rattle.std.specs.Prelude.{ℕ, suc, ◌*◌, ◌-◌, ◌/◌, ◌^◌, ◌≤◌, ◌<◌, ◌≡◌, ◌↔◌, ◌⊎◌, ◌≢◌, Bool, true, false, List, [], ◌∷◌, ◌++◌, map, length, get_or, take, T}
+use Rattle.std.specs.Prelude.{ℕ, suc, ◌*◌, ◌-◌, ◌/◌, ◌^◌, ◌≤◌, ◌<◌, ◌≡◌, ◌↔◌, ◌⊎◌, ◌≢◌, Bool, true, false}
+use Rattle.std.specs.Prelude.{List, [], ◌∷◌, ◌++◌, map, length, get_or, take, T}
 use Rattle.meaning.specs.declared.FieldName.{FieldName}
 use Rattle.meaning.specs.declared.FieldNumbers.{FieldNumbers}
 use Rattle.meaning.specs.declared.PowerRating.{PowerRating}
@@ -39,7 +40,8 @@ use Rattle.meaning.specs.Search.{holds_for_some}
 use Rattle.meaning.specs.Conditions.{named, total_degree, count_out_of_range, place_out_of_range}
 use Rattle.meaning.specs.Conditions.{term_out_of_field, factor_count_out_of_range, degree_out_of_range}
 use Rattle.meaning.specs.Conditions.{continuation_degree_out_of_range}
-use Rattle.meaning.specs.Conditions.{coefficient_out_of_range, fewer_terms_than, start_unlike_degree, lent_too_short}
+use Rattle.meaning.specs.Conditions.{coefficient_out_of_range, fewer_terms_than, start_unlike_degree}
+use Rattle.meaning.specs.Conditions.{lent_too_short}
 use Rattle.meaning.specs.FieldNames.{named_field, not_field, field_number}
 use Rattle.meaning.specs.RepeatLength.{RepeatMeaning}
 use Rattle.meaning.specs.Power.{PowerFigures}
@@ -48,7 +50,8 @@ use Rattle.meaning.specs.Portion.{onward, SetMeaning, PortionMeaning, Agrees}
 use Rattle.meaning.specs.Free.{FreeFigures, IsLeastDegree, Fits, Precedes}
 use Rattle.meaning.specs.Route.{RouteRecord, bodies, byte_of}
 use Rattle.meaning.specs.File.{field_in}
-use Rattle.meaning.specs.Answers.{SetTold, told_power, told_set, told_free, told_filling, told_irreducible, padded}
+use Rattle.meaning.specs.Answers.{SetTold, told_power, told_set, told_free, told_filling, told_irreducible}
+use Rattle.meaning.specs.Answers.{padded}
 use Rattle.meaning.specs.Exports.{named_by}
 use Rattle.meaning.specs.Calls.{PrimeCall, IrreducibleCall, PeriodCall, SetCall, FreeCall, ContinueCall}
 

@@ -22,7 +22,12 @@ use Prim.Native.Nat.{ℕ, zero, suc, ◌+◌, ◌-◌, ◌*◌, ◌^◌, ◌/◌
 use mathlib.Core.Path.{◌≡◌, refl, sym, ap, ◌∙◌, ◌≡⟨◌⟩◌, ◌∎}
 use mathlib.Core.Logic.Dec
 use mathlib.Core.Logic.{◌≢◌, ◌⊎◌, inl, inr}
-use native.Mathlib.Nat.{mul_comm, one-mul, pow-zero, pow-suc, pow-succ', one-le-pow, pow-le-pow_right, mod-lt, mod-eq_of_lt, mod-add-div, add-mul-mod_self_left, mod-eq-zero_of_dvd, dvd_of_mod-eq-zero, mul-div_cancel', dvd-mul_left, div-le_self, eq-or-lt_of_le, le_of_suc-le-suc, lt_of_mul-lt-mul_left, mul-le-mul_right, add-sub_of_le, emod_pos_of_not-dvd, le_antisymm, mul_right_comm, dvd-mul_right_of_dvd, div-lt_self, le_refl, le_of_dvd, dvd-mul_right}
+use native.Mathlib.Nat.{mul_comm, one-mul, pow-zero, pow-suc, pow-succ', one-le-pow, pow-le-pow_right, mod-lt}
+use native.Mathlib.Nat.{mod-eq_of_lt, mod-add-div, add-mul-mod_self_left, mod-eq-zero_of_dvd}
+use native.Mathlib.Nat.{dvd_of_mod-eq-zero, mul-div_cancel', dvd-mul_left, div-le_self, eq-or-lt_of_le}
+use native.Mathlib.Nat.{le_of_suc-le-suc, lt_of_mul-lt-mul_left, mul-le-mul_right, add-sub_of_le}
+use native.Mathlib.Nat.{emod_pos_of_not-dvd, le_antisymm, mul_right_comm, dvd-mul_right_of_dvd, div-lt_self}
+use native.Mathlib.Nat.{le_refl, le_of_dvd, dvd-mul_right}
 use native.Mathlib.Decide.{dec_lt, dec_dvd}
 use native.Mathlib.Omega.{arith}
 

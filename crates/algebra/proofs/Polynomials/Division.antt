@@ -152,7 +152,8 @@ module _ {K : Type 0} {R : Ring K} {D : Discrete K} where
     where
       impossible : {k : ℕ} → Degree q k → ⊥
       impossible d =
-          let l = degree-below (rw ((polynomials R D).mul_comm g q) at (degree-monic-mul m d)) b in omega arith
+          let l = degree-below (rw ((polynomials R D).mul_comm g q) at (degree-monic-mul m d)) b in omega
+          arith
 
   unique_of_regular :
       {g f : Polynomial R D} {n : ℕ}

@@ -353,7 +353,8 @@ module _ {K : Type 0} {R : Ring K} {D : Discrete K} where
   infix 80 ⊖◌ ⊟◌
   pub coefficient-add :
       (f g : Polynomial R D) (n : ℕ) → coefficient (f ⊞ g) n ≡ coefficient f n ⊕ coefficient g n
-  coefficient-add f g n = at n ((coefficient-hom R D).add f g) ∙ series-add R (coefficient f) (coefficient g) n
+  coefficient-add f g n = at n ((coefficient-hom R D).add f g) ∙ series-add R (coefficient f)
+      (coefficient g) n
 
   pub coefficient-neg : (f : Polynomial R D) (n : ℕ) → coefficient (⊟ f) n ≡ ⊖ coefficient f n
   coefficient-neg f n = at n ((coefficient-hom R D).neg f) ∙ series-neg R (coefficient f) n
@@ -432,7 +433,8 @@ module _ {K : Type 0} (R : Ring K) (D : Discrete K) where
   from_list-nil =
       coefficient_injective (from_list R D []) 0ₚ (zero-series R D ∙ sym (coefficient-hom R D).zero)
 
-  pub from_list-plus : (xs ys : List K) → from_list R D (list-plus R xs ys) ≡ from_list R D xs ⊞ from_list R D ys
+  pub from_list-plus : (xs ys : List K) → from_list R D (list-plus R xs ys) ≡ from_list R D xs ⊞ from_list R
+      D ys
   from_list-plus xs ys =
       coefficient_injective
       (from_list R D (list-plus R xs ys))

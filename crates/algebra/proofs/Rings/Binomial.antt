@@ -108,7 +108,8 @@ module _ {K : Type 0} (R : Ring K) (a b : K) where
   unfolding binomial_term
   term_open n k = rw (choose_pascal, suc-sub-suc) (multiple-add R (choose n k) (choose n (suc k)) _)
 
-  term_pascal : (n k : ℕ) → binomial_term (suc n) (suc k) ≡ binomial_term n k ⊗ a ⊕ binomial_term n (suc k) ⊗ b
+  term_pascal : (n k : ℕ) → binomial_term (suc n) (suc k) ≡ binomial_term n k ⊗ a ⊕ binomial_term n (suc k)
+      ⊗ b
   term_pascal n k = term_open n k ∙ ap₂ ◌⊕◌ (term-left n k) (term-right n k)
 
   pub term-first : (n : ℕ) → binomial_term n 0 ≡ power R b n

@@ -67,7 +67,8 @@ module _ {K : Type 0} (R : Ring K) where
     pub least : (i : ℕ) → i < length fs → Least (λ k. I (power-product fs (update u i k))) (r i)
 
   pub power-coprime-product : {a : K} (m : ℕ) (fs : List K) (e : ℕ → ℕ)
-      → ((i : ℕ) → i < length fs → Coprime R a (get_or fs i 0#)) → Coprime R (power R a m) (power-product fs e)
+      → ((i : ℕ) → i < length fs → Coprime R a (get_or fs i 0#)) → Coprime R (power R a m)
+      (power-product fs e)
   unfolding power-product
   power-coprime-product m [] e p = coprime-one R _
   power-coprime-product m (f ∷ fs) e p = coprime-mul R

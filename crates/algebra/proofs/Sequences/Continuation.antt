@@ -304,7 +304,8 @@ module _ {K : Type 0} {R : Ring K} {D : Discrete K} where
       polynomial_ext
       (
       λ i.
-      ap (λ u. u i) (coefficient-from_list R D (terms (coefficient g) d ++ (1# ∷ []))) ∙ monic-coefficients m i
+      ap (λ u. u i) (coefficient-from_list R D (terms (coefficient g) d ++ (1# ∷ []))) ∙ monic-coefficients
+      m i
       )
 
   pub continuation_continues :

@@ -74,10 +74,12 @@ module _ (bit : ℕ) (c s : List ℕ) where
       sym (xor_zero_r x) ∙ ap (bit_xor x) (sym f) ∙ e
 
   pub collecting_more :
-      (i x v : ℕ) → Collecting bit c s i x → i < length c → v ≡ picked (bit_and (get_or c i 0) bit) (get_or s i 0)
+      (i x v : ℕ) → Collecting bit c s i x → i < length c → v ≡ picked (bit_and (get_or c i 0) bit)
+      (get_or s i 0)
       → Collecting bit c s (i + 1) (bit_xor x v)
   unfolding plane_of known
   collecting_more i x v e l f =
-      let g : plane_of bit (drop i c) (known s) i ≡ bit_xor v (plane_of bit (drop (i + 1) c) (known s) (i + 1)) =
+      let g : plane_of bit (drop i c) (known s) i ≡ bit_xor v
+      (plane_of bit (drop (i + 1) c) (known s) (i + 1)) =
       rw (drop-cons c i 0 l, add-one, plane_of, f) in
       xor_assoc x v (plane_of bit (drop (i + 1) c) (known s) (i + 1)) ∙ ap (bit_xor x) (sym g) ∙ e

@@ -9,7 +9,7 @@
 --                     prime-negative: what follows
 --   is_prime-prime, prime-is_prime, is_prime_meaning, meaning_is_prime
 --                  == the prime test of `meaning` is primality, in the words of `algebra` and of `meaning`
---   inRange-isField == GF(p) is a field for every p that refusal 6 admits
+--   in_range_is_field == GF(p) is a field for every p that refusal 6 admits
 --   element-add, element-mul, element-multiple, element-negative == operations of F, as elements
 --   number-…       == the laws of a field on numbers: with no condition where both sides are values of `add`
 --                     or `mul`, else for elements

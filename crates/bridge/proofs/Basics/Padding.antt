@@ -22,7 +22,8 @@ use native.Mathlib.Nat as ℕ
 use native.Mathlib.Omega.{arith}
 use lib.ListN.{length, get_or, take, drop, set, replicate, length-append, length-take, length-drop}
 use lib.ListN.{get_or-eq_default, take-append-drop}
-use lib.Seq.{ext_get_or, get_or-take, get_or-drop, length-take-le, set-append_seam, append_snoc, take_all, take_at}
+use lib.Seq.{ext_get_or, get_or-take, get_or-drop, length-take-le, set-append_seam, append_snoc, take_all}
+use lib.Seq.{take_at}
 use lib.Seq.{drop_at, drop-drop, take-add, take-take, drop-append-le, paste, length-paste}
 use Rattle.meaning.specs.Field.{Field}
 use Rattle.meaning.specs.Polynomial.{plus, scale}
@@ -44,7 +45,8 @@ abbrev pub pad : ℕ → List ℕ → List ℕ
 pad k l = cut (known l) 0 k
 
 pub get_or-pad : (k : ℕ) (l : List ℕ) (i : ℕ) → i < k → get_or (pad k l) i 0 ≡ get_or l i 0
-get_or-pad k l i h = get_or-cut (known l) 0 k i h ∙ known-get_or l (0 + i) ∙ ap (λ j. get_or l j 0) (ℕ.zero-add i)
+get_or-pad k l i h = get_or-cut (known l) 0 k i h ∙ known-get_or l (0 + i) ∙ ap (λ j. get_or l j 0)
+    (ℕ.zero-add i)
 
 pub length-pad : (k : ℕ) (l : List ℕ) → length (pad k l) ≡ k
 length-pad k l = length_cut (known l) 0 k

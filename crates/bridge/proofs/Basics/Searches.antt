@@ -40,7 +40,8 @@ use lib.ListN.{length, get_or, drop, length-map, get_or-map}
 use lib.Seq.{drop-cons}
 use lib.Dec.{T}
 use Rattle.meaning.specs.declared.FieldName.{FieldName}
-use Rattle.meaning.specs.Search.{range, holds_for_all, holds_for_some, least, map_option, bind, is_none, together}
+use Rattle.meaning.specs.Search.{range, holds_for_all, holds_for_some, least, map_option, bind, is_none}
+use Rattle.meaning.specs.Search.{together}
 use Rattle.meaning.specs.Search.{first_that, selected}
 use Rattle.meaning.specs.Field.{Field}
 use Rattle.meaning.specs.Result.{Check, Result, refused, answered, first_of, settle, value_of, map_result}
@@ -416,7 +417,8 @@ first-selected t u a (suc n) {m} e = go (first-selected t u (suc a) n) (T-decide
     go : (first_that t rest ≡ some m → FirstSelected t u (suc a) n m) → Dec (T (u a)) → Dec (T (t a))
         → FirstSelected t u a (suc n) m
     go step (no h) d =
-        later (step (ap (first_that t) (sym (selected-there u a (range (suc a) n) h)) ∙ e)) (λ y. absurd (h y))
+        later (step (ap (first_that t) (sym (selected-there u a (range (suc a) n) h)) ∙ e))
+        (λ y. absurd (h y))
     go step (yes h) (no y) =
         later
         (step
@@ -740,7 +742,8 @@ module _ {A : Type 0} (name : FieldName) (answer : Field → Result A) where
       → (not_field name ≡ false) × (answer (named_field name) ≡ answered a)
   in_answered {a} e = go (not_field name) refl
     where
-      go : (b : Bool) → not_field name ≡ b → (not_field name ≡ false) × (answer (named_field name) ≡ answered a)
+      go : (b : Bool) → not_field name ≡ b → (not_field name ≡ false) ×
+          (answer (named_field name) ≡ answered a)
       go true h = never_answered (sym (no_field name answer h) ∙ e)
       go false h = (h, sym (in_field_lem name answer h) ∙ e)
 

@@ -18,7 +18,8 @@
 --   closed_divides     == so t passes, up to b, on the multiples of its least number and on no other; on none
 --                         where that is 0
 --   common_within b m n == the least common multiple of m and n, 0 where it exceeds b or one of them is 0
---   common_within_lem      == so the least number within b that passes two closed tests is the common multiple of
+--   common_within_lem      == so the least number within b that passes two closed tests is the common
+--                             multiple of
 --                         the least of each
 --
 -- Assumes nothing.

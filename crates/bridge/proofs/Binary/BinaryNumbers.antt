@@ -76,7 +76,8 @@ digits_mod n a =
 pub bit-low : (n j a : ℕ) → j < n → a % 2 ^ n / 2 ^ j % 2 ≡ a / 2 ^ j % 2
 unfolding digit
 bit-low n j a l =
-    sym (get_or-digits 2 n (a % 2 ^ n) j l) ∙ ap (λ f. get_or f j 0) (digits_mod n a) ∙ get_or-digits 2 n a j l
+    sym (get_or-digits 2 n (a % 2 ^ n) j l) ∙ ap (λ f. get_or f j 0) (digits_mod n a) ∙ get_or-digits 2 n a
+    j l
 
 bits-mod : (n a : ℕ) → bits n (a % 2 ^ n) ≡ bits n a
 bits-mod n a = bits-digits n (a % 2 ^ n) ∙ digits_mod n a ∙ sym (bits-digits n a)

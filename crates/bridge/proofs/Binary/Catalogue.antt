@@ -136,30 +136,31 @@ bits-value (below-cons {c} {f} h hs) (suc most) e l =
     rest [] e k step = ap (bits_up_to most) (value-nil 2) ∙ bits-zero most
     rest (d ∷ f) e k step = step e k
 
-module _ (f : Polynomial) (m : T (is_monic_over (prime 2) f)) (low : 1 ≤ degree f) (high : degree f ≤ 10) where
-  below : Below 2 f
-  below = subst (λ q. Below q f) (prime-size 2) (elements-below (prime 2) f (monic-elements (prime 2) f m))
+module _ (f : Polynomial) (m : T (is_monic_over (prime 2) f)) (low : 1 ≤ degree f) (high : degree f ≤ 10)
+  where
+    below : Below 2 f
+    below = subst (λ q. Below q f) (prime-size 2) (elements-below (prime 2) f (monic-elements (prime 2) f m))
 
-  size : length f ≡ suc (degree f)
-  size = degree-length f (monic-nonempty (prime 2) f m)
+    size : length f ≡ suc (degree f)
+    size = degree-length f (monic-nonempty (prime 2) f m)
 
-  pub number-entry : entry_polynomial (value 2 f) ≡ f
-  unfolding entry_polynomial
-  number-entry = bits-value below 11 (monic-leading (prime 2) f m) (omega (arith, size))
+    pub number-entry : entry_polynomial (value 2 f) ≡ f
+    unfolding entry_polynomial
+    number-entry = bits-value below 11 (monic-leading (prime 2) f m) (omega (arith, size))
 
-  pub number_small : value 2 f < 2048
-  number_small =
-      let l : length f ≤ 11 = omega (arith, size) in
-      le_trans (value-below below) (pow-le-pow_right (omega arith) l)
+    pub number_small : value 2 f < 2048
+    number_small =
+        let l : length f ≤ 11 = omega (arith, size) in
+        le_trans (value-below below) (pow-le-pow_right (omega arith) l)
 
-  pub number-large : 2 ≤ value 2 f
-  number-large = go (value 2 f) refl
-    where
-      go : (n : ℕ) → value 2 f ≡ n → 2 ≤ value 2 f
-      go zero e = absurd (omega (arith, ap degree (sym number-entry ∙ ap entry_polynomial e), degree_of-0))
-      go (suc zero) e =
-          absurd (omega (arith, ap degree (sym number-entry ∙ ap entry_polynomial e), degree_of-1))
-      go (suc (suc n)) e = omega arith
+    pub number-large : 2 ≤ value 2 f
+    number-large = go (value 2 f) refl
+      where
+        go : (n : ℕ) → value 2 f ≡ n → 2 ≤ value 2 f
+        go zero e = absurd (omega (arith, ap degree (sym number-entry ∙ ap entry_polynomial e), degree_of-0))
+        go (suc zero) e =
+            absurd (omega (arith, ap degree (sym number-entry ∙ ap entry_polynomial e), degree_of-1))
+        go (suc (suc n)) e = omega arith
 
 -- THE CATALOGUE
 abbrev pub listed : ℕ → Bool
@@ -249,7 +250,8 @@ module _ (ts : List ℕ) where
     pub passed-next : entry_power ts (get_or catalogue i 0) ≡ none → Passed (suc i)
     passed-next e =
         x
-        ∙ first-later has_power catalogue i 0 l (λ h. T_not (is_none (entry_power ts (get_or catalogue i 0))) h
+        ∙ first-later has_power catalogue i 0 l (λ h. T_not (is_none (entry_power ts
+        (get_or catalogue i 0))) h
         (none_is_none e))
 
     pub passed-found :

@@ -86,13 +86,15 @@ module _ (n : ℕ) (l : 2 ≤ n) (k : n < 2048) where
           (eqb→eq (get_or f 0 0) 0 (true-T e)))
           ∙ sym (rw (d, e, passes))
       by-constant false e h d =
-          not-not (irreducible (prime 2) f) (holds_for_some (has_divisor (prime 2) f) (range 1 (degree f / 2)))
+          not-not (irreducible (prime 2) f) (holds_for_some (has_divisor (prime 2) f)
+          (range 1 (degree f / 2)))
           (trial_search binary-is_field f (entry-monic n l k) (eqb-false (get_or f 0 0) 0 e))
           ∙ sym (rw (d, e, passes, undivided))
 
       by-degree : (b : Bool) → eqb (degree f) 1 ≡ b → irreducible (prime 2) f ≡ passes n
       by-degree true e =
-          T_true (linear_irreducible binary-is_field f (eqb→eq (degree f) 1 (true-T e))) ∙ sym (rw (e, passes))
+          T_true (linear_irreducible binary-is_field f (eqb→eq (degree f) 1 (true-T e))) ∙ sym
+          (rw (e, passes))
       by-degree false e = by-constant (eqb (get_or f 0 0) 0) refl (eqb-false (degree f) 1 e) e
 
 pub catalogue-table : catalogue ≡ table

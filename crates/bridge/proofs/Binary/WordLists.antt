@@ -140,7 +140,8 @@ raised_at s g i l =
 pub raised-none : (f : List ℕ) (j : ℕ) → get_or (raised 0 f) j 0 ≡ get_or f j 0
 raised-none f j = raised_at 0 f j (omega arith) ∙ ap (λ j. get_or f j 0) (omega arith)
 
-pub raised-same : (a : ℕ) (g : List ℕ) (j : ℕ) → (1 ≤ length g → a ≡ 0) → get_or (raised a g) j 0 ≡ get_or g j 0
+pub raised-same : (a : ℕ) (g : List ℕ) (j : ℕ) → (1 ≤ length g → a ≡ 0) → get_or (raised a g) j 0 ≡ get_or g
+    j 0
 raised-same a (c ∷ g) j h =
     ap (λ a. get_or (raised a (c ∷ g)) j 0) (h (omega arith)) ∙ raised-none (c ∷ g) j
 raised-same a [] j h = elim (dec_lt j a) [

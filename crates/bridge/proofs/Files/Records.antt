@@ -105,7 +105,8 @@ module _ (kind : ℕ) (rest : List ℕ) (stage : Stage)
   Next = Walked (walk (kind ∷ rest) 0 stage) (kind ∷ rest)
 
   module _ {n : ℕ} (e : look_up kind body_lengths ≡ some n) where
-    placed-walked : ltb (length rest) n ≡ false → (o : Option Stage) → look_up kind (admitted stage) ≡ o → Next
+    placed-walked : ltb (length rest) n ≡ false → (o : Option Stage) → look_up kind (admitted stage) ≡ o →
+        Next
     placed-walked t none a =
         refused_walked (kind ∷ rest) _ (lit≤ tt, lit≤ tt) (walk_misplaced kind rest stage e t a)
     placed-walked t (some after) a =

@@ -92,7 +92,8 @@ module _ (F : Field) (f : WrittenFactor) (full : length f.coefficients ≡ 32)
       let d : length (polynomial_of f) - 1 ≡ f.degree = omega arith in
       sym (list-degree F (polynomial_of f) (λ e. omega arith)) ∙ ap (degree_out_of_range F) d ∙ ten
 
-pub polynomial-eleven : {F : Field} → IsField F → (f : WrittenFactor) → file_coefficient_out_of_range F f ≡ false
+pub polynomial-eleven : {F : Field} → IsField F → (f : WrittenFactor) → file_coefficient_out_of_range F f ≡
+    false
     → not_monic F (polynomial_of f) ≡ false
 unfolding file_coefficient_out_of_range not_monic polynomial_of is_monic_over
 polynomial-eleven {F} I f eleven =
@@ -155,7 +156,8 @@ module _ {F : Field} (I : IsField F) (fs : List WrittenFactor) (full : AllFull f
   pub period_lists :
       1 ≤ length fs
       → period_answer F (holds_for_some (file_degree_out_of_range F) fs)
-      (holds_for_some (file_coefficient_out_of_range F) fs) (get_or (map polynomial_of fs) 0 []) ts answer work
+      (holds_for_some (file_coefficient_out_of_range F) fs) (get_or (map polynomial_of fs) 0 []) ts answer
+      work
       ≡ period_in F (get_or (map polynomial_of fs) 0 []) ts answer work
   unfolding period_in
   period_lists low =

@@ -15,7 +15,8 @@
 --   Factors F fs      == monic irreducible lists of positive degree, no two of them equal
 --   reducible_asked   == 12 of a factor that 10 and 11 let pass
 --   accepted-factors  == monic factors that 10 to 13 let pass are so; `multiples-factors` says it of
---                        the multiples of factors, `accepted-different` where `accepted_factors` accepts these
+--                        the multiples of factors, `accepted-different` where `accepted_factors` accepts
+-- these
 --   factors-atoms     == and their polynomials are coprime atoms
 --
 -- f is monic over F and its degree is at least 1 wherever it is asked.
@@ -577,7 +578,8 @@ module _ {F : Field} (I : IsField F) where
       at : (i : ℕ) → get_or (map (poly I) fs) i (poly_ring I).0# ≡ poly I (get_or fs i [])
       at i = ap (get_or (map (poly I) fs) i) (sym (poly-nil I)) ∙ get_or-map (poly I) fs i []
 
-      irreducible-at : (i : ℕ) → i < length fs → Irreducible (poly I (get_or fs i [])) (degree (get_or fs i []))
+      irreducible-at : (i : ℕ) → i < length fs → Irreducible (poly I (get_or fs i []))
+          (degree (get_or fs i []))
       irreducible-at i l =
           irreducible-poly I (get_or fs i []) (x.monic i l) (x.positive i l) (x.irreducibles i l)
 

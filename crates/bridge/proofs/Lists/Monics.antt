@@ -3,8 +3,8 @@
 --   digit q n i       == the digit i of n in base q, the least significant being digit 0
 --   digits q d n      == the d least significant digits of n in base q, the least significant first
 --   monic_at q d n     == these digits and then 1: the coefficients of a monic polynomial of degree d
---   monics-list       == `monics F d` is the list of the polynomials `monic_at` for n from 0 to size^d − 1, in
---                        this order; by places it is `monics-at`
+--   monics-list       == `monics F d` is the list of the polynomials `monic_at` for n from 0 to size^d − 1,
+--                        in this order; by places it is `monics-at`
 --   length-monics     == it has size^d members
 --   monics-monic, monic-monics == its members are the monic lists over F of degree d
 --   some-monics, monics-some == some member passes exactly where some monic list of degree d passes

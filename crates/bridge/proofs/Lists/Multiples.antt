@@ -28,10 +28,12 @@ use lib.Dec.{T, eqb, ltb, eqb→eq}
 use borrow.Author.Tests.{eq-eqb}
 use Rattle.meaning.specs.Search.{holds_for_some}
 use Rattle.meaning.specs.Field.{Field, are_elements}
-use Rattle.meaning.specs.Polynomial.{Polynomial, degree, leading, is_monic, is_monic_over, scale, times, power}
+use Rattle.meaning.specs.Polynomial.{Polynomial, degree, leading, is_monic, is_monic_over, scale, times}
+use Rattle.meaning.specs.Polynomial.{power}
 use Rattle.meaning.specs.Polynomial.{product, monic_multiple, NotAProduct}
 use Rattle.meaning.specs.Sequence.{Sequence, AnnihilatesEndless}
-use Rattle.meaning.specs.Conditions.{named, total_degree, factor_degree_out_of_range, coefficient_out_of_range}
+use Rattle.meaning.specs.Conditions.{named, total_degree, factor_degree_out_of_range}
+use Rattle.meaning.specs.Conditions.{coefficient_out_of_range}
 use Rattle.meaning.specs.Conditions.{not_monic, upper_powers_out_of_range}
 use Rattle.algebra.proofs.Rings.Ideal.{Divides, divides-mul, divides-refl, divides-multiple}
 use Rattle.algebra.proofs.Polynomials.Polynomial.{constant}
@@ -178,7 +180,8 @@ module _ {F : Field} (I : IsField F) where
   same-ten (a ∷ f) (b ∷ g) e = rw e
 
   pub multiple-ten :
-      {f : Polynomial} → Leads F f → factor_degree_out_of_range F (monic_multiple F f) ≡ factor_degree_out_of_range F f
+      {f : Polynomial} → Leads F f → factor_degree_out_of_range F (monic_multiple F f) ≡
+      factor_degree_out_of_range F f
   multiple-ten {f} x = same-ten (monic_multiple F f) f (multiple-length x)
 
   pub multiple-eleven : {f : Polynomial} → Leads F f → not_monic F (monic_multiple F f) ≡ false
@@ -249,7 +252,8 @@ module _ {F : Field} (I : IsField F) where
   pub multiples_uppers :
       (fs : List Polynomial) (vs : List ℕ)
       → holds_for_some (coefficient_out_of_range F) fs ≡ false
-      → upper_powers_out_of_range (named (map (monic_multiple F) fs) vs) ≡ upper_powers_out_of_range (named fs vs)
+      → upper_powers_out_of_range (named (map (monic_multiple F) fs) vs) ≡ upper_powers_out_of_range
+      (named fs vs)
   unfolding upper_powers_out_of_range
   multiples_uppers fs vs h =
       ap₂ (λ b d. b || ltb 4096 d)

@@ -73,7 +73,8 @@ module _ (F : Field) where
   unfolding are_elements
   elements-cons {a} f l h = all_cons (is_element F) a f (below-is_element l) h
 
-  pub elements_uncons : (a : ℕ) (f : List ℕ) → T (are_elements F (a ∷ f)) → (a < F.size) × T (are_elements F f)
+  pub elements_uncons : (a : ℕ) (f : List ℕ) → T (are_elements F (a ∷ f)) → (a < F.size) × T
+      (are_elements F f)
   unfolding are_elements
   elements_uncons a f h =
       let (l, hs) = all_uncons (is_element F) a f h in
@@ -129,7 +130,8 @@ module _ {F : Field} (I : IsField F) where
   poly f = from_list ring field.discrete (map element f)
 
   -- a list of numbers as a list of elements, by places
-  pub get_or-map-element : (f : List ℕ) (n : ℕ) → coefficient-list ring (map element f) n ≡ element (get_or f n 0)
+  pub get_or-map-element : (f : List ℕ) (n : ℕ) → coefficient-list ring (map element f) n ≡ element
+      (get_or f n 0)
   get_or-map-element f n =
       ap (get_or (map element f) n) (sym I.element-zero) ∙ get_or-map element f n 0
 
@@ -327,7 +329,8 @@ module _ (F : Field) where
   monic-last f h = sym (leading-get_or f) ∙ monic-leading f h
 
   pub monic_over_lem :
-      (f : List ℕ) (n : ℕ) → length f ≡ suc n → get_or f n 0 ≡ 1 → T (are_elements F f) → T (is_monic_over F f)
+      (f : List ℕ) (n : ℕ) → length f ≡ suc n → get_or f n 0 ≡ 1 → T (are_elements F f) → T
+      (is_monic_over F f)
   unfolding is_monic_over is_monic
   monic_over_lem f n l e h =
       and_T (is_monic f) (are_elements F f) (subst (λ c. T (eqb c 1)) (sym top) (eqb_refl 1)) h
@@ -461,8 +464,12 @@ module _ {F : Field} (I : IsField F) where
       → Monic h n
       → (f : List ℕ) × T (is_monic_over F f) × (degree f ≡ n) × (poly I f ≡ h)
   unfolding list
-  monic-list {h} {n} m =
-      (list h, monic_over_lem F (list h) n size top (list-elements h), length-degree (list h) size, poly-list h)
+  monic-list {h} {n} m = (
+    list h,
+    monic_over_lem F (list h) n size top (list-elements h),
+    length-degree (list h) size,
+    poly-list h,
+  )
     where
       size : length (list h) ≡ suc n
       size = length-map h.to_list value ∙ (monic_to_list field.one_nonzero m).size

@@ -191,7 +191,8 @@ pub length-with_power : (i r : ℕ) (l : List (Polynomial × ℕ)) → length (w
 unfolding with_power
 length-with_power i r l = length-set l i (factor_at l i, r)
 
-pub factors_of-with_power : (i r : ℕ) (l : List (Polynomial × ℕ)) → factors_of (with_power i r l) ≡ factors_of l
+pub factors_of-with_power : (i r : ℕ) (l : List (Polynomial × ℕ)) → factors_of (with_power i r l) ≡
+    factors_of l
 unfolding with_power factors_of
 factors_of-with_power i r l = map-set_same (λ f. f.0) l i (factor_at l i, r) ([], 0) refl
 
@@ -351,7 +352,8 @@ module _ {F : Field} (I : IsField F) where
   pub poly-with_power :
       (l : List (Polynomial × ℕ)) (i r : ℕ)
       → i < length l
-      → poly I (product F (with_power i r l)) ≡ power-product (poly_ring I) (polys l) (update (power_at l) i r)
+      → poly I (product F (with_power i r l)) ≡ power-product (poly_ring I) (polys l)
+      (update (power_at l) i r)
   poly-with_power l i r k =
       poly-product (with_power i r l)
       ∙ ap₂ (power-product (poly_ring I)) same-factors (fun_ext (λ j. power_at-with_power i r l j k))
@@ -411,7 +413,8 @@ power_at-named (f ∷ fs) [] (suc i) k = power_at-named fs [] i (le_of_suc-le-su
 power_at-named (f ∷ fs) (u ∷ us) zero k = refl
 power_at-named (f ∷ fs) (u ∷ us) (suc i) k = power_at-named fs us i (le_of_suc-le-suc k)
 
-pub factor_at-named : (fs : List Polynomial) (us : List ℕ) (i : ℕ) → factor_at (named fs us) i ≡ get_or fs i []
+pub factor_at-named : (fs : List Polynomial) (us : List ℕ) (i : ℕ) → factor_at (named fs us) i ≡ get_or fs i
+    []
 factor_at-named fs us i =
     sym (factor_at-factors_of (named fs us) i) ∙ ap (λ gs. get_or gs i []) (factors_of-named fs us)
 

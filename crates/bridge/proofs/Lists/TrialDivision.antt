@@ -271,7 +271,8 @@ module _ {F : Field} (I : IsField F) where
 
     -- the constant term of the list is 0 only where that of the divisor is
     lowered-constant :
-        (g : Polynomial) → T (is_monic_over F g) → 1 ≤ degree g → get_or g 0 0 ≢ 0 → get_or (lowered F g) 0 0 ≢ 0
+        (g : Polynomial) → T (is_monic_over F g) → 1 ≤ degree g → get_or g 0 0 ≢ 0 → get_or (lowered F g) 0
+        0 ≢ 0
     lowered-constant g o l z e =
         z
         (sym (number-negative-negative I (get_or-below I g (monic-elements F g o) 0))

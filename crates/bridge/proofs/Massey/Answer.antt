@@ -171,7 +171,8 @@ module _ {F : Field} (I : IsField F) where
       ∙ ap (λ h. act h (sequence I (known ts)) (n - length f)) (sym (poly-append I f (1 ∷ [])))
     where
       leading :
-          act (x^ (length f) ⊠ poly I (1 ∷ [])) (sequence I (known ts)) (n - length f) ≡ element (get_or ts n 0)
+          act (x^ (length f) ⊠ poly I (1 ∷ [])) (sequence I (known ts)) (n - length f) ≡ element
+          (get_or ts n 0)
       leading =
           let e : length f + (n - length f) ≡ n = omega arith in
           act-x-power-mul (length f) (poly I (1 ∷ [])) (sequence I (known ts)) (n - length f)

@@ -21,7 +21,8 @@ use Rattle.meaning.specs.Field.{Field, are_elements}
 use Rattle.meaning.specs.Result.{answered, first_of}
 use Rattle.meaning.specs.Conditions.{term_out_of_field}
 use Rattle.meaning.specs.FieldNames.{named_field}
-use Rattle.meaning.specs.Meter.{start_meter, meter_full, term_table, take_term, meter_reading, MeterModel, Holding}
+use Rattle.meaning.specs.Meter.{start_meter, meter_full, term_table, take_term, meter_reading, MeterModel}
+use Rattle.meaning.specs.Meter.{Holding}
 use Rattle.meaning.proofs.Tables.{settle-none}
 use Rattle.meaning.proofs.Passes.{Passes}
 use Rattle.bridge.proofs.Basics.Searches.{in_answered, T-not-false, false-T}

@@ -76,7 +76,8 @@ act_at_local F (c ∷ g) s t j k h =
         ap s e ∙ h (suc i) (omega arith) ∙ ap t f
 
 pub act_at-shift :
-    (F : Field) (g : Polynomial) (s : Sequence) (n k : ℕ) → act_at F g (λ i. s (n + i)) k ≡ act_at F g s (n + k)
+    (F : Field) (g : Polynomial) (s : Sequence) (n k : ℕ) → act_at F g (λ i. s (n + i)) k ≡ act_at F g s
+    (n + k)
 act_at-shift F g s n k = act_at_local F g (λ i. s (n + i)) s k (n + k) (λ i _. ap s (sym (ℕ.add_assoc n k i)))
 
 -- As an action of a polynomial

@@ -1,13 +1,16 @@
 -- The orders of factors with powers, together. A pair is a factor with its power.
 --
 --   reaching p r         == the least power of p that is at least r; `reaching-level`
---   largest_power l       == the largest power of the pairs l; 0 where there are none. `largest-is`: the least
+--   largest_power l       == the largest power of the pairs l; 0 where there are none. `largest-is`: the
+--                            least
 --                           number that no power exceeds
 --   unity_at F n f        == the factor of the pair f divides x^n − 1, or its power is 0
 --   all_divide_unity F l n        == this holds for all pairs of l
---   orders_within F l b   == the least common multiple of the orders of the factors with a power other than 0;
+--   orders_within F l b   == the least common multiple of the orders of the factors with a power other than
+--                            0;
 --                           0 where it exceeds b or there is none
---   repeat_by_orders F l   == q times this common multiple, q the least power of the characteristic that is at
+--   repeat_by_orders F l   == q times this common multiple, q the least power of the characteristic that is
+--                             at
 --                           least the largest power; 0 where this exceeds the longest repeat that is told
 --   UnitiesOf F l n, unities_at, at_unities == `all_divide_unity` by places
 --   Moduli F l           == the factors are monic lists of positive degree
@@ -117,14 +120,16 @@ passes-unity_at F n f h = go (eqb f.1 0) refl
         let z : f.1 ≢ 0 = λ z. subst T e (subst (λ m. T (eqb m 0)) (sym z) (eqb_refl 0)) in
         rw (e, unity_at) (h (ℕ.pos_of_ne-zero z))
 
-pub unities_at : (F : Field) (l : List (Polynomial × ℕ)) (n : ℕ) → T (all_divide_unity F l n) → UnitiesOf F l n
+pub unities_at : (F : Field) (l : List (Polynomial × ℕ)) (n : ℕ) → T (all_divide_unity F l n) → UnitiesOf F
+    l n
 unfolding all_divide_unity
 unities_at F [] n h i k = absurd (ℕ.not-suc-le-zero k)
 unities_at F (f ∷ l) n h zero k = unity_at-passes F n f (all_uncons (unity_at F n) f l h).0
 unities_at F (f ∷ l) n h (suc i) k =
     unities_at F l n (all_uncons (unity_at F n) f l h).1 i (ℕ.le_of_suc-le-suc k)
 
-pub at_unities : (F : Field) (l : List (Polynomial × ℕ)) (n : ℕ) → UnitiesOf F l n → T (all_divide_unity F l n)
+pub at_unities : (F : Field) (l : List (Polynomial × ℕ)) (n : ℕ) → UnitiesOf F l n → T
+    (all_divide_unity F l n)
 unfolding all_divide_unity
 at_unities F [] n h = all_nil (unity_at F n)
 at_unities F (f ∷ l) n h =

@@ -73,7 +73,8 @@ module _ {F : Field} (I : IsField F) (g : Polynomial) (m : T (is_monic_over F g)
   unfolding impulse_start
   impulse-one =
       term (degree g - 1) (omega arith)
-      ∙ get_or_at (replicate (degree g - 1) 0) 1 [] 0 (degree g - 1) (length-replicate {A = ℕ} (degree g - 1) 0)
+      ∙ get_or_at (replicate (degree g - 1) 0) 1 [] 0 (degree g - 1)
+      (length-replicate {A = ℕ} (degree g - 1) 0)
 
   pub impulse-cut : cut (impulse F g) 0 (degree g - 1) ≡ cut (λ _. 0) 0 (degree g - 1)
   impulse-cut =

@@ -4,7 +4,8 @@
 --   length-act_on_known == it has m − deg g places
 --   act_on_known-cut == on a stretch of a sequence it is a stretch of the action on the sequence
 --   act_on_known-take, act_on_known-short == on the first n terms; where there are too few terms it is empty
---   act_on_known-elements, act_on_known-one, act_on_known-times == the values are elements of the field; 1 leaves
+--   act_on_known-elements, act_on_known-one, act_on_known-times == the values are elements of the field; 1
+-- leaves
 --                     elements as they are; a product acts as its factors one after the other
 --   act_on_known-power-add == so do powers
 --   annihilates_known-all == g annihilates the terms exactly where all of its action on them is 0
@@ -12,10 +13,12 @@
 --   known_vanish   == terms that a monic list annihilates, the first of them 0 as many as its degree, are 0
 --   known-part     == Lemma 5 of document 001: if h·g annihilates the terms, and g the first deg h + deg g of
 --                     them, then g annihilates them all; `endless-part` is that for an endless sequence
---   actOnPeriod-…, annihilates_period-all == the same for a period, with as many places as terms
---   stride_on_known F g q ts, stride_on_period F g q ts == the action with the stride q on known terms, at their
+--   act_on_period-…, annihilates_period-all == the same for a period, with as many places as terms
+--   stride_on_known F g q ts, stride_on_period F g q ts == the action with the stride q on known terms, at
+-- their
 --                     m − q·deg g places, and on a period
---   act_on_known_stride, act_on_period_stride, annihilates_period_stride == the power p^w acts with the stride
+--   act_on_known_stride, act_on_period_stride, annihilates_period_stride == the power p^w acts with the
+-- stride
 --                     p^w and numbers raised to p^w
 --
 -- Subtraction is truncated, so that lists that are too short are no exception.
@@ -132,7 +135,8 @@ module _ (F : Field) where
   unfolding act_on_known
   act_on_known-stretch g ts = map_range (act_at F g (known ts)) 0 (length ts - degree g)
 
-  pub length-act_on_known : (g : Polynomial) (ts : List ℕ) → length (act_on_known F g ts) ≡ length ts - degree g
+  pub length-act_on_known : (g : Polynomial) (ts : List ℕ) → length (act_on_known F g ts) ≡ length ts -
+      degree g
   length-act_on_known g ts = ap length (act_on_known-stretch g ts) ∙ length_cut _ 0 (length ts - degree g)
 
   pub act_on_known-cut :
@@ -196,7 +200,8 @@ module _ {F : Field} (I : IsField F) where
       subst (λ l. T (are_elements F l)) (sym (act_on_known-stretch F g ts))
       (cut-elements F (act_at F g (known ts)) 0 (length ts - degree g) (act_at-below I g (known ts)))
 
-  pub act_on_known-zeros : (g : Polynomial) (ts : List ℕ) → T (all_zero ts) → T (all_zero (act_on_known F g ts))
+  pub act_on_known-zeros : (g : Polynomial) (ts : List ℕ) → T (all_zero ts) → T
+      (all_zero (act_on_known F g ts))
   act_on_known-zeros g ts h =
       subst (λ l. T (all_zero l)) (sym (act_on_known-stretch F g ts))
       (all_zero-cut (act_at F g (known ts)) 0 (length ts - degree g)
@@ -260,7 +265,8 @@ module _ {F : Field} (I : IsField F) where
 
     pub act_on_known-power-add :
         (m n : ℕ) (ts : List ℕ)
-        → act_on_known F (power F f (m + n)) ts ≡ act_on_known F (power F f m) (act_on_known F (power F f n) ts)
+        → act_on_known F (power F f (m + n)) ts ≡ act_on_known F (power F f m)
+        (act_on_known F (power F f n) ts)
     act_on_known-power-add m n ts =
         ap (λ g. act_on_known F g ts) (power-add I f m n nonempty)
         ∙ act_on_known-times (power F f m) (power F f n) ts
@@ -400,7 +406,8 @@ module _ (F : Field) where
 
 module _ {F : Field} (I : IsField F) where
   pub act_on_period-times :
-      (f g : Polynomial) (ts : List ℕ) → act_on_period F (times F f g) ts ≡ act_on_period F f (act_on_period F g ts)
+      (f g : Polynomial) (ts : List ℕ) → act_on_period F (times F f g) ts ≡ act_on_period F f
+      (act_on_period F g ts)
   act_on_period-times f g ts =
       act_on_period-stretch F (times F f g) ts
       ∙ cut-equal (act_at F (times F f g) (periodic ts)) (act_at F f (periodic (act_on_period F g ts))) 0 0
@@ -411,13 +418,15 @@ module _ {F : Field} (I : IsField F) where
       same :
           (i : ℕ)
           → i < length ts
-          → act_at F (times F f g) (periodic ts) (0 + i) ≡ act_at F f (periodic (act_on_period F g ts)) (0 + i)
+          → act_at F (times F f g) (periodic ts) (0 + i) ≡ act_at F f (periodic (act_on_period F g ts))
+          (0 + i)
       same i l =
           act_at-times I f g (periodic ts) (0 + i)
           ∙ act_at_local F f (act_at F g (periodic ts)) (periodic (act_on_period F g ts)) (0 + i) (0 + i)
           (λ j _. sym (periodic-act_on_period F g ts (0 + i + j) (omega arith)))
 
-  pub act_on_period-zeros : (g : Polynomial) (ts : List ℕ) → T (all_zero ts) → T (all_zero (act_on_period F g ts))
+  pub act_on_period-zeros : (g : Polynomial) (ts : List ℕ) → T (all_zero ts) → T
+      (all_zero (act_on_period F g ts))
   unfolding periodic
   act_on_period-zeros g ts h =
       subst (λ l. T (all_zero l)) (sym (act_on_period-stretch F g ts))
@@ -430,7 +439,8 @@ module _ {F : Field} (I : IsField F) where
     pub act_on_period-power-add :
         (m n : ℕ) (ts : List ℕ)
         → 0 < length f
-        → act_on_period F (power F f (m + n)) ts ≡ act_on_period F (power F f m) (act_on_period F (power F f n) ts)
+        → act_on_period F (power F f (m + n)) ts ≡ act_on_period F (power F f m)
+        (act_on_period F (power F f n) ts)
     act_on_period-power-add m n ts l =
         ap (λ g. act_on_period F g ts) (power-add I f m n l)
         ∙ act_on_period-times (power F f m) (power F f n) ts
@@ -517,7 +527,8 @@ module _ {F : Field} (I : IsField F) (w : ℕ) (f : Polynomial) (nonempty : 0 < 
   unfolding stride_on_period
   act_on_period_stride =
       act_on_period-stretch F (power F f q) ts
-      ∙ cut-equal (act_at F (power F f q) (periodic ts)) (act_stride F (map (raise F q) f) q (periodic ts)) 0 0
+      ∙ cut-equal (act_at F (power F f q) (periodic ts)) (act_stride F (map (raise F q) f) q (periodic ts))
+      0 0
       (length ts)
       (λ i _. act_at-power_stride I w f nonempty (periodic ts) (0 + i))
 

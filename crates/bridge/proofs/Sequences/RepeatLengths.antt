@@ -26,7 +26,8 @@ use Rattle.meaning.specs.Field.{Field, are_elements}
 use Rattle.meaning.specs.Polynomial.{Polynomial, degree, is_monic_over, product}
 use Rattle.meaning.specs.Sequence.{Sequence, InField, AnnihilatesEndless, cut, Period, LeastPeriod}
 use Rattle.meaning.specs.Sequence.{Continues, MinimalPolynomial}
-use Rattle.meaning.specs.RepeatLength.{comes_again, longest_repeat, least_within, repeat_length, RepeatMeaning}
+use Rattle.meaning.specs.RepeatLength.{comes_again, longest_repeat, least_within, repeat_length}
+use Rattle.meaning.specs.RepeatLength.{RepeatMeaning}
 use Rattle.meaning.specs.Conditions.{named, total_degree}
 use Rattle.meaning.specs.Portion.{factors_of, set_powers, onward}
 use Rattle.algebra.proofs.Rings.Power.{power-one}
@@ -170,7 +171,8 @@ module _ {F : Field} (I : IsField F) (g : Polynomial) (monic : T (is_monic_over 
     pub repeat_length-beyond : longest_repeat < n → repeat_length g s ≡ 0
     repeat_length-beyond l =
         repeat_length-search g s constant
-        ∙ within-missing longest_repeat (comes_again s (degree g)) (λ m k b z. omega (arith, again-least m k z))
+        ∙ within-missing longest_repeat (comes_again s (degree g))
+        (λ m k b z. omega (arith, again-least m k z))
 
 -- The periods of a sequence with the minimal polynomial Π f^r
 module _

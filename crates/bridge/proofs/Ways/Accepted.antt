@@ -25,7 +25,8 @@ use Rattle.meaning.specs.Conditions.{named, total_degree, count_out_of_range, te
 use Rattle.meaning.specs.Conditions.{is_reducible}
 use Rattle.meaning.specs.Conditions.{factor_count_out_of_range, factor_degree_out_of_range, two_equal}
 use Rattle.meaning.specs.Conditions.{coefficient_out_of_range}
-use Rattle.meaning.specs.Conditions.{upper_powers_out_of_range, fewer_terms_than, lent_too_short, accepted_lent}
+use Rattle.meaning.specs.Conditions.{upper_powers_out_of_range, fewer_terms_than, lent_too_short}
+use Rattle.meaning.specs.Conditions.{accepted_lent}
 use Rattle.meaning.specs.FieldNames.{named_field}
 use Rattle.meaning.specs.Power.{PowerFigures, power_rating}
 use Rattle.meaning.specs.Repeat.{shortest_period}
@@ -140,7 +141,8 @@ module _
     (enough : total_degree (multiples_named (named_field name) fs vs) ≤ length ts)
     (annihilated :
     T
-    (annihilates_known (named_field name) (product (named_field name) (multiples_named (named_field name) fs vs))
+    (annihilates_known (named_field name) (product (named_field name) (multiples_named (named_field name) fs
+    vs))
     ts))
   where
     abbrev F : Field

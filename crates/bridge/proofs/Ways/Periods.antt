@@ -87,7 +87,8 @@ module _ {F : Field} (I : IsField F) (f : Polynomial) (ts : List ℕ) where
       least-found (length ts) (λ r. annihilates_period F (power F f r) ts) (omega arith)
       (record {
         holds =
-            subst T (sym (annihilates_period-all F (power F f 0) ts)) (act_on_period-zeros I (power F f 0) ts h);
+            subst T (sym (annihilates_period-all F (power F f 0) ts))
+            (act_on_period-zeros I (power F f 0) ts h);
         least = λ m l. absurd (omega arith);
       })
 

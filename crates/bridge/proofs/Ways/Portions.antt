@@ -2,9 +2,10 @@
 --
 -- l is a list of factors with their upper powers, D its total degree, ts the known terms.
 --
---   actOnKnown-product-… == a product of powers acts as its powers one after the other
+--   act_on_known-product-… == a product of powers acts as its powers one after the other
 --   portion_at F l ts i == what the others' upper powers leave of the first D terms, for factor i
---   others_acted F l i j ts == what the upper powers of the factors before place j, but for factor i, leave of
+--   others_acted F l i j ts == what the upper powers of the factors before place j, but for factor i, leave
+--                              of
 --                     ts: one factor after the other up to `portion_at`
 --   least_at-portion == `least_at` is the least power of factor i that annihilates `portion_at`, at most its
 --                     upper power; `least_at-search` says that the search finds it
@@ -35,7 +36,8 @@ use lib.Dec.{T}
 use Rattle.meaning.specs.Search.{least}
 use Rattle.meaning.specs.Field.{Field, are_elements}
 use Rattle.meaning.specs.Polynomial.{Polynomial, degree, is_monic_over, times, power, product}
-use Rattle.meaning.specs.Sequence.{Sequence, InField, AnnihilatesEndless, annihilates_known, act_on_known, cut}
+use Rattle.meaning.specs.Sequence.{Sequence, InField, AnnihilatesEndless, annihilates_known, act_on_known}
+use Rattle.meaning.specs.Sequence.{cut}
 use Rattle.meaning.specs.Sequence.{Continues, continuation}
 use Rattle.meaning.specs.Conditions.{named, total_degree}
 use Rattle.meaning.specs.Portion.{factors_of, with_power, least_at, set_powers, onward, SetMeaning, Agrees}
@@ -157,12 +159,14 @@ module _ {F : Field} (I : IsField F) (l : List (Polynomial × ℕ)) (nonempties 
         ≡ act_on_known F (power F (factor_at l j) (power_at l j)) (others_acted F l i j ts)
     others_acted-other j k h =
         acted-next j k
-        ∙ ap (λ n. act_on_known F (power F (factor_at l j) n) (others_acted F l i j ts)) (power_at-other i j 0 l h)
+        ∙ ap (λ n. act_on_known F (power F (factor_at l j) n) (others_acted F l i j ts))
+        (power_at-other i j 0 l h)
 
     pub others_acted-own : i < length l → others_acted F l i (suc i) ts ≡ others_acted F l i i ts
     others_acted-own k =
         acted-next i k
-        ∙ ap (λ n. act_on_known F (power F (factor_at l i) n) (others_acted F l i i ts)) (power_at-own i 0 l k)
+        ∙ ap (λ n. act_on_known F (power F (factor_at l i) n) (others_acted F l i i ts))
+        (power_at-own i 0 l k)
         ∙ act_on_known-power-zero I (factor_at l i) (nonempties i k) (others_acted F l i i ts)
         (act_on_known-elements I (product F (take i (with_power i 0 l))) ts)
 
@@ -240,7 +244,8 @@ module _ {F : Field} (I : IsField F) (l : List (Polynomial × ℕ)) (nonempties 
       × LeastPasses (λ r. annihilates_known F (product F (with_power i r l)) first) r
   unfolding least_at
   least_at_exists i =
-      least_exists (power_at l i) (λ r. annihilates_known F (product F (with_power i r l)) first) (power_at l i)
+      least_exists (power_at l i) (λ r. annihilates_known F (product F (with_power i r l)) first)
+      (power_at l i)
       (ℕ.le_refl (power_at l i)) (upper_annihilates i)
 
   pub least_at-upper : (i : ℕ) {r : ℕ} → least_at F l ts i ≡ some r → r ≤ power_at l i
@@ -441,7 +446,8 @@ module _ {F : Field} (I : IsField F) (l : List (Polynomial × ℕ)) (monics : Mo
             begins =
                 ap (λ w. cut (λ i. s (k + i)) 0 (length w)) stretch
                 ∙ ap (cut (λ i. s (k + i)) 0) (length_cut s k (total_degree l))
-                ∙ cut-equal (λ i. s (k + i)) s 0 k (total_degree l) (λ j _. ap (λ n. s (k + n)) (ℕ.zero-add j))
+                ∙ cut-equal (λ i. s (k + i)) s 0 k (total_degree l)
+                (λ j _. ap (λ n. s (k + n)) (ℕ.zero-add j))
                 ∙ sym stretch;
             annihilated = λ j. act_at-shift F (product F l) s k j ∙ z (k + j);
           }

@@ -21,7 +21,8 @@ use Rattle.meaning.specs.Field.{Field}
 use Rattle.meaning.specs.Result.{Result, refused, answered}
 use Rattle.meaning.specs.FieldNames.{named_field}
 use Rattle.meaning.specs.Free.{FreeFigures}
-use Rattle.meaning.specs.Meter.{term_table, take_term, meter_reading, unless_refused, profile_entry, reading_entry}
+use Rattle.meaning.specs.Meter.{term_table, take_term, meter_reading, unless_refused, profile_entry}
+use Rattle.meaning.specs.Meter.{reading_entry}
 use Rattle.meaning.specs.Answers.{number_of, told_free}
 use Rattle.meaning.specs.Calls.{TermCall, TermTaken, ReadingCall}
 use Rattle.meaning.specs.Exports.{status_of}

@@ -24,7 +24,8 @@ use Rattle.meaning.specs.Field.{Field}
 use Rattle.meaning.specs.Result.{Result, refused, answered, written}
 use Rattle.meaning.specs.FieldNames.{named_field}
 use Rattle.meaning.specs.Free.{FreeFigures}
-use Rattle.meaning.specs.Meter.{start_meter, term_table, take_term, meter_reading, unless_refused, profile_entry}
+use Rattle.meaning.specs.Meter.{start_meter, term_table, take_term, meter_reading, unless_refused}
+use Rattle.meaning.specs.Meter.{profile_entry}
 use Rattle.meaning.specs.Meter.{reading_entry, profile_of}
 use Rattle.meaning.specs.Answers.{number_of, told_start}
 use Rattle.meaning.specs.Calls.{StartCall}
@@ -133,14 +134,16 @@ module _ {m : Meter} (ts : List ℕ) {terms₀ work₀ profile₀ : List ℕ} wh
                 );
             ready = λ name h.
                 subst (λ held. Ready name held known' terms' work')
-                (sym (ap (held_after (named_field name) []) upto ∙ held_more name (get_or ts i 0) [] (take i ts)))
+                (sym (ap (held_after (named_field name) []) upto ∙ held_more name (get_or ts i 0) []
+                (take i ts)))
                 (e.ready name _ (x.ready name h));
             front = λ name h.
                 ap (take (4 * (i + 1))) regrouped
                 ∙ take_at (take (4 * i) profile ++ ys) r (4 * (i + 1)) place
                 ∙ ap₂ ◌++◌ (x.front name h) (e.entry name _ (x.ready name h))
                 ∙ sym
-                (ap (profile_of (named_field name) []) upto ∙ profile_more name (get_or ts i 0) [] (take i ts));
+                (ap (profile_of (named_field name) []) upto ∙ profile_more name (get_or ts i 0) []
+                (take i ts));
             rest =
                 let j : 4 * i + 4 - 4 * i ≡ 4 = omega arith in
                 let k : 4 * i + 4 ≡ 4 * (i + 1) = omega arith in

@@ -21,7 +21,8 @@ use Rattle.meaning.specs.Field.{Field}
 use Rattle.meaning.specs.Result.{answered, written}
 use Rattle.meaning.specs.FieldNames.{named_field}
 use Rattle.meaning.specs.Free.{FreeFigures}
-use Rattle.meaning.specs.Meter.{take_term, meter_reading, unless_refused, Holding, profile_entry, reading_entry}
+use Rattle.meaning.specs.Meter.{take_term, meter_reading, unless_refused, Holding, profile_entry}
+use Rattle.meaning.specs.Meter.{reading_entry}
 use Rattle.meaning.specs.Meter.{profile_of}
 use Rattle.meaning.specs.Answers.{told_free}
 use Rattle.meaning.specs.Exports.{status_of}

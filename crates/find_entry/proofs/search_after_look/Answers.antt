@@ -21,5 +21,6 @@ search_level-requires c =
 
 pub returns-else-block_is_zero : goal.returns-else-block_is_zero
 returns-else-block_is_zero c =
-    look_none c.requires.field_named _ c.requires.period_input c.args.level c.requires.dividing c.requires.places c.block_is_zero.ensures
+    look_none c.requires.field_named _ c.requires.period_input c.args.level c.requires.dividing
+    c.requires.places c.block_is_zero.ensures
     c.if-block_is_zero.false _

@@ -153,7 +153,8 @@ module _ {field : GaloisField} (v : WellFormed field) {f : Polynomial} (y : Poly
 
       row-pasted : put_mid (32 * j) (32 * j + e - 32 * j) table ys ≡ paste table (32 * j) ys d
       row-pasted =
-          ap (λ n. put_mid (32 * j) (32 * j + n - 32 * j) table ys) s ∙ put_paste table (32 * j) d ys ys_length
+          ap (λ n. put_mid (32 * j) (32 * j + n - 32 * j) table ys) s ∙ put_paste table (32 * j) d ys
+          ys_length
 
       old-rows :
           (k : ℕ) → k < j → row (put_mid (32 * j) (32 * j + e - 32 * j) table ys) k d ≡ row table k d

@@ -8,14 +8,17 @@ use Rattle.leaves.proofs.Remaindering.{kept-coefficient, kept_out_of_field}
 use Rattle.leaves.proofs.divide_in.Goals as goal
 
 pub returns-then-coefficient_out_of_range : goal.returns-then-coefficient_out_of_range
-returns-then-coefficient_out_of_range c = kept-coefficient _ _ _ c.coefficient_out_of_range.ensures c.if-coefficient_out_of_range.true
+returns-then-coefficient_out_of_range c =
+    kept-coefficient _ _ _ c.coefficient_out_of_range.ensures c.if-coefficient_out_of_range.true
 
 pub returns-then-term_out_of_field : goal.returns-then-term_out_of_field
-returns-then-term_out_of_field c = kept_out_of_field _ _ _ c.term_out_of_field.ensures c.if-term_out_of_field.true
+returns-then-term_out_of_field c =
+    kept_out_of_field _ _ _ c.term_out_of_field.ensures c.if-term_out_of_field.true
 
 pub divide-requires : goal.divide-requires
 divide-requires c =
-    let lead = coefficients_lead _ _ (sym c.coefficient_out_of_range.ensures ∙ c.if-coefficient_out_of_range.false) in record {
+    let lead = coefficients_lead _ _ (sym c.coefficient_out_of_range.ensures ∙
+    c.if-coefficient_out_of_range.false) in record {
       well_formed = search rules;
       divisible = record {
         divisor = lead.elements;

@@ -7,7 +7,8 @@ use borrow.Author.Rules.{rules}
 use Rattle.leaves.proofs.is_suited.Goals as goal
 
 pub returns-then-factor_degree_out_of_range : goal.returns-then-factor_degree_out_of_range
-returns-then-factor_degree_out_of_range c = suited-ten _ _ (sym c.factor_degree_out_of_range.ensures ∙ c.if-factor_degree_out_of_range.true)
+returns-then-factor_degree_out_of_range c =
+    suited-ten _ _ (sym c.factor_degree_out_of_range.ensures ∙ c.if-factor_degree_out_of_range.true)
 
 pub returns-then-not_monic : goal.returns-then-not_monic
 returns-then-not_monic c =

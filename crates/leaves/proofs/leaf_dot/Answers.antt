@@ -21,7 +21,8 @@ pub dot-requires : goal.dot-requires
 unfolding FieldMade
 dot-requires c =
     let prime : ℕ = c.args.p in
-    let made : FieldNamed (FieldName.Prime prime) c.in-Made.field = subst (FieldMade _) c.in-Made.is c.of.ensures in
+    let made : FieldNamed (FieldName.Prime prime) c.in-Made.field =
+    subst (FieldMade _) c.in-Made.is c.of.ensures in
     let y = c.if-not-suits.false in record {
       well_formed = made.well_formed;
       c_in_bounds = (suited-first _ _ c.suits.ensures y, suited_few _ _ c.suits.ensures y);
@@ -31,7 +32,8 @@ pub returns-in-Made : goal.returns-in-Made
 unfolding FieldMade
 returns-in-Made c =
     let prime : ℕ = c.args.p in
-    let made : FieldNamed (FieldName.Prime prime) c.in-Made.field = subst (FieldMade _) c.in-Made.is c.of.ensures in
+    let made : FieldNamed (FieldName.Prime prime) c.in-Made.field =
+    subst (FieldMade _) c.in-Made.is c.of.ensures in
     let a = c.args in
     answer-named _ _ (λ F. act_at F a.c.now (known a.s.now) 0) 0
     (sym c.suits.ensures ∙ c.if-not-suits.false) made c.dot.ensures

@@ -9,13 +9,15 @@ use Rattle.leaves.proofs.leaf_remainder.Goals as goal
 pub divide_in-requires : goal.divide_in-requires
 unfolding FieldMade
 divide_in-requires c =
-    let made : FieldNamed (FieldName.Prime c.args.p) c.in-Made.field = subst (FieldMade _) c.in-Made.is c.of.ensures in
+    let made : FieldNamed (FieldName.Prime c.args.p) c.in-Made.field =
+    subst (FieldMade _) c.in-Made.is c.of.ensures in
     made.well_formed
 
 pub returns-in-Made : goal.returns-in-Made
 unfolding FieldMade
 returns-in-Made c =
-    let made : FieldNamed (FieldName.Prime c.args.p) c.in-Made.field = subst (FieldMade _) c.in-Made.is c.of.ensures in
+    let made : FieldNamed (FieldName.Prime c.args.p) c.in-Made.field =
+    subst (FieldMade _) c.in-Made.is c.of.ensures in
     remainder-named made c.divide_in.ensures
 
 pub returns-in_default : goal.returns-in_default

@@ -21,7 +21,8 @@ pub add_multiple-requires : goal.add_multiple-requires
 unfolding FieldMade
 add_multiple-requires c =
     let prime : ℕ = c.args.p in
-    let made : FieldNamed (FieldName.Prime prime) c.in-Made.field = subst (FieldMade _) c.in-Made.is c.of.ensures in
+    let made : FieldNamed (FieldName.Prime prime) c.in-Made.field =
+    subst (FieldMade _) c.in-Made.is c.of.ensures in
     record {
       well_formed = made.well_formed;
       b_in_bounds = suited-first _ _ c.suits.ensures c.if-not-suits.false;
@@ -31,7 +32,8 @@ pub returns-in-Made : goal.returns-in-Made
 unfolding FieldMade
 returns-in-Made c =
     let prime : ℕ = c.args.p in
-    let made : FieldNamed (FieldName.Prime prime) c.in-Made.field = subst (FieldMade _) c.in-Made.is c.of.ensures in
+    let made : FieldNamed (FieldName.Prime prime) c.in-Made.field =
+    subst (FieldMade _) c.in-Made.is c.of.ensures in
     let a = c.args in
     answer-named _ _ (λ F. combined F a.a.now a.c a.b.now) a.a.now
     (sym c.suits.ensures ∙ c.if-not-suits.false) made c.add_multiple.ensures

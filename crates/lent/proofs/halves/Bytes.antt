@@ -24,7 +24,8 @@ use Rattle.meaning.specs.Result.{cleared}
 use Rattle.bridge.proofs.Basics.Searches.{true-T, false-T}
 use Rattle.bridge.proofs.Basics.Interpretation.{IsField}
 use Rattle.bridge.proofs.Lists.Products.{degree-power}
-use Rattle.bridge.proofs.Sequences.KnownActions.{all_zero, all_zero-nil, length-act_on_known, act_on_known-short}
+use Rattle.bridge.proofs.Sequences.KnownActions.{all_zero, all_zero-nil, length-act_on_known}
+use Rattle.bridge.proofs.Sequences.KnownActions.{act_on_known-short}
 use Rattle.arith.proofs.Slices.{length_part}
 use Rattle.lent.specs.halves.Halves.{half, Halves, Placed, Acted}
 use Rattle.lent.specs.halves.Kept.{Kept}

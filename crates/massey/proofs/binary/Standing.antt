@@ -391,7 +391,8 @@ module _ (ts : List ℕ) {r : Progress} {f g : List ℕ} {a : ℕ} (h : WordsHol
       → j + length earlier + (r.seen + 1 - changed_at r) ≡ length y
       → length y ≤ r.seen + 2
       → j + length earlier ≤ changed_at r + 64
-      → ((i : ℕ) → get_or y i 0 ≡ (get_or (raised k (lower ++ (1 ∷ []))) i 0 + get_or (raised j earlier) i 0) % 2)
+      → ((i : ℕ) → get_or y i 0 ≡ (get_or (raised k (lower ++ (1 ∷ []))) i 0 + get_or (raised j earlier) i
+      0) % 2)
       → (i : ℕ)
       → 64 * a ≤ i
       → bit_of f' i ≡ image ts y (r.seen + 1) i

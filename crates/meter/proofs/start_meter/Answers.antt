@@ -14,4 +14,5 @@ pub returns-in-Made : goal.returns-in-Made
 unfolding FieldMade
 returns-in-Made c =
     let made = subst (FieldMade _) c.in-Made.is c.of.ensures in
-    start_taken _ made.exists c.start-known.ensures (omega (arith, c.start-known.auto.work)) c.meter_of.ensures
+    start_taken _ made.exists c.start-known.ensures (omega (arith, c.start-known.auto.work))
+    c.meter_of.ensures

@@ -25,14 +25,17 @@ returns-then-not-is_usable c =
 pub term_verdict-requires : goal.term_verdict-requires
 unfolding FieldMade
 term_verdict-requires c =
-    let named : FieldNamed c.args.meter.field c.in-Made.field = subst (FieldMade _) c.in-Made.is c.of.ensures in
+    let named : FieldNamed c.args.meter.field c.in-Made.field =
+    subst (FieldMade _) c.in-Made.is c.of.ensures in
     named.well_formed
 
 pub take-next-requires : goal.take-next-requires
 unfolding FieldMade
 take-next-requires c =
-    let named : FieldNamed c.args.meter.field c.in-Made.field = subst (FieldMade _) c.in-Made.is c.of.ensures in
-    let is-usable : Usable c.args.meter true = subst (Usable _) c.if-not-is_usable.false c.is_usable.ensures in
+    let named : FieldNamed c.args.meter.field c.in-Made.field =
+    subst (FieldMade _) c.in-Made.is c.of.ensures in
+    let is-usable : Usable c.args.meter true =
+    subst (Usable _) c.if-not-is_usable.false c.is_usable.ensures in
     record {
       well_formed = named.well_formed;
       usable = is-usable;
@@ -51,13 +54,15 @@ returns-in-Refused c =
 pub returns-in-Refused-term_verdict : goal.returns-in-Refused-term_verdict
 unfolding FieldMade
 returns-in-Refused-term_verdict c =
-    let named : FieldNamed c.args.meter.field c.in-Made.field = subst (FieldMade _) c.in-Made.is c.of.ensures in
+    let named : FieldNamed c.args.meter.field c.in-Made.field =
+    subst (FieldMade _) c.in-Made.is c.of.ensures in
     term_refused _ _ named _ c.term_verdict.ensures c.in-Refused-term_verdict.is
     c.unchanged-in-Refused-term_verdict.ensures
 
 pub returns-in-Accepted : goal.returns-in-Accepted
 unfolding FieldMade
 returns-in-Accepted c =
-    let named : FieldNamed c.args.meter.field c.in-Made.field = subst (FieldMade _) c.in-Made.is c.of.ensures in
+    let named : FieldNamed c.args.meter.field c.in-Made.field =
+    subst (FieldMade _) c.in-Made.is c.of.ensures in
     term_taken _ _ named _ c.term_verdict.ensures
     c.in-Accepted.is (omega arith) c.take-next.ensures c.reading.ensures

@@ -12,7 +12,8 @@ pub annihilates_at_level-requires : goal.annihilates_at_level-requires
 annihilates_at_level-requires c =
     record {
       well_formed = c.requires.well_formed;
-      levelled = period_levelled c.requires.well_formed _ _ c.requires.period_input c.args.level c.requires.dividing;
+      levelled = period_levelled c.requires.well_formed _ _ c.requires.period_input c.args.level
+          c.requires.dividing;
     }
 
 pub overflow_sub-f : goal.overflow_sub-f
@@ -21,7 +22,10 @@ overflow_sub-f c =
 
 pub overflow_mul-q : goal.overflow_mul-q
 overflow_mul-q c =
-    record { fits = period-fits c.requires.well_formed _ _ c.requires.period_input c.args.level c.requires.dividing }
+    record {
+      fits = period-fits c.requires.well_formed _ _ c.requires.period_input c.args.level
+          c.requires.dividing;
+    }
 
 pub load-requires : goal.load-requires
 load-requires c =
@@ -41,7 +45,8 @@ least_power-requires c =
         which = omega arith;
         few = omega (arith, c.smaller-count.ensures, c.requires.period_input.not_many);
       };
-      searchable = period_searchable c.requires.well_formed _ _ c.requires.period_input c.args.level c.requires.dividing;
+      searchable = period_searchable c.requires.well_formed _ _ c.requires.period_input c.args.level
+          c.requires.dividing;
     }
 
 pub shape_of-work : goal.shape_of-work

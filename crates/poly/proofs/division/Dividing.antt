@@ -143,7 +143,11 @@ module _ {F : Field} (I : IsField F) {g : Polynomial} {f : List ℕ} (d : Divisi
       }
     where
       nothing : (x j : ℕ) → raised x [] j ≡ 0
-      nothing x j = elim (dec_lt j x) [ yes l ↦ raised-low x [] j l | no l ↦ raised-high x [] j (omega arith) ]
+      nothing x j = elim (dec_lt j x) [
+        | yes l ↦ raised-low x [] j l
+        | no l ↦ raised-high x [] j
+            (omega arith)
+      ]
 
   -- one coefficient more of the quotient, at place i
   module _ {c : ℕ} {w : List ℕ} {k : ℕ} (m : Dividing F c g f w k) (l : e < k)

@@ -15,8 +15,10 @@ use native.Mathlib.Omega.{arith}
 use lib.ListN.{take}
 use lib.Dec.{T}
 use Rattle.bridge.proofs.Sequences.KnownActions.{all_zero}
-use Rattle.bridge.proofs.Ways.PowerSearch.{digit_found, digit_left, digits_found, power_found, digit_found-none}
-use Rattle.bridge.proofs.Ways.PowerSearch.{digit_left-none, digit_found-stop, digit_left-stop, digit_found-more}
+use Rattle.bridge.proofs.Ways.PowerSearch.{digit_found, digit_left, digits_found, power_found}
+use Rattle.bridge.proofs.Ways.PowerSearch.{digit_found-none}
+use Rattle.bridge.proofs.Ways.PowerSearch.{digit_left-none, digit_found-stop, digit_left-stop}
+use Rattle.bridge.proofs.Ways.PowerSearch.{digit_found-more}
 use Rattle.bridge.proofs.Ways.PowerSearch.{digit_left-more, digit_found-below, digits_found-zero}
 use Rattle.bridge.proofs.Ways.PowerSearch.{digits_found-suc, digits_found-zeros, power_found-zeros}
 use Rattle.bridge.proofs.Ways.PowerSearch.{power_found-digits}

@@ -139,7 +139,8 @@ module _ {F : Field} (I : IsField F) {fs : List Polynomial} {rs : List ℕ} (x :
       place : i < length (named fs rs)
       place = subst (λ m. i < m) (sym (length-named fs rs)) k
 
-      part : power_at (named fs rs) i * degree (factor_at (named fs rs) i) ≡ get_or rs i 0 * degree (get_or fs i [])
+      part : power_at (named fs rs) i * degree (factor_at (named fs rs) i) ≡ get_or rs i 0 * degree
+          (get_or fs i [])
       part =
           ap (λ r. r * degree (factor_at (named fs rs) i)) (power_at-named fs rs i k)
           ∙ ap (λ f. get_or rs i 0 * degree f) (factor_at-named fs rs i)

@@ -11,7 +11,8 @@ use lib.ListN.{length, take, drop, replicate}
 use lib.Seq.{take_at}
 use Rattle.meaning.specs.declared.FileOutcome.{FileOutcome}
 use Rattle.meaning.specs.declared.FileRating.{FileRating}
-use Rattle.meaning.specs.Result.{Result, refused, answered, Rated, figures_of, map_result, answer_after, written}
+use Rattle.meaning.specs.Result.{Result, refused, answered, Rated, figures_of, map_result, answer_after}
+use Rattle.meaning.specs.Result.{written}
 use Rattle.meaning.specs.Route.{box_of}
 use Rattle.meaning.specs.File.{Label, powers, unique, several, FileFigures, file_answer, rate_file}
 use Rattle.meaning.specs.Answers.{told_file, label_told, file_figures_told, padded, label_powers, file_padded}

@@ -43,7 +43,8 @@ module _ (box : ℕ) {o : FileOutcome} (rs : List ℕ) where
   pub result-powers :
       {d m n : ℕ}
       → o ≡ FileOutcome.Powers d m n
-      → rated_line box d m (joined (text ",") (map decimal (take n rs))) ≡ result_line box (rated_result o rs [])
+      → rated_line box d m (joined (text ",") (map decimal (take n rs))) ≡ result_line box
+      (rated_result o rs [])
   unfolding rated_result result_line density label_word file_answer rated_line
   result-powers e = sym (ap (result_of box rs) e)
 

@@ -44,7 +44,8 @@ monic_multiple-requires c =
 
 pub slice_bounds-is_irreducible-end : goal.slice_bounds-is_irreducible-end
 slice_bounds-is_irreducible-end c =
-    asked-room (field-is_field c.requires.well_formed) c.requires.asked (replicate 33 0) c.monic_multiple.ensures
+    asked-room (field-is_field c.requires.well_formed) c.requires.asked (replicate 33 0)
+    c.monic_multiple.ensures
 
 pub is_irreducible-requires-2 : goal.is_irreducible-requires-2
 is_irreducible-requires-2 c =
@@ -59,4 +60,5 @@ pub returns : goal.returns
 returns c =
     c.is_irreducible-2.ensures
     ∙ ap (irreducible (field_of c.args.field))
-    (asked-front (field-is_field c.requires.well_formed) c.requires.asked (replicate 33 0) c.monic_multiple.ensures)
+    (asked-front (field-is_field c.requires.well_formed) c.requires.asked (replicate 33 0)
+    c.monic_multiple.ensures)

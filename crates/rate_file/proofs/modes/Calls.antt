@@ -8,13 +8,15 @@ use Rattle.meaning.specs.declared.PowerRating.{PowerRating}
 use Rattle.meaning.specs.declared.FreeRating.{FreeRating}
 use Rattle.meaning.specs.declared.SetRating.{SetRating}
 use Rattle.meaning.specs.declared.FileRating.{FileRating}
-use Rattle.meaning.specs.Result.{Result, refused, answered, map_result, Rated, figures_of, answer_after, clears}
+use Rattle.meaning.specs.Result.{Result, refused, answered, map_result, Rated, figures_of, answer_after}
+use Rattle.meaning.specs.Result.{clears}
 use Rattle.meaning.specs.Result.{work_after}
 use Rattle.meaning.specs.Power.{PowerFigures}
 use Rattle.meaning.specs.Portion.{SetFigures}
 use Rattle.meaning.specs.Free.{FreeFigures}
 use Rattle.meaning.specs.File.{FileFigures, file_answer, of_period, of_set, of_free}
-use Rattle.meaning.specs.Answers.{told_power, told_free, set_figures_told, set_padded, with_powers, label_told}
+use Rattle.meaning.specs.Answers.{told_power, told_free, set_figures_told, set_padded, with_powers}
+use Rattle.meaning.specs.Answers.{label_told}
 use Rattle.meaning.specs.Answers.{file_figures_told, label_powers, file_padded}
 use Rattle.meaning.specs.Calls.{LentAfter}
 use Rattle.rate_free.specs.Ratings.{FreeRatedAs}

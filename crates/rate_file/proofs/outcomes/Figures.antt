@@ -31,7 +31,8 @@ module _ (sender : ℕ) where
   refusal_tells x = record { box = refl; rating = refl; powers = refl }
 
   -- figures, with the powers of their label
-  figures-told : {a : FileFigures} {o : FileOutcome} {l : List ℕ} → told_file o ≡ answered (file_figures_told a)
+  figures-told : {a : FileFigures} {o : FileOutcome} {l : List ℕ} → told_file o ≡ answered
+      (file_figures_told a)
       → l ≡ padded (label_powers a.label)
       → Tells sender (answered a) (places l o sender)
   unfolding map_result file_padded
@@ -59,13 +60,15 @@ module _ (sender : ℕ) where
     pub free-unique : {q : FreeRating} {degree : ℕ} → q ≡ FreeRating.Unique degree
         → Tells sender (map_result (free_figures m) (told_free q))
         (places (replicate 8 0) (FileOutcome.Unique degree m) sender)
-    unfolding told_free map_result free_figures free_label told_file file_figures_told label_told label_powers padded
+    unfolding told_free map_result free_figures free_label told_file file_figures_told label_told
+        label_powers padded
     free-unique e = rw e (figures-told refl refl)
 
     pub free_several : {q : FreeRating} {degree : ℕ} → q ≡ FreeRating.Several degree
         → Tells sender (map_result (free_figures m) (told_free q))
         (places (replicate 8 0) (FileOutcome.Several degree m) sender)
-    unfolding told_free map_result free_figures free_label told_file file_figures_told label_told label_powers padded
+    unfolding told_free map_result free_figures free_label told_file file_figures_told label_told
+        label_powers padded
     free_several e = rw e (figures-told refl refl)
 
     pub set_refused : {s : SetRating} {x : Refusal} → s.outcome ≡ SetOutcome.Refused x

@@ -18,15 +18,18 @@ use Rattle.meaning.specs.Search.{holds_for_some, is_none}
 use Rattle.meaning.specs.Field.{Field}
 use Rattle.meaning.specs.Polynomial.{Polynomial, product}
 use Rattle.meaning.specs.Sequence.{annihilates_known}
-use Rattle.meaning.specs.Conditions.{named, total_degree, factor_count_out_of_range, factor_degree_out_of_range}
-use Rattle.meaning.specs.Conditions.{not_monic, is_reducible, two_equal, upper_powers_out_of_range, fewer_terms_than}
+use Rattle.meaning.specs.Conditions.{named, total_degree, factor_count_out_of_range}
+use Rattle.meaning.specs.Conditions.{factor_degree_out_of_range}
+use Rattle.meaning.specs.Conditions.{not_monic, is_reducible, two_equal, upper_powers_out_of_range}
+use Rattle.meaning.specs.Conditions.{fewer_terms_than}
 use Rattle.meaning.specs.Conditions.{lent_too_short}
 use Rattle.meaning.specs.Result.{refused, Check, first_of}
 use Rattle.meaning.specs.Period.{period_table, period_power, period_answer}
 use Rattle.meaning.specs.Portion.{factors_of, set_table, set_answer}
 use Rattle.meaning.specs.Free.{free_table, free_in}
 use Rattle.meaning.specs.Route.{Mode, period_mode, set_mode, free_mode}
-use Rattle.meaning.specs.File.{WrittenFactor, polynomial_of, file_degree_out_of_range, file_coefficient_out_of_range}
+use Rattle.meaning.specs.File.{WrittenFactor, polynomial_of, file_degree_out_of_range}
+use Rattle.meaning.specs.File.{file_coefficient_out_of_range}
 use Rattle.meaning.specs.File.{of_period, of_set, of_free, rate_mode}
 use Rattle.meaning.specs.Answers.{number_of}
 use Rattle.meaning.proofs.Passes.{Passes}
@@ -133,7 +136,8 @@ module _ {F : Field} (I : IsField F) (fs : List WrittenFactor) (ts : List ℕ) (
         set-factors low high q =
             ap (of_set (length ts))
             (settle_refused _ _
-            (refused_second (terms_table F ts) counted set_rest eu (ev ∙ sym (counted_skip low high)) accepted q
+            (refused_second (terms_table F ts) counted set_rest eu (ev ∙ sym (counted_skip low high))
+            accepted q
             ∙ sym (ap first_of set-parts))
             refl)
 

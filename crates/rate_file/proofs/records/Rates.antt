@@ -196,7 +196,8 @@ module _ {name : FieldName} {made : FieldAnswer} (h : FieldMade name made) (file
 
   pub name-made : {sender : ℕ} {answer work answer' work' : List ℕ} {field : GaloisField} {r : FileRating}
       → made ≡ FieldAnswer.Made field
-      → RatedFile sender (rated_in (field_of field) (records_from file 0) (length answer) (length work)) answer
+      → RatedFile sender (rated_in (field_of field) (records_from file 0) (length answer) (length work))
+      answer
       work r answer' work'
       → RatedFile sender (rate_records (records_from file 0) (length answer) (length work)) answer work r
       answer' work'

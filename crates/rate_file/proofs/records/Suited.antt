@@ -12,7 +12,8 @@ use borrow.Author.Tests.{ltb-false}
 use Rattle.meaning.specs.Field.{Field}
 use Rattle.meaning.specs.Result.{refused}
 use Rattle.meaning.specs.FieldNames.{in_field}
-use Rattle.meaning.specs.Route.{RouteRecord, Mode, period_mode, set_mode, free_mode, look_up, mode_of, byte_of}
+use Rattle.meaning.specs.Route.{RouteRecord, Mode, period_mode, set_mode, free_mode, look_up, mode_of}
+use Rattle.meaning.specs.Route.{byte_of}
 use Rattle.meaning.specs.Route.{bodies, mode_unsuited}
 use Rattle.meaning.specs.File.{terms_of, rate_mode, field_in, rate_records}
 use Rattle.route.specs.framing.Framing.{records_from}

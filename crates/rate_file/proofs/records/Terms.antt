@@ -46,11 +46,13 @@ module _ (F : Field) (ts : List ℕ) where
           terms-beyond F (cut_terms ts) (rw length-take (omega arith)) ∙ sym (terms-beyond F ts h)
       go (no h) = ap (λ (l : List ℕ). first_of (terms_table F l)) (take_all 4097 ts (omega arith))
 
-  pub cut-accepted : {v : Verdict} → number_in v ≡ first_of (terms_table F (cut_terms ts)) → v ≡ Verdict.Accepted
+  pub cut-accepted : {v : Verdict} → number_in v ≡ first_of (terms_table F (cut_terms ts)) → v ≡
+      Verdict.Accepted
       → cut_terms ts ≡ ts
   unfolding terms_table
   cut-accepted e q =
-      let n = count-accepted (length ts) (verdict_passes (terms_table F ts) (e ∙ cut-terms) q).count_in_range in
+      let n = count-accepted (length ts) (verdict_passes (terms_table F ts) (e ∙ cut-terms)
+      q).count_in_range in
       take_all 4097 ts (omega arith)
 
 -- the terms as they were gathered in 4,097 bytes

@@ -16,9 +16,11 @@ shortest_recurrence-l-requires c =
     let decided : let b = c.args in
     number_in c.lent_verdict.result
     ≡ first_of
-    (free_table (field_of b.field) b.terms.now (length b.answer.now) (length b.work.now)) = checked_verdict _ _ _ _ c.lent_verdict.result c.requires.terms_value c.lent_verdict.ensures in
+    (free_table (field_of b.field) b.terms.now (length b.answer.now) (length b.work.now)) =
+    checked_verdict _ _ _ _ c.lent_verdict.result c.requires.terms_value c.lent_verdict.ensures in
     let accepted : let b = c.args in
-    FreeAccepted (field_of b.field) b.terms.now (length b.answer.now) (length b.work.now) = verdict_accepted _ _ _ _ decided c.in-Accepted.is in
+    FreeAccepted (field_of b.field) b.terms.now (length b.answer.now) (length b.work.now) =
+    verdict_accepted _ _ _ _ decided c.in-Accepted.is in
     let h = accepted in
     record {
       well_formed = c.requires.well_formed;
@@ -30,7 +32,8 @@ returns-in-Refused c =
     let decided : let b = c.args in
     number_in c.lent_verdict.result
     ≡ first_of
-    (free_table (field_of b.field) b.terms.now (length b.answer.now) (length b.work.now)) = checked_verdict _ _ _ _ c.lent_verdict.result c.requires.terms_value c.lent_verdict.ensures in
+    (free_table (field_of b.field) b.terms.now (length b.answer.now) (length b.work.now)) =
+    checked_verdict _ _ _ _ c.lent_verdict.result c.requires.terms_value c.lent_verdict.ensures in
     rating_refused_lem _ _ _ _ decided c.in-Refused.is
 
 pub returns-in-Accepted : goal.returns-in-Accepted
@@ -38,7 +41,8 @@ returns-in-Accepted c =
     let decided : let b = c.args in
     number_in c.lent_verdict.result
     ≡ first_of
-    (free_table (field_of b.field) b.terms.now (length b.answer.now) (length b.work.now)) = checked_verdict _ _ _ _ c.lent_verdict.result c.requires.terms_value c.lent_verdict.ensures in
+    (free_table (field_of b.field) b.terms.now (length b.answer.now) (length b.work.now)) =
+    checked_verdict _ _ _ _ c.lent_verdict.result c.requires.terms_value c.lent_verdict.ensures in
     rating_answered (field-is_field c.requires.well_formed)
     (verdict_open _ _ _ _ decided c.in-Accepted.is)
     c.shortest_recurrence-l.ensures c.figures.ensures

@@ -18,7 +18,8 @@ rated-requires c =
     let q = c.in-Accepted.is in record {
       well_formed = c.requires.well_formed;
       in_bounds = (period-lent _ _ _ _ _ c.requires.checked c.period_verdict.ensures q).0;
-      answerable = period_answerable _ _ _ _ _ c.requires.checked c.period_verdict.ensures q (field-is_field c.requires.well_formed) c.period_power-found.ensures;
+      answerable = period_answerable _ _ _ _ _ c.requires.checked c.period_verdict.ensures q
+          (field-is_field c.requires.well_formed) c.period_power-found.ensures;
     }
 
 pub returns-in-Refused : goal.returns-in-Refused

@@ -29,7 +29,8 @@ set_powers-requires c =
 
 pub slice_bounds-write_product-end : goal.slice_bounds-write_product-end
 slice_bounds-write_product-end c =
-    let eight : 8 ≡ length c.set_powers.new.powers = set-powers-eight _ _ _ _ _ _ c.requires.checked c.set_verdict.ensures c.in-Accepted.is
+    let eight : 8 ≡ length c.set_powers.new.powers =
+    set-powers-eight _ _ _ _ _ _ c.requires.checked c.set_verdict.ensures c.in-Accepted.is
     (field-is_field c.requires.well_formed) c.set_powers.ensures c.if-set_powers.true in
     eight
 
@@ -44,7 +45,8 @@ write_product-degree-requires c =
 
 pub slice_bounds-repeat_length-end : goal.slice_bounds-repeat_length-end
 slice_bounds-repeat_length-end c =
-    let eight : 8 ≡ length c.set_powers.new.powers = set-powers-eight _ _ _ _ _ _ c.requires.checked c.set_verdict.ensures c.in-Accepted.is
+    let eight : 8 ≡ length c.set_powers.new.powers =
+    set-powers-eight _ _ _ _ _ _ c.requires.checked c.set_verdict.ensures c.in-Accepted.is
     (field-is_field c.requires.well_formed) c.set_powers.ensures c.if-set_powers.true in
     eight
 
@@ -52,8 +54,10 @@ pub repeat_length-repeat-requires : goal.repeat_length-repeat-requires
 repeat_length-repeat-requires c =
     let q = c.in-Accepted.is in record {
       well_formed = c.requires.well_formed;
-      powered_factors = set-powered c.requires.well_formed c.requires.checked (set-input _ _ _ _ _ _ c.requires.checked c.set_verdict.ensures q)
-          (set-powers-input _ _ _ _ _ _ c.requires.checked c.set_verdict.ensures q (field-is_field c.requires.well_formed) c.set_powers.ensures
+      powered_factors = set-powered c.requires.well_formed c.requires.checked
+          (set-input _ _ _ _ _ _ c.requires.checked c.set_verdict.ensures q)
+          (set-powers-input _ _ _ _ _ _ c.requires.checked c.set_verdict.ensures q
+          (field-is_field c.requires.well_formed) c.set_powers.ensures
           c.if-set_powers.true);
     }
 

@@ -40,7 +40,8 @@ slice_bounds-rate_checked-end c =
 pub rate_checked-requires : goal.rate_checked-requires
 rate_checked-requires c =
     let multiples : lists_of (take (length c.args.factors.now - 0) (drop 0 c.nine_parts-multiples.result))
-    ≡ map (monic_multiple (field_of c.args.field)) (lists_of c.args.factors.now) = let fs = c.args.factors.now in
+    ≡ map (monic_multiple (field_of c.args.field)) (lists_of c.args.factors.now) = let fs =
+    c.args.factors.now in
     parts_first _ _ c.nine_parts-multiples.result (length fs) c.nine_parts-multiples.ensures
     ∙ c.pack_multiples-lengths.ensures in
     record {
@@ -59,7 +60,8 @@ returns-in-Refused c =
 pub returns-in-Accepted : goal.returns-in-Accepted
 returns-in-Accepted c =
     let multiples : lists_of (take (length c.args.factors.now - 0) (drop 0 c.nine_parts-multiples.result))
-    ≡ map (monic_multiple (field_of c.args.field)) (lists_of c.args.factors.now) = let fs = c.args.factors.now in
+    ≡ map (monic_multiple (field_of c.args.field)) (lists_of c.args.factors.now) = let fs =
+    c.args.factors.now in
     parts_first _ _ c.nine_parts-multiples.result (length fs) c.nine_parts-multiples.ensures
     ∙ c.pack_multiples-lengths.ensures in
     given-set-rated (field-is_field c.requires) _ _ _ _ _ c.given_set_verdict.ensures

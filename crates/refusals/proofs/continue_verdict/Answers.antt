@@ -19,7 +19,8 @@ unfolding number_in number_of continue_table
 returns-then-term_out_of_field c =
     let table : List Check = continue_table (field_of c.args.field) c.args.polynomial.now c.args.start.now
     c.args.place c.args.size in
-    let passed-1 : Passed 1 table = first_skip _ _ c.place_out_of_range.ensures c.if-place_out_of_range.false in
+    let passed-1 : Passed 1 table =
+    first_skip _ _ c.place_out_of_range.ensures c.if-place_out_of_range.false in
     first_here _ _ c.term_out_of_field.ensures c.if-term_out_of_field.true
     ∙ sym passed-1
 
@@ -28,7 +29,8 @@ unfolding number_in number_of continue_table
 returns-then-continuation_degree_out_of_range c =
     let table : List Check = continue_table (field_of c.args.field) c.args.polynomial.now c.args.start.now
     c.args.place c.args.size in
-    let passed-1 : Passed 1 table = first_skip _ _ c.place_out_of_range.ensures c.if-place_out_of_range.false in
+    let passed-1 : Passed 1 table =
+    first_skip _ _ c.place_out_of_range.ensures c.if-place_out_of_range.false in
     let passed-2 : Passed 2 table = passed-1
     ∙ first_skip _ _ c.term_out_of_field.ensures c.if-term_out_of_field.false in
     first_here _ _ c.continuation_degree_out_of_range.ensures c.if-continuation_degree_out_of_range.true
@@ -39,7 +41,8 @@ unfolding number_in number_of continue_table
 returns-then-coefficient_out_of_range c =
     let table : List Check = continue_table (field_of c.args.field) c.args.polynomial.now c.args.start.now
     c.args.place c.args.size in
-    let passed-1 : Passed 1 table = first_skip _ _ c.place_out_of_range.ensures c.if-place_out_of_range.false in
+    let passed-1 : Passed 1 table =
+    first_skip _ _ c.place_out_of_range.ensures c.if-place_out_of_range.false in
     let passed-2 : Passed 2 table = passed-1
     ∙ first_skip _ _ c.term_out_of_field.ensures c.if-term_out_of_field.false in
     let passed-3 : Passed 3 table = passed-2
@@ -52,7 +55,8 @@ unfolding number_in number_of continue_table
 returns-then-start_unlike_degree c =
     let table : List Check = continue_table (field_of c.args.field) c.args.polynomial.now c.args.start.now
     c.args.place c.args.size in
-    let passed-1 : Passed 1 table = first_skip _ _ c.place_out_of_range.ensures c.if-place_out_of_range.false in
+    let passed-1 : Passed 1 table =
+    first_skip _ _ c.place_out_of_range.ensures c.if-place_out_of_range.false in
     let passed-2 : Passed 2 table = passed-1
     ∙ first_skip _ _ c.term_out_of_field.ensures c.if-term_out_of_field.false in
     let passed-3 : Passed 3 table = passed-2
@@ -67,7 +71,8 @@ unfolding number_in continue_table
 returns c =
     let table : List Check = continue_table (field_of c.args.field) c.args.polynomial.now c.args.start.now
     c.args.place c.args.size in
-    let passed-1 : Passed 1 table = first_skip _ _ c.place_out_of_range.ensures c.if-place_out_of_range.false in
+    let passed-1 : Passed 1 table =
+    first_skip _ _ c.place_out_of_range.ensures c.if-place_out_of_range.false in
     let passed-2 : Passed 2 table = passed-1
     ∙ first_skip _ _ c.term_out_of_field.ensures c.if-term_out_of_field.false in
     let passed-3 : Passed 3 table = passed-2

@@ -17,7 +17,8 @@ pub returns-then-term_out_of_field : goal.returns-then-term_out_of_field
 unfolding number_in number_of terms_table
 returns-then-term_out_of_field c =
     let table : List Check = terms_table (field_of c.args.field) c.args.terms.now in
-    let passed-1 : Passed 1 table = first_skip _ _ c.count_out_of_range.ensures c.if-count_out_of_range.false in
+    let passed-1 : Passed 1 table =
+    first_skip _ _ c.count_out_of_range.ensures c.if-count_out_of_range.false in
     first_here _ _ c.term_out_of_field.ensures c.if-term_out_of_field.true
     ∙ sym passed-1
 
@@ -25,7 +26,8 @@ pub returns : goal.returns
 unfolding number_in terms_table
 returns c =
     let table : List Check = terms_table (field_of c.args.field) c.args.terms.now in
-    let passed-1 : Passed 1 table = first_skip _ _ c.count_out_of_range.ensures c.if-count_out_of_range.false in
+    let passed-1 : Passed 1 table =
+    first_skip _ _ c.count_out_of_range.ensures c.if-count_out_of_range.false in
     let passed-2 : Passed 2 table = passed-1
     ∙ first_skip _ _ c.term_out_of_field.ensures c.if-term_out_of_field.false in
     first-nowhere ∙ sym passed-2

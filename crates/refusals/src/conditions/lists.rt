@@ -1,7 +1,8 @@
 // The conditions of the numbered list on one list of numbers: terms or coefficients.
 ghost use Rattle.std.specs.Prelude.{◌≡◌};
 ghost use Rattle.meaning.specs.Conditions.{term_out_of_field, factor_degree_out_of_range};
-ghost use Rattle.meaning.specs.Conditions.{continuation_degree_out_of_range, coefficient_out_of_range, not_monic};
+ghost use Rattle.meaning.specs.Conditions.{continuation_degree_out_of_range, coefficient_out_of_range};
+ghost use Rattle.meaning.specs.Conditions.{not_monic};
 ghost use Rattle.meaning.specs.Conditions.{is_reducible, fewer_terms_than, start_unlike_degree};
 ghost use Rattle.arith.specs.Represented.{field_of, WellFormed};
 ghost use Rattle.irreducible.specs.Accepted.{Accepted};

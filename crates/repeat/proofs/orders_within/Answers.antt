@@ -81,5 +81,6 @@ loop-i-preserved c =
 
 pub returns : goal.returns
 returns c =
-    common_end c.args.factors.now c.args.powers.now c.requires.powered_factors (field-is_field c.requires.well_formed)
+    common_end c.args.factors.now c.args.powers.now c.requires.powered_factors
+    (field-is_field c.requires.well_formed)
     c.args.limit c.loop-i.i c.loop-i.invariant.1 (omega arith)

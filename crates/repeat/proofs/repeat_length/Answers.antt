@@ -20,7 +20,8 @@ level_reaching-q-requires c =
 pub nonzero_div-q : goal.nonzero_div-q
 nonzero_div-q c =
     let reached : Reaching c.args.field.characteristic c.largest_power-largest.result
-    c.level_reaching-q.result = subst (λ p. Reaching p c.largest_power-largest.result c.level_reaching-q.result)
+    c.level_reaching-q.result =
+    subst (λ p. Reaching p c.largest_power-largest.result c.level_reaching-q.result)
     c.characteristic.ensures
     c.level_reaching-q.ensures in
     let x = reached in
@@ -29,7 +30,8 @@ nonzero_div-q c =
 pub orders_within-requires : goal.orders_within-requires
 orders_within-requires c =
     let reached : Reaching c.args.field.characteristic c.largest_power-largest.result
-    c.level_reaching-q.result = subst (λ p. Reaching p c.largest_power-largest.result c.level_reaching-q.result)
+    c.level_reaching-q.result =
+    subst (λ p. Reaching p c.largest_power-largest.result c.level_reaching-q.result)
     c.characteristic.ensures
     c.level_reaching-q.ensures in
     let x = reached in
@@ -42,7 +44,8 @@ orders_within-requires c =
 pub overflow_mul-result : goal.overflow_mul-result
 overflow_mul-result c =
     let reached : Reaching c.args.field.characteristic c.largest_power-largest.result
-    c.level_reaching-q.result = subst (λ p. Reaching p c.largest_power-largest.result c.level_reaching-q.result)
+    c.level_reaching-q.result =
+    subst (λ p. Reaching p c.largest_power-largest.result c.level_reaching-q.result)
     c.characteristic.ensures
     c.level_reaching-q.ensures in
     let x = reached in
@@ -52,7 +55,8 @@ overflow_mul-result c =
 pub returns : goal.returns
 returns c =
     let reached : Reaching c.args.field.characteristic c.largest_power-largest.result
-    c.level_reaching-q.result = subst (λ p. Reaching p c.largest_power-largest.result c.level_reaching-q.result)
+    c.level_reaching-q.result =
+    subst (λ p. Reaching p c.largest_power-largest.result c.level_reaching-q.result)
     c.characteristic.ensures
     c.level_reaching-q.ensures in
     let x = reached in

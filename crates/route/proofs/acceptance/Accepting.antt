@@ -48,10 +48,12 @@ module _ (file : List ℕ) where
     verdict_refused e = rw (records-walked, e)
 
     module _ (e : v ≡ answered tt) where
-      pub verdict_unsuited : mode_unsuited (records_from file 0) ≡ true → refused 5 ≡ verdict_of (records file)
+      pub verdict_unsuited : mode_unsuited (records_from file 0) ≡ true → refused 5 ≡ verdict_of
+          (records file)
       unfolding verdict_of map_result suited
       verdict_unsuited t = rw (records-walked, e, t, suited)
 
-      pub verdict_suited : mode_unsuited (records_from file 0) ≡ false → answered tt ≡ verdict_of (records file)
+      pub verdict_suited : mode_unsuited (records_from file 0) ≡ false → answered tt ≡ verdict_of
+          (records file)
       unfolding verdict_of map_result suited
       verdict_suited t = rw (records-walked, e, t, suited)

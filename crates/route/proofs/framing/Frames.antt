@@ -38,7 +38,8 @@ pub framed-cons : (kind : ℕ) (rest : List ℕ) → framed (kind ∷ rest) 0
     ≡ record { kind = kind; body = take (body_length kind) rest } ∷ framed (drop (body_length kind) rest) 0
 unfolding framed
 framed-cons kind rest =
-    ap (◌∷◌ (record { kind = kind; body = take (body_length kind) rest })) (framed_skip rest (body_length kind))
+    ap (◌∷◌ (record { kind = kind; body = take (body_length kind) rest }))
+    (framed_skip rest (body_length kind))
 
 -- inside the file there is a record, and then those from the next place on
 pub from_inside : (file : List ℕ) (at : ℕ) → at < length file
@@ -107,15 +108,18 @@ module _ {file : List ℕ} {at next : ℕ} (e : NextPlace file at next) (inside 
 
   -- from a record of the kind to the next one of it
   module _ {k r : ℕ} (s : FoundKind file k next r) (here : get_or file at 0 ≡ k) where
-    bodies-sought : bodies k (records_from file at) ≡ (record_at file at).body ∷ bodies k (records_from file r)
+    bodies-sought : bodies k (records_from file at) ≡ (record_at file at).body ∷ bodies k
+        (records_from file r)
     bodies-sought = bodies-cons k here ∙ ap (◌∷◌ (record_at file at).body) (sym s.skipped)
 
     pub get_or-sought : (left : ℕ) → 0 < left
-        → get_or (bodies k (records_from file r)) (left - 1) [] ≡ get_or (bodies k (records_from file at)) left []
+        → get_or (bodies k (records_from file r)) (left - 1) [] ≡ get_or (bodies k (records_from file at))
+        left []
     get_or-sought zero h = absurd (omega arith)
     get_or-sought (suc left) h = rw (bodies-sought, sub-one)
 
-    pub length-sought : length (bodies k (records_from file at)) ≡ suc (length (bodies k (records_from file r)))
+    pub length-sought : length (bodies k (records_from file at)) ≡ suc
+        (length (bodies k (records_from file r)))
     length-sought = ap length bodies-sought
 
 -- at the place of a record of the kind, or past the end

@@ -31,7 +31,8 @@ module _ {A : Type 0} (k : ℕ) (e : ℕ × A) (l : List (ℕ × A)) where
   unfolding look_up
   look_up_here h = rw (h, look_up)
 
-pub look_up-beyond : {A : Type 0} (b k : ℕ) (l : List (ℕ × A)) → T (keys_below b l) → b ≤ k → look_up k l ≡ none
+pub look_up-beyond : {A : Type 0} (b k : ℕ) (l : List (ℕ × A)) → T (keys_below b l) → b ≤ k → look_up k l ≡
+    none
 unfolding look_up
 look_up-beyond b k [] t h = refl
 look_up-beyond b k (e ∷ l) t h =

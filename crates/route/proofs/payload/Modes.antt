@@ -10,7 +10,8 @@ use native.Mathlib.Omega.{arith}
 use borrow.Author.Tests.{eq-eqb, ne_eqb, le-leb, lt-leb, le-ltb, lt-ltb}
 use lib.Dec.{leb, ltb, eqb}
 use lib.ListN.{length, get_or}
-use Rattle.meaning.specs.Route.{RouteRecord, Mode, period_mode, set_mode, free_mode, look_up, mode_of, byte_of}
+use Rattle.meaning.specs.Route.{RouteRecord, Mode, period_mode, set_mode, free_mode, look_up, mode_of}
+use Rattle.meaning.specs.Route.{byte_of}
 use Rattle.meaning.specs.Route.{bodies, factor_upper, suits, mode_unsuited}
 
 mode_unknown : (m : ℕ) → (m ≡ 1 → ⊥) → (m ≡ 2 → ⊥) → (m ≡ 3 → ⊥) → mode_of m ≡ none

@@ -66,7 +66,8 @@ after-told s k hs hk =
     let t = every-at [] row_right after_table table-right s (omega arith) in
     let l = eqb→eq (length row) 10 (both_left (eqb (length row) 10) (every (entry_right s) 0 row) t) in
     let r = both_right (eqb (length row) 10) (every (entry_right s) 0 row) t in
-    ap stage_told (eqb→eq (get_or row k 0) _ (every-at 0 (entry_right s) row r k (omega arith))) ∙ told-number _
+    ap stage_told (eqb→eq (get_or row k 0) _ (every-at 0 (entry_right s) row r k (omega arith))) ∙
+    told-number _
 
 -- past stage 5 all is over
 pub stage_late : (n : ℕ) → 5 ≤ n → stage_of n ≡ after_end
@@ -96,7 +97,8 @@ keys_below_lem in_terms = tt
 keys_below_lem after_end = tt
 
 pub after_unknown : (s k : ℕ) → 9 < k → stage_told 6 ≡ look_up k (admitted (stage_of s))
-after_unknown s k h = rw (look_up-beyond 10 k (admitted (stage_of s)) (keys_below_lem (stage_of s)) h) told_none
+after_unknown s k h = rw (look_up-beyond 10 k (admitted (stage_of s)) (keys_below_lem (stage_of s)) h)
+    told_none
 
 pub told-some : (r : ℕ) → (r ≡ 6 → ⊥) → stage_told r ≡ some (stage_of r)
 unfolding stage_told

@@ -1,6 +1,7 @@
 -- What the contracts of the walk cite.
 --
---   stage_of n         == the stage with the number n: 0 at the start, then 1, 2, 3, 4 and from 5 on after the
+--   stage_of n         == the stage with the number n: 0 at the start, then 1, 2, 3, 4 and from 5 on after
+--                         the
 --                        end
 --   stage_told n       == the stage with the number n, or none for 6: out of place
 --   verdict_of r       == whether a result is an answer, or the refusal

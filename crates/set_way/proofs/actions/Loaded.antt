@@ -36,7 +36,8 @@ module _ {F : Field} (I : IsField F) {fs : List Polynomial} {us ts w : List ℕ}
       let z : length (act_on_known F g ts) ≡ 0 = length-act_on_known F g ts ∙ omega arith in
       record {
         annihilated =
-            sym (annihilates_known-all F g ts ∙ ap all_zero (empty (act_on_known F g ts) z) ∙ T_true all_zero-nil);
+            sym (annihilates_known-all F g ts ∙ ap all_zero (empty (act_on_known F g ts) z) ∙ T_true
+            all_zero-nil);
         kept = record { beyond = refl; size = refl };
       }
     where

@@ -103,7 +103,8 @@ module _
               before = omega arith;
               values =
                   z.values
-                  ∙ ap (act_on_known (field_of field) (power (field_of field) (get_or fs j []) (get_or us j 0)))
+                  ∙ ap (act_on_known (field_of field) (power (field_of field) (get_or fs j [])
+                  (get_or us j 0)))
                   y.values
                   ∙ ap
                   (λ f. act_on_known (field_of field) (power (field_of field) f (get_or us j 0)) (front j))

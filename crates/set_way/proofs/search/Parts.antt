@@ -17,7 +17,8 @@ use mathlib.Core.List.{List, [], ◌∷◌, ◌++◌, append-nil}
 use mathlib.Core.Option.{Option, some}
 use native.Mathlib.Nat as ℕ
 use native.Mathlib.Omega.{arith}
-use lib.ListN.{length, get_or, take, drop, set, length-append, length-drop, take-append-drop, drop_of_length-le}
+use lib.ListN.{length, get_or, take, drop, set, length-append, length-drop, take-append-drop}
+use lib.ListN.{drop_of_length-le}
 use lib.ListN.{replicate, length-take, get_or-append}
 use lib.Seq.{take_all, take-nil, drop-nil, take_at, drop_at, get_or-append-add}
 use lib.Dec.{T, eqb, ltb}
@@ -151,15 +152,16 @@ factors-second {F} a b x =
     at : (i : ℕ) → get_or (a ++ b) (length a + i) [] ≡ get_or b i []
     at i = get_or-append-add a b i []
 
-module _ (a b : List Polynomial) (h : (i : ℕ) → i < length (a ++ b) → length (get_or (a ++ b) i []) ≤ 33) where
-  short-first : (i : ℕ) → i < length a → length (get_or a i []) ≤ 33
-  short-first i k =
-      subst (λ f. length f ≤ 33) (get_or-append a b [] i k) (h i (omega (arith, length-append a b)))
+module _ (a b : List Polynomial) (h : (i : ℕ) → i < length (a ++ b) → length (get_or (a ++ b) i []) ≤ 33)
+  where
+    short-first : (i : ℕ) → i < length a → length (get_or a i []) ≤ 33
+    short-first i k =
+        subst (λ f. length f ≤ 33) (get_or-append a b [] i k) (h i (omega (arith, length-append a b)))
 
-  short-second : (i : ℕ) → i < length b → length (get_or b i []) ≤ 33
-  short-second i k =
-      subst (λ f. length f ≤ 33) (get_or-append-add a b i [])
-      (h (length a + i) (omega (arith, length-append a b)))
+    short-second : (i : ℕ) → i < length b → length (get_or b i []) ≤ 33
+    short-second i k =
+        subst (λ f. length f ≤ 33) (get_or-append-add a b i [])
+        (h (length a + i) (omega (arith, length-append a b)))
 
 none-append :
     {A : Type 0} (t : A → Bool) (l m : List A)

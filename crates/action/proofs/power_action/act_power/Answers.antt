@@ -16,7 +16,8 @@ overflow_sub-d c = omega arith
 
 pub loop-rest-init : goal.loop-rest-init
 loop-rest-init c =
-    raising_start c.args.field c.requires.well_formed c.args.f.now c.args.u c.requires.halves c.requires.actable
+    raising_start c.args.field c.requires.well_formed c.args.f.now c.args.u c.requires.halves
+    c.requires.actable
 
 pub nonzero_rem-rest : goal.nonzero_rem-rest
 nonzero_rem-rest c = omega (arith, characteristic_least c.requires.well_formed)
@@ -40,7 +41,11 @@ overflow_mul-q c =
     raising_stride c.args.field c.requires.well_formed c.args.f.now c.args.u c.loop-rest.invariant
     c.loop-rest-test.true in
     let k : c.loop-rest.q ≤ 4096 = omega (arith, c.requires.actable.few) in
-    omega (arith, ℕ.mul-le-mul k (subst (λ p. p ≤ 251) (sym c.characteristic-p.ensures) (characteristic_most c.requires.well_formed)))
+    omega (
+      arith,
+      ℕ.mul-le-mul k (subst (λ p. p ≤ 251) (sym c.characteristic-p.ensures)
+          (characteristic_most c.requires.well_formed)),
+    )
 
 pub loop-rest-smaller-then-rest-p-eq0 : goal.loop-rest-smaller-then-rest-p-eq0
 loop-rest-smaller-then-rest-p-eq0 c =

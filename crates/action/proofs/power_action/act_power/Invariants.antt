@@ -7,7 +7,8 @@ use Rattle.action.proofs.power_action.Raising.{Raising}
 use Rattle.action.proofs.power_action.act_power.Given as goal
 
 abbrev pub invariant-loop-rest : goal.invariant-loop-rest
-invariant-loop-rest l = Raising l.field l.f l.u (l.n - l.u * degree l.f) (half l.initial.work l.h l.n) l.initial.work l.work l.at l.count l.rest l.l l.q
+invariant-loop-rest l = Raising l.field l.f l.u (l.n - l.u * degree l.f) (half l.initial.work l.h l.n)
+    l.initial.work l.work l.at l.count l.rest l.l l.q
 
 abbrev pub decreases-loop-rest : goal.decreases-loop-rest
 decreases-loop-rest l = l.rest

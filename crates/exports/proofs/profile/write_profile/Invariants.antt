@@ -5,7 +5,8 @@ use Rattle.exports.proofs.profile.Profiles.{Entered}
 use Rattle.exports.proofs.profile.write_profile.Given as goal
 
 abbrev pub invariant-loop-i : goal.invariant-loop-i
-invariant-loop-i l = (l.i ≤ l.count) × Entered l.initial.known l.terms l.initial.held l.initial.work l.initial.profile l.i l.known l.held l.work l.profile
+invariant-loop-i l = (l.i ≤ l.count) × Entered l.initial.known l.terms l.initial.held l.initial.work
+    l.initial.profile l.i l.known l.held l.work l.profile
 
 abbrev pub decreases-loop-i : goal.decreases-loop-i
 decreases-loop-i l = l.count - l.i

@@ -54,7 +54,8 @@ add_multiple-requires c =
 pub loop-j-preserved : goal.loop-j-preserved
 loop-j-preserved c = (
   refl,
-  summing_next c.requires.well_formed c.args.table.now c.args.h.now c.requires.table_len.0 c.requires.table_len.1
+  summing_next c.requires.well_formed c.args.table.now c.args.h.now c.requires.table_len.0
+      c.requires.table_len.1
       c.loop-j.invariant.1 (omega arith)
       c.add_multiple.ensures,
 )
@@ -64,5 +65,6 @@ shape_of-sum c = c.loop-j.invariant.1.size ∙ sym c.requires.table_len.2
 
 pub returns : goal.returns
 returns c =
-    summing_end c.requires.well_formed c.args.table.now c.args.h.now c.requires.table_len.0 c.requires.table_len.1
+    summing_end c.requires.well_formed c.args.table.now c.args.h.now c.requires.table_len.0
+    c.requires.table_len.1
     c.loop-j.invariant.1 (omega arith)

@@ -54,7 +54,9 @@ slice_bounds-fill_rows-end c =
     c.trimmed_length-n.ensures
 
 pub fill_rows-requires : goal.fill_rows-requires
-fill_rows-requires c = let size : c.size.result ≡ (field_of c.args.field).size = c.size.ensures ∙ sym (field-size c.requires.well_formed) in
+fill_rows-requires c =
+    let size : c.size.result ≡ (field_of c.args.field).size =
+    c.size.ensures ∙ sym (field-size c.requires.well_formed) in
     let d : length c.args.f.now - 1 ≡ degree c.args.f.now =
     omega (arith, monic-length (field_of c.args.field) c.args.f.now c.requires.modulus.monic) in record {
       well_formed = c.requires.well_formed;
@@ -73,7 +75,9 @@ fill_rows-requires c = let size : c.size.result ≡ (field_of c.args.field).size
     }
 
 pub returns : goal.returns
-returns c = let size : c.size.result ≡ (field_of c.args.field).size = c.size.ensures ∙ sym (field-size c.requires.well_formed) in
+returns c =
+    let size : c.size.result ≡ (field_of c.args.field).size =
+    c.size.ensures ∙ sym (field-size c.requires.well_formed) in
     let d : length c.args.f.now - 1 ≡ degree c.args.f.now =
     omega (arith, monic-length (field_of c.args.field) c.args.f.now c.requires.modulus.monic) in
     c.fill_rows.ensures.rows

@@ -32,4 +32,5 @@ returns c =
     subst (Summed c.args.field c.args.table.now c.args.h.now)
     (sym (c.copy.ensures
     ∙ front-copied c.add_rows.new.sum
-    (drop (length c.args.h.now - 0) (replicate 32 0)) c.args.h.now c.add_rows.ensures.size)) c.add_rows.ensures
+    (drop (length c.args.h.now - 0) (replicate 32 0)) c.args.h.now c.add_rows.ensures.size))
+    c.add_rows.ensures

@@ -17,4 +17,5 @@ frobenius-requires c = (
 
 pub returns : goal.returns
 returns c =
-    squares_in _ _ (terms-accepted _ _ (sym c.term_out_of_field.ensures ∙ c.if-term_out_of_field.false)) c.frobenius.ensures
+    squares_in _ _ (terms-accepted _ _ (sym c.term_out_of_field.ensures ∙ c.if-term_out_of_field.false))
+    c.frobenius.ensures

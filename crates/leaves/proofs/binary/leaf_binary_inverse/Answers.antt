@@ -11,13 +11,15 @@ use Rattle.leaves.proofs.binary.leaf_binary_inverse.Goals as goal
 pub inverse-requires : goal.inverse-requires
 unfolding FieldMade
 inverse-requires c =
-    let made : FieldNamed (FieldName.Binary c.args.degree c.args.low) c.in-Made.field = subst (FieldMade _) c.in-Made.is c.named.ensures in
+    let made : FieldNamed (FieldName.Binary c.args.degree c.args.low) c.in-Made.field =
+    subst (FieldMade _) c.in-Made.is c.named.ensures in
     made.well_formed
 
 pub returns-in-Made : goal.returns-in-Made
 unfolding FieldMade
 returns-in-Made c =
-    let made : FieldNamed (FieldName.Binary c.args.degree c.args.low) c.in-Made.field = subst (FieldMade _) c.in-Made.is c.named.ensures in
+    let made : FieldNamed (FieldName.Binary c.args.degree c.args.low) c.in-Made.field =
+    subst (FieldMade _) c.in-Made.is c.named.ensures in
     let a = c.args in
     answer-binary _ _ true (λ F. inverse F a.a) 0 refl made c.inverse.ensures
 

@@ -10,13 +10,15 @@ use Rattle.leaves.proofs.binary.leaf_binary_product.Goals as goal
 pub product-requires : goal.product-requires
 unfolding FieldMade
 product-requires c =
-    let made : FieldNamed (FieldName.Binary c.args.degree c.args.low) c.in-Made.field = subst (FieldMade _) c.in-Made.is c.named.ensures in
+    let made : FieldNamed (FieldName.Binary c.args.degree c.args.low) c.in-Made.field =
+    subst (FieldMade _) c.in-Made.is c.named.ensures in
     made.well_formed
 
 pub returns-in-Made : goal.returns-in-Made
 unfolding FieldMade
 returns-in-Made c =
-    let made : FieldNamed (FieldName.Binary c.args.degree c.args.low) c.in-Made.field = subst (FieldMade _) c.in-Made.is c.named.ensures in
+    let made : FieldNamed (FieldName.Binary c.args.degree c.args.low) c.in-Made.field =
+    subst (FieldMade _) c.in-Made.is c.named.ensures in
     let a = c.args in
     answer-binary _ _ true (λ F. F.mul a.a a.b) 0 refl made c.product.ensures
 

@@ -11,13 +11,15 @@ use Rattle.leaves.proofs.binary.leaf_binary_squares.Goals as goal
 pub frobenius_in-requires : goal.frobenius_in-requires
 unfolding FieldMade
 frobenius_in-requires c =
-    let made : FieldNamed (FieldName.Binary c.args.degree c.args.low) c.in-Made.field = subst (FieldMade _) c.in-Made.is c.named.ensures in
+    let made : FieldNamed (FieldName.Binary c.args.degree c.args.low) c.in-Made.field =
+    subst (FieldMade _) c.in-Made.is c.named.ensures in
     made.well_formed
 
 pub returns-in-Made : goal.returns-in-Made
 unfolding FieldMade
 returns-in-Made c =
-    let made : FieldNamed (FieldName.Binary c.args.degree c.args.low) c.in-Made.field = subst (FieldMade _) c.in-Made.is c.named.ensures in
+    let made : FieldNamed (FieldName.Binary c.args.degree c.args.low) c.in-Made.field =
+    subst (FieldMade _) c.in-Made.is c.named.ensures in
     let a = c.args in
     answer-binary _ _ true (λ F. squares F a.a.now) a.a.now refl made c.frobenius_in.ensures
 

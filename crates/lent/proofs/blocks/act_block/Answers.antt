@@ -5,8 +5,11 @@ use Rattle.lent.specs.blocks.Blocks.{BlockActed}
 use Rattle.lent.proofs.blocks.act_block.Goals as goal
 
 pub residues-requires : goal.residues-requires
-residues-requires c =
-    (c.requires.well_formed, odd-prime c.requires.well_formed (λ e. c.if-characteristic-eq2.false (c.characteristic.ensures ∙ e)))
+residues-requires c = (
+  c.requires.well_formed,
+  odd-prime c.requires.well_formed
+      (λ e. c.if-characteristic-eq2.false (c.characteristic.ensures ∙ e)),
+)
 
 pub returns : goal.returns
 returns c =

@@ -6,8 +6,11 @@ use Rattle.lent.specs.blocks.Blocks.{block_on_period}
 use Rattle.lent.proofs.blocks.block_is_zero.Goals as goal
 
 pub residues-requires : goal.residues-requires
-residues-requires c =
-    (c.requires.well_formed, odd-prime c.requires.well_formed (λ e. c.if-characteristic-eq2.false (c.characteristic.ensures ∙ e)))
+residues-requires c = (
+  c.requires.well_formed,
+  odd-prime c.requires.well_formed
+      (λ e. c.if-characteristic-eq2.false (c.characteristic.ensures ∙ e)),
+)
 
 pub returns : goal.returns
 returns c =

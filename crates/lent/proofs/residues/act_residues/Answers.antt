@@ -46,7 +46,8 @@ returns c =
     let a = c.args in
     let l = c.requires.block.small in
     block_acted c.requires.block (prime_field_of a.field) a.f.now a.q
-    (c.store.ensures.values ∙ ap (elements_of a.field) (zeros-front a.m 256 l c.sum_up.new.sums c.sum_up.auto.sums))
+    (c.store.ensures.values ∙ ap (elements_of a.field) (zeros-front a.m 256 l c.sum_up.new.sums
+    c.sum_up.auto.sums))
     c.sum_up.ensures
     (zeros-length a.m 256 l)
     c.store.ensures.zero

@@ -11,7 +11,8 @@ pub loop-known-init : goal.loop-known-init
 loop-known-init c =
     let a = c.args in (
       omega arith,
-      hold_start a.terms.now a.f.now a.g.now c.requires.terms_bound.1 c.requires.g_len.0 c.requires.g_len.1 a.a,
+      hold_start a.terms.now a.f.now a.g.now c.requires.terms_bound.1 c.requires.g_len.0 c.requires.g_len.1
+          a.a,
     )
 
 pub step-known-requires : goal.step-known-requires

@@ -19,12 +19,22 @@ overflow_sub-ready c =
     omega (arith, ap (λ r. r.seen) c.align-ready.ensures.numbers, c.align-ready.ensures.most)
 
 pub add_moved-requires : goal.add_moved-requires
-add_moved-requires c =
-    (c.requires.words.0, c.align-ready.ensures.words, c.requires.from, omega (arith, ap (λ r. r.seen) c.align-ready.ensures.numbers, c.align-ready.ensures.most, c.align-ready.ensures.near))
+add_moved-requires c = (
+  c.requires.words.0,
+  c.align-ready.ensures.words,
+  c.requires.from,
+  omega (
+    arith,
+    ap (λ r. r.seen) c.align-ready.ensures.numbers,
+    c.align-ready.ensures.most,
+    c.align-ready.ensures.near,
+  ),
+)
 
 pub returns : goal.returns
 returns c =
     let r = c.args.known in
     let j = 4157 + r.degree + r.earlier - r.seen in
     let l = digit-below (get_or c.args.f.now (j / 64) 0) (j % 64) in
-    taken (sym c.bit_at.ensures ∙ one_bit _ (omega arith) c.if-bit_at-eq0.false) c.align-ready.ensures c.add_moved.ensures
+    taken (sym c.bit_at.ensures ∙ one_bit _ (omega arith) c.if-bit_at-eq0.false) c.align-ready.ensures
+    c.add_moved.ensures

@@ -8,8 +8,11 @@ use native.Mathlib.Omega.{arith}
 use Rattle.massey.proofs.binary.reduce.Goals as goal
 
 pub loop-known-init : goal.loop-known-init
-loop-known-init c =
-    (refl, words_turning_none c.args.terms.now c.requires.terms_bound.0 c.requires.terms_bound.1 c.requires.words_hold)
+loop-known-init c = (
+  refl,
+  words_turning_none c.args.terms.now c.requires.terms_bound.0 c.requires.terms_bound.1
+      c.requires.words_hold,
+)
 
 pub overflow_mul-l : goal.overflow_mul-l
 overflow_mul-l c = omega (arith, c.loop-known.invariant.0, words_turning_degree _ c.loop-known.invariant.1)
@@ -20,15 +23,24 @@ cancel-known-requires c =
 
 pub overflow_add-known : goal.overflow_add-known
 overflow_add-known c =
-    omega (arith, cancelled_numbers c.cancel-known.ensures, c.loop-known.invariant.0, words_turning_degree _ c.loop-known.invariant.1)
+    omega (
+      arith,
+      cancelled_numbers c.cancel-known.ensures,
+      c.loop-known.invariant.0,
+      words_turning_degree _
+          c.loop-known.invariant.1,
+    )
 
 pub loop-known-smaller : goal.loop-known-smaller
 loop-known-smaller c =
     omega (arith, cancelled_numbers c.cancel-known.ensures, c.loop-known.invariant.0)
 
 pub loop-known-preserved : goal.loop-known-preserved
-loop-known-preserved c =
-    ((cancelled_numbers c.cancel-known.ensures).1 ∙ c.loop-known.invariant.0, words_turning_cancelled _ c.loop-known.invariant.1 (omega (arith, c.loop-known.invariant.0)) c.cancel-known.ensures)
+loop-known-preserved c = (
+  (cancelled_numbers c.cancel-known.ensures).1 ∙ c.loop-known.invariant.0,
+  words_turning_cancelled _
+      c.loop-known.invariant.1 (omega (arith, c.loop-known.invariant.0)) c.cancel-known.ensures,
+)
 
 pub shape_of-f : goal.shape_of-f
 shape_of-f c =
@@ -40,4 +52,5 @@ shape_of-g c =
 
 pub returns : goal.returns
 returns c =
-    words_turning_end _ _ c.loop-known.invariant.0 c.loop-known.invariant.1 (omega (arith, c.loop-known.invariant.0))
+    words_turning_end _ _ c.loop-known.invariant.0 c.loop-known.invariant.1
+    (omega (arith, c.loop-known.invariant.0))

@@ -35,19 +35,26 @@ reduce-requires c =
     }
 
 pub overflow_sub-l : goal.overflow_sub-l
-overflow_sub-l c = let degree-bound : c.after_all-known.result.degree ≤ 4096 = hold_degree c.requires.0.terms c.after_all-known.ensures.0 c.after_all-known.ensures.1 in
+overflow_sub-l c =
+    let degree-bound : c.after_all-known.result.degree ≤ 4096 =
+    hold_degree c.requires.0.terms c.after_all-known.ensures.0 c.after_all-known.ensures.1 in
     omega (arith, degree-bound)
 
 pub overflow_add-l : goal.overflow_add-l
-overflow_add-l c = let degree-bound : c.after_all-known.result.degree ≤ 4096 = hold_degree c.requires.0.terms c.after_all-known.ensures.0 c.after_all-known.ensures.1 in
+overflow_add-l c =
+    let degree-bound : c.after_all-known.result.degree ≤ 4096 =
+    hold_degree c.requires.0.terms c.after_all-known.ensures.0 c.after_all-known.ensures.1 in
     omega (arith, degree-bound)
 
 pub unpack-requires : goal.unpack-requires
-unpack-requires c = let degree-bound : c.after_all-known.result.degree ≤ 4096 = hold_degree c.requires.0.terms c.after_all-known.ensures.0 c.after_all-known.ensures.1 in
+unpack-requires c =
+    let degree-bound : c.after_all-known.result.degree ≤ 4096 =
+    hold_degree c.requires.0.terms c.after_all-known.ensures.0 c.after_all-known.ensures.1 in
     let l = degree-bound in
     (omega arith, omega arith, omega (arith, c.requires.1))
 
 pub returns : goal.returns
 returns c =
-    reduced-shortest c.args.terms.now c.requires.0.terms c.after_all-known.ensures.0 c.after_all-known.ensures.1 c.reduce.ensures
+    reduced-shortest c.args.terms.now c.requires.0.terms c.after_all-known.ensures.0
+    c.after_all-known.ensures.1 c.reduce.ensures
     c.unpack.ensures c.clear.ensures

@@ -17,8 +17,13 @@ returns-then-n-m c ts h =
 pub align-ready-requires : goal.align-ready-requires
 align-ready-requires c =
     let e = ap (λ r. r.seen) c.reached-at.ensures in
-    let d = ap (λ r. r.aligned) c.reached-at.ensures in
-    (c.requires.room.1, omega arith, omega (arith, c.next_one-n.ensures.low), omega (arith, c.next_one-n.ensures.high))
+    let d = ap (λ r. r.aligned) c.reached-at.ensures in (
+      c.requires.room.1,
+      omega arith,
+      omega (arith, c.next_one-n.ensures.low),
+      omega
+          (arith, c.next_one-n.ensures.high),
+    )
 
 pub correct-requires : goal.correct-requires
 correct-requires c =
@@ -40,7 +45,8 @@ returns c ts h =
     let p = c.requires.seen_lt_m.1 in
     let e = ap (λ r. r.seen) c.align-ready.ensures.numbers ∙ ap (λ r. r.seen) c.reached-at.ensures in
     let s =
-    c.correct.ensures ts (hold_aligned ts c.align-ready.ensures (hold_reached h p c.next_one-n.ensures c.reached-at.ensures))
+    c.correct.ensures ts (hold_aligned ts c.align-ready.ensures
+    (hold_reached h p c.next_one-n.ensures c.reached-at.ensures))
     (misfit_aligned ts c.align-ready.ensures (hold_misfit h p c.next_one-n.ensures l c.reached-at.ensures)) in
     record {
       more = omega (arith, s.seen, c.next_one-n.ensures.low);

@@ -8,7 +8,8 @@ use Rattle.poly.proofs.division.Dividing.{Dividing}
 use Rattle.poly.proofs.division.divide_by.Given as goal
 
 abbrev pub invariant-loop-i : goal.invariant-loop-i
-invariant-loop-i l = Dividing (field_of l.field) (inverse (field_of l.field) (get_or l.g (degree l.g) 0)) l.g l.initial.f l.f l.i
+invariant-loop-i l = Dividing (field_of l.field) (inverse (field_of l.field) (get_or l.g (degree l.g) 0))
+    l.g l.initial.f l.f l.i
 
 abbrev pub decreases-loop-i : goal.decreases-loop-i
 decreases-loop-i l = l.i

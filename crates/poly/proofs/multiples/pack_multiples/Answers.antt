@@ -20,23 +20,32 @@ pub loop-i-init : goal.loop-i-init
 loop-i-init c = packing_start _ _ refl
 
 pub overflow_add-at : goal.overflow_add-at
-overflow_add-at c = let within : c.loop-i.i < length (lists_of c.args.factors.now) = omega (arith, lists_length c.args.factors.now, c.loop-i-test.true) in
+overflow_add-at c =
+    let within : c.loop-i.i < length (lists_of c.args.factors.now) =
+    omega (arith, lists_length c.args.factors.now, c.loop-i-test.true) in
     let fits : let fs = c.args.factors.now in
-    c.loop-i.at + length (get_or fs c.loop-i.i nowhere).now ≤ length c.loop-i.to = subst (λ f. c.loop-i.at + length f ≤ length c.loop-i.to) (lists_at c.args.factors.now c.loop-i.i)
+    c.loop-i.at + length (get_or fs c.loop-i.i nowhere).now ≤ length c.loop-i.to =
+    subst (λ f. c.loop-i.at + length f ≤ length c.loop-i.to) (lists_at c.args.factors.now c.loop-i.i)
     (multiple-room (field-is_field c.requires.well_formed) c.requires.packable (within) c.loop-i.invariant) in
     omega (arith, fits, c.loop-i.invariant.size)
 
 pub slice_bounds-monic_multiple-end : goal.slice_bounds-monic_multiple-end
-slice_bounds-monic_multiple-end c = let within : c.loop-i.i < length (lists_of c.args.factors.now) = omega (arith, lists_length c.args.factors.now, c.loop-i-test.true) in
+slice_bounds-monic_multiple-end c =
+    let within : c.loop-i.i < length (lists_of c.args.factors.now) =
+    omega (arith, lists_length c.args.factors.now, c.loop-i-test.true) in
     let fits : let fs = c.args.factors.now in
-    c.loop-i.at + length (get_or fs c.loop-i.i nowhere).now ≤ length c.loop-i.to = subst (λ f. c.loop-i.at + length f ≤ length c.loop-i.to) (lists_at c.args.factors.now c.loop-i.i)
+    c.loop-i.at + length (get_or fs c.loop-i.i nowhere).now ≤ length c.loop-i.to =
+    subst (λ f. c.loop-i.at + length f ≤ length c.loop-i.to) (lists_at c.args.factors.now c.loop-i.i)
     (multiple-room (field-is_field c.requires.well_formed) c.requires.packable (within) c.loop-i.invariant) in
     omega (arith, fits)
 
 pub monic_multiple-requires : goal.monic_multiple-requires
-monic_multiple-requires c = let within : c.loop-i.i < length (lists_of c.args.factors.now) = omega (arith, lists_length c.args.factors.now, c.loop-i-test.true) in
+monic_multiple-requires c =
+    let within : c.loop-i.i < length (lists_of c.args.factors.now) =
+    omega (arith, lists_length c.args.factors.now, c.loop-i-test.true) in
     let fits : let fs = c.args.factors.now in
-    c.loop-i.at + length (get_or fs c.loop-i.i nowhere).now ≤ length c.loop-i.to = subst (λ f. c.loop-i.at + length f ≤ length c.loop-i.to) (lists_at c.args.factors.now c.loop-i.i)
+    c.loop-i.at + length (get_or fs c.loop-i.i nowhere).now ≤ length c.loop-i.to =
+    subst (λ f. c.loop-i.at + length f ≤ length c.loop-i.to) (lists_at c.args.factors.now c.loop-i.i)
     (multiple-room (field-is_field c.requires.well_formed) c.requires.packable (within) c.loop-i.invariant) in
     let n = length (get_or c.args.factors.now c.loop-i.i nowhere).now in record {
       well_formed = c.requires.well_formed;
@@ -46,7 +55,9 @@ monic_multiple-requires c = let within : c.loop-i.i < length (lists_of c.args.fa
     }
 
 pub bounds-lengths-i : goal.bounds-lengths-i
-bounds-lengths-i c = let within : c.loop-i.i < length (lists_of c.args.factors.now) = omega (arith, lists_length c.args.factors.now, c.loop-i-test.true) in
+bounds-lengths-i c =
+    let within : c.loop-i.i < length (lists_of c.args.factors.now) =
+    omega (arith, lists_length c.args.factors.now, c.loop-i-test.true) in
     omega (
       arith,
       within,
@@ -55,14 +66,19 @@ bounds-lengths-i c = let within : c.loop-i.i < length (lists_of c.args.factors.n
     )
 
 pub overflow_add-at-in-loop-i : goal.overflow_add-at-in-loop-i
-overflow_add-at-in-loop-i c = let within : c.loop-i.i < length (lists_of c.args.factors.now) = omega (arith, lists_length c.args.factors.now, c.loop-i-test.true) in
+overflow_add-at-in-loop-i c =
+    let within : c.loop-i.i < length (lists_of c.args.factors.now) =
+    omega (arith, lists_length c.args.factors.now, c.loop-i-test.true) in
     let fits : let fs = c.args.factors.now in
-    c.loop-i.at + length (get_or fs c.loop-i.i nowhere).now ≤ length c.loop-i.to = subst (λ f. c.loop-i.at + length f ≤ length c.loop-i.to) (lists_at c.args.factors.now c.loop-i.i)
+    c.loop-i.at + length (get_or fs c.loop-i.i nowhere).now ≤ length c.loop-i.to =
+    subst (λ f. c.loop-i.at + length f ≤ length c.loop-i.to) (lists_at c.args.factors.now c.loop-i.i)
     (multiple-room (field-is_field c.requires.well_formed) c.requires.packable (within) c.loop-i.invariant) in
     omega (arith, fits, c.loop-i.invariant.size)
 
 pub loop-i-preserved : goal.loop-i-preserved
-loop-i-preserved c = let within : c.loop-i.i < length (lists_of c.args.factors.now) = omega (arith, lists_length c.args.factors.now, c.loop-i-test.true) in
+loop-i-preserved c =
+    let within : c.loop-i.i < length (lists_of c.args.factors.now) =
+    omega (arith, lists_length c.args.factors.now, c.loop-i-test.true) in
     multiple-packed (field-is_field c.requires.well_formed) c.requires.packable (within) c.loop-i.invariant
     (lists_at c.args.factors.now c.loop-i.i)
     c.monic_multiple.ensures

@@ -10,7 +10,8 @@ use Rattle.poly.proofs.parts.Packing.{Packing}
 use Rattle.poly.proofs.multiples.pack_multiples.Given as goal
 
 abbrev pub invariant-loop-i : goal.invariant-loop-i
-invariant-loop-i l = Packing (map (monic_multiple (field_of l.field)) (lists_of l.factors)) l.initial.to l.i l.at l.lengths l.to
+invariant-loop-i l = Packing (map (monic_multiple (field_of l.field)) (lists_of l.factors)) l.initial.to l.i
+    l.at l.lengths l.to
 
 abbrev pub decreases-loop-i : goal.decreases-loop-i
 decreases-loop-i l = length l.factors - l.i

@@ -25,20 +25,28 @@ overflow_mul-q c =
     next-below (field-is_field c.requires.well_formed) c.requires.padded c.loop-b.invariant (omega arith)
     c.smaller-back.ensures
     c.smaller-count.ensures in
-    omega (arith, n.order, c.loop-b.invariant.ahead (omega arith), c.loop-b.invariant.whole, c.requires.padded.small)
+    omega (
+      arith,
+      n.order,
+      c.loop-b.invariant.ahead (omega arith),
+      c.loop-b.invariant.whole,
+      c.requires.padded.small,
+    )
 
 pub convolve-requires : goal.convolve-requires
 convolve-requires c =
     record {
       well_formed = c.requires.well_formed;
-      below = next-below (field-is_field c.requires.well_formed) c.requires.padded c.loop-b.invariant (omega arith)
+      below = next-below (field-is_field c.requires.well_formed) c.requires.padded c.loop-b.invariant
+          (omega arith)
           c.smaller-back.ensures
           c.smaller-count.ensures;
     }
 
 pub loop-b-preserved : goal.loop-b-preserved
 loop-b-preserved c =
-    multiplying_next (field-is_field c.requires.well_formed) c.requires.padded c.loop-b.invariant (omega arith)
+    multiplying_next (field-is_field c.requires.well_formed) c.requires.padded c.loop-b.invariant
+    (omega arith)
     c.smaller-back.ensures
     c.smaller-count.ensures
     c.convolve.ensures

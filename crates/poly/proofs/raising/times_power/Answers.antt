@@ -21,11 +21,14 @@ pub nonzero_rem-rest : goal.nonzero_rem-rest
 nonzero_rem-rest c = omega (arith, characteristic_least c.requires.well_formed)
 
 pub times_level-n-requires : goal.times_level-n-requires
-times_level-n-requires c = let same : c.characteristic-p.result ≡ c.args.field.characteristic = c.characteristic-p.ensures in
+times_level-n-requires c =
+    let same : c.characteristic-p.result ≡ c.args.field.characteristic = c.characteristic-p.ensures in
     record {
       well_formed = c.requires.well_formed;
-      levelled = raised_levelled c.requires.well_formed c.requires.raising c.loop-rest.invariant (omega arith);
-      growing = raised_growing c.requires.well_formed c.requires.raising c.loop-rest.invariant (omega arith) (same);
+      levelled = raised_levelled c.requires.well_formed c.requires.raising c.loop-rest.invariant
+          (omega arith);
+      growing = raised_growing c.requires.well_formed c.requires.raising c.loop-rest.invariant (omega arith)
+          (same);
       t = raised-elements c.requires.well_formed c.requires.raising c.loop-rest.invariant;
     }
 
@@ -42,17 +45,20 @@ overflow_add-l c =
     omega (arith, exponent-fits c.requires.well_formed c.requires.raising c.loop-rest.invariant (omega arith))
 
 pub overflow_mul-q : goal.overflow_mul-q
-overflow_mul-q c = let same : c.characteristic-p.result ≡ c.args.field.characteristic = c.characteristic-p.ensures in
+overflow_mul-q c =
+    let same : c.characteristic-p.result ≡ c.args.field.characteristic = c.characteristic-p.ensures in
     omega
     (arith, place-fits c.requires.well_formed c.requires.raising c.loop-rest.invariant (omega arith) (same))
 
 pub loop-rest-smaller : goal.loop-rest-smaller
-loop-rest-smaller c = let same : c.characteristic-p.result ≡ c.args.field.characteristic = c.characteristic-p.ensures in
+loop-rest-smaller c =
+    let same : c.characteristic-p.result ≡ c.args.field.characteristic = c.characteristic-p.ensures in
     div-lt_self c.loop-rest-test.true
     (subst (λ p. 2 ≤ p) (sym (same)) (characteristic_least c.requires.well_formed))
 
 pub loop-rest-preserved : goal.loop-rest-preserved
-loop-rest-preserved c = let same : c.characteristic-p.result ≡ c.args.field.characteristic = c.characteristic-p.ensures in
+loop-rest-preserved c =
+    let same : c.characteristic-p.result ≡ c.args.field.characteristic = c.characteristic-p.ensures in
     raised-next c.requires.well_formed c.requires.raising c.loop-rest.invariant (omega arith) (same)
     c.times_level-n.ensures
 

@@ -14,7 +14,8 @@ pub times_spread-n-requires : goal.times_spread-n-requires
 times_spread-n-requires c =
     record {
       well_formed = c.requires.well_formed;
-      growing = repeat_growing (field-is_field c.requires.well_formed) c.requires.growing c.loop-k.invariant.0 c.loop-k.invariant.1
+      growing = repeat_growing (field-is_field c.requires.well_formed) c.requires.growing
+          c.loop-k.invariant.0 c.loop-k.invariant.1
           (omega arith);
     }
 
@@ -27,14 +28,17 @@ loop-k-smaller c = omega arith
 pub loop-k-preserved : goal.loop-k-preserved
 loop-k-preserved c = (
   omega arith,
-  repeat_more (field-is_field c.requires.well_formed) c.requires.growing c.loop-k.invariant.0 c.loop-k.invariant.1
+  repeat_more (field-is_field c.requires.well_formed) c.requires.growing c.loop-k.invariant.0
+      c.loop-k.invariant.1
       c.times_spread-n.ensures,
 )
 
 pub shape_of-answer : goal.shape_of-answer
 shape_of-answer c =
-    repeat_length_lem (field-is_field c.requires.well_formed) c.requires.growing c.loop-k.invariant.0 c.loop-k.invariant.1
+    repeat_length_lem (field-is_field c.requires.well_formed) c.requires.growing c.loop-k.invariant.0
+    c.loop-k.invariant.1
 
 pub returns : goal.returns
 returns c =
-    repeat_all (field-is_field c.requires.well_formed) c.requires.growing c.loop-k.invariant.0 c.loop-k.invariant.1 (omega arith)
+    repeat_all (field-is_field c.requires.well_formed) c.requires.growing c.loop-k.invariant.0
+    c.loop-k.invariant.1 (omega arith)

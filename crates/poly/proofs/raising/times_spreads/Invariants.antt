@@ -8,7 +8,8 @@ use Rattle.poly.specs.products.Product.{Multiplied}
 use Rattle.poly.proofs.raising.times_spreads.Given as goal
 
 abbrev pub invariant-loop-k : goal.invariant-loop-k
-invariant-loop-k l = (l.k ≤ l.count) × Multiplied (field_of l.field) (power (field_of l.field) (spread l.q l.f) l.k) l.initial.answer l.n-2 l.answer l.n
+invariant-loop-k l = (l.k ≤ l.count) × Multiplied (field_of l.field)
+    (power (field_of l.field) (spread l.q l.f) l.k) l.initial.answer l.n-2 l.answer l.n
 
 abbrev pub decreases-loop-k : goal.decreases-loop-k
 decreases-loop-k l = l.count - l.k

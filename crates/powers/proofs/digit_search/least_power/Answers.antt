@@ -64,9 +64,6 @@ returns-then-l-eq0 c =
     ]) in
     record { power = going_end c.requires.well_formed x c.if-l-eq0.true; kept = x.kept }
 
-pub nonzero_div-q : goal.nonzero_div-q
-nonzero_div-q c = omega (arith, characteristic_least c.requires.well_formed)
-
 pub loop-i-init : goal.loop-i-init
 loop-i-init c =
     record {
@@ -74,9 +71,6 @@ loop-i-init c =
       halves = c.levels.invariant.halves;
       kept = kept_same c.levels.work;
     }
-
-pub overflow_sub-p : goal.overflow_sub-p
-overflow_sub-p c = omega (arith, characteristic_least c.requires.well_formed)
 
 pub act_at_level-requires-clause-levelled : goal.act_at_level-requires-clause-levelled
 act_at_level-requires-clause-levelled c =
@@ -87,8 +81,15 @@ act_at_level-requires-clause-levelled c =
       nonempty = s.nonempty;
       short = s.short;
       is_level = level_below c.requires.well_formed c.characteristic-p.ensures c.if-l-eq0.false i.is_level;
-      near = near_below c.requires.well_formed c.characteristic-p.ensures c.levels.q c.levels.power i.bound s.near;
+      near = near_below c.requires.well_formed c.characteristic-p.ensures c.levels.q c.levels.power i.bound
+          s.near;
     }
+
+pub nonzero_div-q : goal.nonzero_div-q
+nonzero_div-q c = omega (arith, characteristic_least c.requires.well_formed)
+
+pub overflow_sub-p : goal.overflow_sub-p
+overflow_sub-p c = omega (arith, characteristic_least c.requires.well_formed)
 
 -- the product of a level below and a degree
 fits : {q d : ℕ} → q ≤ 4096 → d ≤ 4096 → q * d ≤ 4096 * 4096
@@ -149,14 +150,21 @@ overflow_mul-power c =
       | else-i-p+then-act_at_level w ↦ omega (arith, w.digit-is, c.loop-i.invariant.tried.low)
     ] in
     record {
-      fits = omega (arith, ℕ.mul-le-mul d n, c.characteristic-p.ensures, characteristic_most c.requires.well_formed);
+      fits = omega (
+        arith,
+        ℕ.mul-le-mul d n,
+        c.characteristic-p.ensures,
+        characteristic_most
+            c.requires.well_formed,
+      );
     }
 
 pub overflow_add-power : goal.overflow_add-power
 overflow_add-power c =
     let s = c.requires.searchable in
     let i = c.levels.invariant in
-    let n = near_below c.requires.well_formed c.characteristic-p.ensures c.levels.q c.levels.power i.bound s.near in
+    let n = near_below c.requires.well_formed c.characteristic-p.ensures c.levels.q c.levels.power i.bound
+    s.near in
     let d : c.if-i-p.digit ≤ c.characteristic-p.result - 1 =
     elim c.if-i-p.branch [
       | then-i-p w ↦ omega (arith, w.digit-is, w.if-i-p.true)

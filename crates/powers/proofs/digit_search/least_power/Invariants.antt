@@ -12,7 +12,8 @@ use Rattle.powers.proofs.digit_search.least_power.Given as goal
 abbrev pub invariant-loop-i : goal.invariant-loop-i
 invariant-loop-i l =
     record {
-      tried : Trying (step_of l.field l.f) (l.p - 1) l.q (half l.initial.work l.initial.at l.initial.count) l.i
+      tried : Trying (step_of l.field l.f) (l.p - 1) l.q (half l.initial.work l.initial.at l.initial.count)
+          l.i
           (half l.work l.at l.count);
       halves : Halves l.work l.at l.count;
       kept : Kept l.initial.work l.work;
@@ -23,7 +24,8 @@ decreases-loop-i l = l.p - 1 - l.i
 
 abbrev pub invariant-levels : goal.invariant-levels
 invariant-levels l =
-    Seeking l.field l.f l.initial.l l.initial.q (half l.initial.work l.initial.at l.initial.count) l.initial.work
+    Seeking l.field l.f l.initial.l l.initial.q (half l.initial.work l.initial.at l.initial.count)
+    l.initial.work
     l.work l.at l.count l.l l.q l.power
 
 abbrev pub decreases-levels : goal.decreases-levels

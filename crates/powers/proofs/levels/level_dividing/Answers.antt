@@ -22,7 +22,12 @@ overflow_mul-power c =
 
 pub overflow_add-exponent : goal.overflow_add-exponent
 overflow_add-exponent c =
-    omega (arith, splitting_exponent c.requires.0 c.loop-rest.invariant, splitting_low c.requires.0 c.loop-rest.invariant)
+    omega (
+      arith,
+      splitting_exponent c.requires.0 c.loop-rest.invariant,
+      splitting_low c.requires.0
+          c.loop-rest.invariant,
+    )
 
 pub loop-rest-smaller : goal.loop-rest-smaller
 loop-rest-smaller c = splitting_falls c.requires.0 c.loop-rest.invariant

@@ -27,24 +27,34 @@ loop-i-init c = (
 )
 
 pub offset_bounds-powers-i : goal.offset_bounds-powers-i
-offset_bounds-powers-i c = let factor-index : c.loop-i.i < length (lists_of c.args.factors.now) = rw lists_length c.loop-i-test.true in
-    let power-index : c.loop-i.i < length c.args.powers.now = omega (arith, factor-index, c.requires.product_input.enough) in
+offset_bounds-powers-i c =
+    let factor-index : c.loop-i.i < length (lists_of c.args.factors.now) =
+    rw lists_length c.loop-i-test.true in
+    let power-index : c.loop-i.i < length c.args.powers.now =
+    omega (arith, factor-index, c.requires.product_input.enough) in
     omega (arith, power-index)
 
 pub bounds-powers-i : goal.bounds-powers-i
-bounds-powers-i c = let factor-index : c.loop-i.i < length (lists_of c.args.factors.now) = rw lists_length c.loop-i-test.true in
-    let power-index : c.loop-i.i < length c.args.powers.now = omega (arith, factor-index, c.requires.product_input.enough) in
+bounds-powers-i c =
+    let factor-index : c.loop-i.i < length (lists_of c.args.factors.now) =
+    rw lists_length c.loop-i-test.true in
+    let power-index : c.loop-i.i < length c.args.powers.now =
+    omega (arith, factor-index, c.requires.product_input.enough) in
     power-index
 
 pub times_power-n-requires : goal.times_power-n-requires
-times_power-n-requires c = let factor-index : c.loop-i.i < length (lists_of c.args.factors.now) = rw lists_length c.loop-i-test.true in
+times_power-n-requires c =
+    let factor-index : c.loop-i.i < length (lists_of c.args.factors.now) =
+    rw lists_length c.loop-i-test.true in
     record {
       well_formed = c.requires.well_formed;
       raising = subst
           (λ f.
-          Raising (field_of c.args.field) f (get_or c.args.powers.now c.loop-i.i 0) c.loop-i.answer c.loop-i.n)
+          Raising (field_of c.args.field) f (get_or c.args.powers.now c.loop-i.i 0) c.loop-i.answer
+          c.loop-i.n)
           (lists_at c.args.factors.now c.loop-i.i)
-          (multiplying_raising (field-is_field c.requires.well_formed) c.requires.product_input c.loop-i.invariant.0 (factor-index)
+          (multiplying_raising (field-is_field c.requires.well_formed) c.requires.product_input
+          c.loop-i.invariant.0 (factor-index)
           (omega (arith, c.requires.in_bounds, length-set c.args.answer.now 0 1)));
     }
 
@@ -55,16 +65,19 @@ pub loop-i-smaller : goal.loop-i-smaller
 loop-i-smaller c = omega arith
 
 pub loop-i-preserved : goal.loop-i-preserved
-loop-i-preserved c = let factor-index : c.loop-i.i < length (lists_of c.args.factors.now) = rw lists_length c.loop-i-test.true in (
-  multiplying_more (field-is_field c.requires.well_formed) c.requires.product_input c.loop-i.invariant.0 (factor-index)
-      (subst
-      (λ f.
-      Multiplied (field_of c.args.field)
-      (power (field_of c.args.field) f (get_or c.args.powers.now c.loop-i.i 0))
-      c.loop-i.answer c.loop-i.n c.times_power-n.new.answer c.times_power-n.result)
-      (sym (lists_at c.args.factors.now c.loop-i.i)) c.times_power-n.ensures),
-  c.times_power-n.auto.answer ∙ c.loop-i.invariant.1,
-)
+loop-i-preserved c =
+    let factor-index : c.loop-i.i < length (lists_of c.args.factors.now) =
+    rw lists_length c.loop-i-test.true in (
+      multiplying_more (field-is_field c.requires.well_formed) c.requires.product_input c.loop-i.invariant.0
+          (factor-index)
+          (subst
+          (λ f.
+          Multiplied (field_of c.args.field)
+          (power (field_of c.args.field) f (get_or c.args.powers.now c.loop-i.i 0))
+          c.loop-i.answer c.loop-i.n c.times_power-n.new.answer c.times_power-n.result)
+          (sym (lists_at c.args.factors.now c.loop-i.i)) c.times_power-n.ensures),
+      c.times_power-n.auto.answer ∙ c.loop-i.invariant.1,
+    )
 
 pub shape_of-answer : goal.shape_of-answer
 shape_of-answer c =

@@ -10,7 +10,8 @@ use Rattle.powers.proofs.product.Products.{Multiplying}
 use Rattle.powers.proofs.product.write_product.Given as goal
 
 abbrev pub invariant-loop-i : goal.invariant-loop-i
-invariant-loop-i l = Multiplying (field_of l.field) (lists_of l.factors) l.powers l.initial.answer l.answer l.i l.n
+invariant-loop-i l = Multiplying (field_of l.field) (lists_of l.factors) l.powers l.initial.answer l.answer
+    l.i l.n
     × (length l.answer ≡ length l.initial.answer)
 
 abbrev pub decreases-loop-i : goal.decreases-loop-i

@@ -29,7 +29,12 @@ loop-i-preserved c =
     let ns = c.args.coefficients.now in (
       omega arith,
       c.put_number-next.auto.out ∙ length-set c.loop-i.out c.loop-i.next 32 ∙ c.loop-i.invariant.1,
-      omega (arith, c.put_number-next.ensures.place, byte_digits c.coefficient.result c.coefficient.ensures.upper_bound),
+      omega (
+        arith,
+        c.put_number-next.ensures.place,
+        byte_digits c.coefficient.result
+            c.coefficient.ensures.upper_bound,
+      ),
       put_led 32 ns c.loop-i.i (search rules) (search rules) c.loop-i.invariant.3
           (put_as (ap decimal c.coefficient.ensures.value) c.put_number-next.ensures),
     )

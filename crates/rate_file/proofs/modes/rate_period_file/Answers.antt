@@ -12,7 +12,8 @@ use Rattle.rate_file.proofs.modes.rate_period_file.Goals as goal
 
 pub rate_checked-rating-requires : goal.rate_checked-rating-requires
 rate_checked-rating-requires c =
-    let first-factor : c.part-f.result.now ≡ get_or (polynomials_in c.args.file.now) 0 [] = let g = polynomial-at c.args.file.now 0 _ c.body_of.ensures c.requires.checked_factor.some [] in
+    let first-factor : c.part-f.result.now ≡ get_or (polynomials_in c.args.file.now) 0 [] =
+    let g = polynomial-at c.args.file.now 0 _ c.body_of.ensures c.requires.checked_factor.some [] in
     front-factor c.lay_factor-n.ensures
     (omega (arith, ap length g, accepted-short c.requires.checked_factor.checked.accepted))
     c.part-f.ensures
@@ -24,7 +25,8 @@ rate_checked-rating-requires c =
 
 pub returns : goal.returns
 returns c =
-    let first-factor : c.part-f.result.now ≡ get_or (polynomials_in c.args.file.now) 0 [] = let g = polynomial-at c.args.file.now 0 _ c.body_of.ensures c.requires.checked_factor.some [] in
+    let first-factor : c.part-f.result.now ≡ get_or (polynomials_in c.args.file.now) 0 [] =
+    let g = polynomial-at c.args.file.now 0 _ c.body_of.ensures c.requires.checked_factor.some [] in
     front-factor c.lay_factor-n.ensures
     (omega (arith, ap length g, accepted-short c.requires.checked_factor.checked.accepted))
     c.part-f.ensures

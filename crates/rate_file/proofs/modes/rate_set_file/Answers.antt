@@ -37,7 +37,8 @@ pack_factors-lengths-requires c =
     let x = c.requires.checked_factors in (x.all, few x, fits x)
 
 pub gather_uppers-uppers-requires : goal.gather_uppers-uppers-requires
-gather_uppers-uppers-requires c = let x = c.requires.checked_factors in (x.all, few x)
+gather_uppers-uppers-requires c =
+    let x = c.requires.checked_factors in (x.all, few x)
 
 pub slice_bounds-rate_checked-end : goal.slice_bounds-rate_checked-end
 slice_bounds-rate_checked-end c = omega (arith, few c.requires.checked_factors)
@@ -48,7 +49,8 @@ slice_bounds-rate_checked-end-2 c = omega (arith, few c.requires.checked_factors
 pub rate_checked-rating-requires : goal.rate_checked-rating-requires
 rate_checked-rating-requires c =
     let polynomials : let a = c.args in
-    lists_of (take (a.count - 0) (drop 0 c.nine_parts-factors.result)) ≡ polynomials_in a.file.now = parts_first _ _ c.nine_parts-factors.result c.args.count c.nine_parts-factors.ensures
+    lists_of (take (a.count - 0) (drop 0 c.nine_parts-factors.result)) ≡ polynomials_in a.file.now =
+    parts_first _ _ c.nine_parts-factors.result c.args.count c.nine_parts-factors.ensures
     ∙ c.pack_factors-lengths.ensures in
     record {
       well_formed = c.requires.well_formed;
@@ -58,10 +60,12 @@ rate_checked-rating-requires c =
 pub returns : goal.returns
 returns c =
     let polynomials : let a = c.args in
-    lists_of (take (a.count - 0) (drop 0 c.nine_parts-factors.result)) ≡ polynomials_in a.file.now = parts_first _ _ c.nine_parts-factors.result c.args.count c.nine_parts-factors.ensures
+    lists_of (take (a.count - 0) (drop 0 c.nine_parts-factors.result)) ≡ polynomials_in a.file.now =
+    parts_first _ _ c.nine_parts-factors.result c.args.count c.nine_parts-factors.ensures
     ∙ c.pack_factors-lengths.ensures in
     let uppers-taken : let a = c.args in
     take (a.count - 0) (drop 0 c.gather_uppers-uppers.result)
-    ≡ map (λ f. f.upper) (factors_in a.file.now) = ap (λ (k : ℕ). take k c.gather_uppers-uppers.result) (sub-zero c.args.count)
+    ≡ map (λ f. f.upper) (factors_in a.file.now) =
+    ap (λ (k : ℕ). take k c.gather_uppers-uppers.result) (sub-zero c.args.count)
     ∙ c.gather_uppers-uppers.ensures in
     set-rated _ (rw (polynomials, uppers-taken) at c.rate_checked-rating.ensures) c.of_set.ensures

@@ -38,7 +38,8 @@ rate_period_file-requires c =
     let over : IsField (field_of c.args.field) = field-is_field c.requires.well_formed in
     record {
       well_formed = c.requires.well_formed;
-      checked_factor = one_checked over _ _ 0 0 c.requires.rateable _ _ c.byte_of-mode.ensures c.count_of-count.ensures
+      checked_factor = one_checked over _ _ 0 0 c.requires.rateable _ _ c.byte_of-mode.ensures
+          c.count_of-count.ensures
           c.written_factors_verdict.ensures
           c.in-Accepted.is
           c.if-mode-eq1.true;
@@ -47,12 +48,14 @@ rate_period_file-requires c =
 pub rate_set_file-requires : goal.rate_set_file-requires
 rate_set_file-requires c =
     let over : IsField (field_of c.args.field) = field-is_field c.requires.well_formed in
-    let mode-two : c.byte_of-mode.result ≡ 2 = not-others over _ _ 0 0 c.requires.rateable _ _ c.byte_of-mode.ensures c.count_of-count.ensures
+    let mode-two : c.byte_of-mode.result ≡ 2 =
+    not-others over _ _ 0 0 c.requires.rateable _ _ c.byte_of-mode.ensures c.count_of-count.ensures
     c.if-mode-eq3.false
     c.if-mode-eq1.false in
     record {
       well_formed = c.requires.well_formed;
-      checked_factors = all_checked over _ _ 0 0 c.requires.rateable _ _ c.byte_of-mode.ensures c.count_of-count.ensures
+      checked_factors = all_checked over _ _ 0 0 c.requires.rateable _ _ c.byte_of-mode.ensures
+          c.count_of-count.ensures
           c.written_factors_verdict.ensures
           c.in-Accepted.is
           mode-two;
@@ -88,7 +91,8 @@ returns-then-mode-eq1 c =
 pub returns-else-mode-eq1 : goal.returns-else-mode-eq1
 returns-else-mode-eq1 c =
     let over : IsField (field_of c.args.field) = field-is_field c.requires.well_formed in
-    let mode-two : c.byte_of-mode.result ≡ 2 = not-others over _ _ 0 0 c.requires.rateable _ _ c.byte_of-mode.ensures c.count_of-count.ensures
+    let mode-two : c.byte_of-mode.result ≡ 2 =
+    not-others over _ _ 0 0 c.requires.rateable _ _ c.byte_of-mode.ensures c.count_of-count.ensures
     c.if-mode-eq3.false
     c.if-mode-eq1.false in
     rated_as

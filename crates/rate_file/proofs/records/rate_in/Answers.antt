@@ -9,7 +9,8 @@ pub rate_accepted-requires : goal.rate_accepted-requires
 rate_accepted-requires c =
     record {
       well_formed = c.requires.well_formed;
-      rateable = rateable (field-is_field c.requires.well_formed) _ _ c.requires.accepted_records.0 c.requires.accepted_records.1 c.terms_verdict.ensures
+      rateable = rateable (field-is_field c.requires.well_formed) _ _ c.requires.accepted_records.0
+          c.requires.accepted_records.1 c.terms_verdict.ensures
           c.in-Accepted.is;
     }
 
@@ -17,7 +18,8 @@ pub returns-in-Refused : goal.returns-in-Refused
 returns-in-Refused c =
     let q = c.in-Refused.is in
     refused_rated
-    (records-terms (field-is_field c.requires.well_formed) _ _ c.requires.accepted_records.0 c.requires.accepted_records.1 c.terms_verdict.ensures
+    (records-terms (field-is_field c.requires.well_formed) _ _ c.requires.accepted_records.0
+    c.requires.accepted_records.1 c.terms_verdict.ensures
     _ _ q)
     (terms-number _ _ c.terms_verdict.ensures q)
     c.of_refusal.ensures

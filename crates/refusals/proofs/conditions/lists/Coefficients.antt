@@ -12,7 +12,8 @@ use borrow.Author.Tests.{le-ltb}
 use Rattle.meaning.specs.Search.{holds_for_all}
 use Rattle.meaning.specs.Field.{Field, are_elements}
 use Rattle.meaning.specs.Polynomial.{leading, is_monic}
-use Rattle.meaning.specs.Conditions.{term_out_of_field, factor_degree_out_of_range, coefficient_out_of_range, not_monic}
+use Rattle.meaning.specs.Conditions.{term_out_of_field, factor_degree_out_of_range, coefficient_out_of_range}
+use Rattle.meaning.specs.Conditions.{not_monic}
 
 pub empty-degree-passes : (F : Field) (f : List ℕ) → length f ≡ 0 → false ≡ factor_degree_out_of_range F f
 unfolding factor_degree_out_of_range

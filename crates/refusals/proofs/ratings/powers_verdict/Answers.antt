@@ -15,19 +15,22 @@ use Rattle.refusals.proofs.ratings.powers_verdict.Goals as goal
 
 pub returns-then-upper_powers_out_of_range : goal.returns-then-upper_powers_out_of_range
 unfolding number_in number_of powers_table
-returns-then-upper_powers_out_of_range c = first_here _ _ c.upper_powers_out_of_range.ensures c.if-upper_powers_out_of_range.true
+returns-then-upper_powers_out_of_range c =
+    first_here _ _ c.upper_powers_out_of_range.ensures c.if-upper_powers_out_of_range.true
 
 pub returns-then-fewer_terms_than : goal.returns-then-fewer_terms_than
 unfolding number_in number_of powers_table
 returns-then-fewer_terms_than c =
     let pairs : List (Polynomial × ℕ) = named (lists_of c.args.factors.now) c.args.uppers.now in
     let counted : c.fewer_terms_than.result
-    ≡ fewer_terms_than (total_degree pairs) c.args.terms.now = let passed = sym c.upper_powers_out_of_range.ensures ∙ c.if-upper_powers_out_of_range.false in
+    ≡ fewer_terms_than (total_degree pairs) c.args.terms.now = let passed =
+    sym c.upper_powers_out_of_range.ensures ∙ c.if-upper_powers_out_of_range.false in
     c.fewer_terms_than.ensures
     ∙ ap (λ (d : ℕ). fewer_terms_than d c.args.terms.now)
     (c.requires ∙ (total-known _ passed).1) in
     let table : List Check = powers_table pairs c.args.terms.now c.args.answer c.args.work in
-    let passed-1 : Passed 1 table = first_skip _ _ c.upper_powers_out_of_range.ensures c.if-upper_powers_out_of_range.false in
+    let passed-1 : Passed 1 table =
+    first_skip _ _ c.upper_powers_out_of_range.ensures c.if-upper_powers_out_of_range.false in
     first_here _ _ counted c.if-fewer_terms_than.true
     ∙ sym passed-1
 
@@ -36,9 +39,11 @@ unfolding powers_table
 returns c =
     let pairs : List (Polynomial × ℕ) = named (lists_of c.args.factors.now) c.args.uppers.now in
     let table : List Check = powers_table pairs c.args.terms.now c.args.answer c.args.work in
-    let passed-1 : Passed 1 table = first_skip _ _ c.upper_powers_out_of_range.ensures c.if-upper_powers_out_of_range.false in
+    let passed-1 : Passed 1 table =
+    first_skip _ _ c.upper_powers_out_of_range.ensures c.if-upper_powers_out_of_range.false in
     let counted : c.fewer_terms_than.result
-    ≡ fewer_terms_than (total_degree pairs) c.args.terms.now = let passed = sym c.upper_powers_out_of_range.ensures ∙ c.if-upper_powers_out_of_range.false in
+    ≡ fewer_terms_than (total_degree pairs) c.args.terms.now = let passed =
+    sym c.upper_powers_out_of_range.ensures ∙ c.if-upper_powers_out_of_range.false in
     c.fewer_terms_than.ensures
     ∙ ap (λ (d : ℕ). fewer_terms_than d c.args.terms.now)
     (c.requires ∙ (total-known _ passed).1) in

@@ -21,7 +21,8 @@ returns-then-file-at c =
 pub loop-left-preserved : goal.loop-left-preserved
 loop-left-preserved c =
     let h = c.if-file-at.false in (
-      get_or-sought c.next_place.ensures h c.seek-at-in-loop-left.ensures (c.loop-left.invariant.1 h) c.loop-left.left
+      get_or-sought c.next_place.ensures h c.seek-at-in-loop-left.ensures (c.loop-left.invariant.1 h)
+          c.loop-left.left
           (search rules)
           ∙ c.loop-left.invariant.0,
       c.seek-at-in-loop-left.ensures.found,
@@ -31,4 +32,5 @@ pub returns : goal.returns
 returns c =
     let a = c.args in
     let e : c.loop-left.left ≡ 0 = omega arith in
-    c.body_at.ensures ∙ body_here a.file.now a.kind c.loop-left.at c.loop-left.invariant.1 ∙ (rw e at c.loop-left.invariant.0)
+    c.body_at.ensures ∙ body_here a.file.now a.kind c.loop-left.at c.loop-left.invariant.1 ∙
+    (rw e at c.loop-left.invariant.0)

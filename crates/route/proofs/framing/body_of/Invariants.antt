@@ -10,7 +10,8 @@ use Rattle.route.specs.framing.Framing.{records_from}
 use Rattle.route.proofs.framing.body_of.Given as goal
 
 abbrev pub invariant-loop-left : goal.invariant-loop-left
-invariant-loop-left l = (get_or (bodies l.kind (records_from l.file l.at)) l.left [] ≡ get_or (bodies l.kind (records_from l.file 0)) l.i [])
+invariant-loop-left l = (get_or (bodies l.kind (records_from l.file l.at)) l.left [] ≡ get_or
+    (bodies l.kind (records_from l.file 0)) l.i [])
     × (l.at < length l.file → get_or l.file l.at 0 ≡ l.kind)
 
 abbrev pub decreases-loop-left : goal.decreases-loop-left

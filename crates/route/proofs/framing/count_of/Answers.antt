@@ -17,7 +17,11 @@ loop-at-smaller c = omega (arith, c.next_place.ensures.place, c.seek-at-in-loop-
 
 pub loop-at-preserved : goal.loop-at-preserved
 loop-at-preserved c = (
-  omega (arith, length-sought c.next_place.ensures (search rules) c.seek-at-in-loop-at.ensures (c.loop-at.invariant.1 (search rules))),
+  omega (
+    arith,
+    length-sought c.next_place.ensures (search rules) c.seek-at-in-loop-at.ensures
+        (c.loop-at.invariant.1 (search rules)),
+  ),
   c.seek-at-in-loop-at.ensures.found,
   omega (arith, c.next_place.ensures.place, c.seek-at-in-loop-at.ensures.onwards),
 )

@@ -9,7 +9,8 @@ use Rattle.route.specs.framing.Framing.{records_from}
 use Rattle.route.proofs.framing.count_of.Given as goal
 
 abbrev pub invariant-loop-at : goal.invariant-loop-at
-invariant-loop-at l = (l.count + length (bodies l.kind (records_from l.file l.at)) ≡ length (bodies l.kind (records_from l.file 0)))
+invariant-loop-at l = (l.count + length (bodies l.kind (records_from l.file l.at)) ≡ length
+    (bodies l.kind (records_from l.file 0)))
     × (l.at < length l.file → get_or l.file l.at 0 ≡ l.kind)
     × (l.count ≤ l.at)
 

@@ -17,7 +17,8 @@ returns-then-file-at c =
 
 pub loop-left-preserved : goal.loop-left-preserved
 loop-left-preserved c =
-    sym (drop-next c.next_place-at.ensures c.if-file-at.false c.loop-left.left (search rules)) ∙ c.loop-left.invariant
+    sym (drop-next c.next_place-at.ensures c.if-file-at.false c.loop-left.left (search rules)) ∙
+    c.loop-left.invariant
 
 pub returns : goal.returns
 returns c =

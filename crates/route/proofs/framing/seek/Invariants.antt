@@ -8,7 +8,8 @@ use Rattle.route.specs.framing.Framing.{records_from}
 use Rattle.route.proofs.framing.seek.Given as goal
 
 abbrev pub invariant-loop-here : goal.invariant-loop-here
-invariant-loop-here l = (bodies l.kind (records_from l.file l.here) ≡ bodies l.kind (records_from l.file l.at)) × (l.at ≤ l.here)
+invariant-loop-here l = (bodies l.kind (records_from l.file l.here) ≡ bodies l.kind
+    (records_from l.file l.at)) × (l.at ≤ l.here)
 
 abbrev pub decreases-loop-here : goal.decreases-loop-here
 decreases-loop-here l = length l.file - l.here

@@ -25,7 +25,8 @@ loop-at-smaller c = omega (arith, c.next_place-at.ensures.place)
 pub loop-at-preserved : goal.loop-at-preserved
 loop-at-preserved c = (
   omega (arith, count-split c.terms_at-found.ensures c.next_place-at.ensures),
-  (rw c.lay.ensures (sym (stores_split c.terms_at-found.ensures c.next_place-at.ensures c.loop-at.terms c.loop-at.count) ∙ c.loop-at.invariant.1)),
+  (rw c.lay.ensures (sym (stores_split c.terms_at-found.ensures c.next_place-at.ensures c.loop-at.terms
+      c.loop-at.count) ∙ c.loop-at.invariant.1)),
   terms-short c.terms_at-found.ensures c.next_place-at.ensures c.loop-at.count c.loop-at.invariant.2,
   c.lay.auto.to ∙ c.loop-at.invariant.3,
 )
@@ -36,4 +37,8 @@ shape_of-terms c = c.loop-at.invariant.3
 pub returns : goal.returns
 returns c =
     let e = terms_over c.args.file.now c.loop-at.at c.loop-at-test.false in
-    record { count = omega (arith, c.loop-at.invariant.0, ap length e); bytes = (rw e at c.loop-at.invariant.1) }
+    record {
+      count = omega (arith, c.loop-at.invariant.0, ap length e);
+      bytes =
+          (rw e at c.loop-at.invariant.1);
+    }

@@ -11,8 +11,10 @@ use Rattle.route.specs.framing.Framing.{records_from}
 use Rattle.route.proofs.payload.gather_terms.Given as goal
 
 abbrev pub invariant-loop-at : goal.invariant-loop-at
-invariant-loop-at l = (l.count + length (terms_of (records_from l.file l.at)) ≡ length (terms_of (records_from l.file 0)))
-    × (sets l.terms l.count (terms_of (records_from l.file l.at)) ≡ sets l.initial.terms 0 (terms_of (records_from l.file 0)))
+invariant-loop-at l = (l.count + length (terms_of (records_from l.file l.at)) ≡ length
+    (terms_of (records_from l.file 0)))
+    × (sets l.terms l.count (terms_of (records_from l.file l.at)) ≡ sets l.initial.terms 0
+    (terms_of (records_from l.file 0)))
     × (l.count ≤ l.at)
     × (length l.terms ≡ length l.initial.terms)
 

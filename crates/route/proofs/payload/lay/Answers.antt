@@ -17,7 +17,8 @@ shape_of-to-then-to-place c = c.loop-i.invariant.1
 pub returns-then-to-place : goal.returns-then-to-place
 returns-then-to-place c =
     let a = c.args in
-    sym (sets_out (drop c.loop-i.i a.from.now) c.loop-i.to c.loop-i.place c.if-to-place.true) ∙ c.loop-i.invariant.2
+    sym (sets_out (drop c.loop-i.i a.from.now) c.loop-i.to c.loop-i.place c.if-to-place.true) ∙
+    c.loop-i.invariant.2
 
 pub loop-i-preserved : goal.loop-i-preserved
 loop-i-preserved c =

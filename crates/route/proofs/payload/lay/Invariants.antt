@@ -8,7 +8,8 @@ use lib.Seq.{sets}
 use Rattle.route.proofs.payload.lay.Given as goal
 
 abbrev pub invariant-loop-i : goal.invariant-loop-i
-invariant-loop-i l = (l.i ≤ length l.from) × (length l.to ≡ length l.initial.to) × (sets l.to l.place (drop l.i l.from) ≡ sets l.initial.to l.at l.from)
+invariant-loop-i l = (l.i ≤ length l.from) × (length l.to ≡ length l.initial.to) ×
+    (sets l.to l.place (drop l.i l.from) ≡ sets l.initial.to l.at l.from)
 
 abbrev pub decreases-loop-i : goal.decreases-loop-i
 decreases-loop-i l = length l.from - l.i

@@ -18,8 +18,11 @@ loop-at-smaller c =
 
 pub loop-at-preserved : goal.loop-at-preserved
 loop-at-preserved c =
-    let e = c.in-Good.is in
-    ((turn-onwards c.step_from-found.ensures e).1, sym (turn-kept c.step_from-found.ensures e) ∙ c.loop-at.invariant.1)
+    let e = c.in-Good.is in (
+      (turn-onwards c.step_from-found.ensures e).1,
+      sym (turn-kept c.step_from-found.ensures e) ∙
+          c.loop-at.invariant.1,
+    )
 
 pub returns-in-Bad : goal.returns-in-Bad
 unfolding told_verdict

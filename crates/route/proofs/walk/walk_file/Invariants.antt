@@ -8,7 +8,8 @@ use Rattle.route.specs.walk.Walking.{stage_of, verdict_of}
 use Rattle.route.proofs.walk.walk_file.Given as goal
 
 abbrev pub invariant-loop-at : goal.invariant-loop-at
-invariant-loop-at l = (l.at ≤ length l.file) × (verdict_of (walk (drop l.at l.file) 0 (stage_of l.stage)) ≡ verdict_of (walk l.file 0 at_start))
+invariant-loop-at l = (l.at ≤ length l.file) × (verdict_of (walk (drop l.at l.file) 0 (stage_of l.stage)) ≡
+    verdict_of (walk l.file 0 at_start))
 
 abbrev pub decreases-loop-at : goal.decreases-loop-at
 decreases-loop-at l = length l.file - l.at

@@ -22,25 +22,31 @@ loop-j-init c =
 
 pub offset_bounds-uppers-j : goal.offset_bounds-uppers-j
 offset_bounds-uppers-j c =
-    let factor-index : c.loop-j.j < length (lists_of c.args.factors.now) = rw lists_length c.loop-j-test.true in
-    let upper-index : c.loop-j.j < length c.args.uppers.now = input_index c.requires.set_input c.loop-j.j factor-index in
+    let factor-index : c.loop-j.j < length (lists_of c.args.factors.now) =
+    rw lists_length c.loop-j-test.true in
+    let upper-index : c.loop-j.j < length c.args.uppers.now =
+    input_index c.requires.set_input c.loop-j.j factor-index in
     omega (arith, upper-index, c.well_formed)
 
 pub bounds-uppers-j : goal.bounds-uppers-j
 bounds-uppers-j c =
-    let factor-index : c.loop-j.j < length (lists_of c.args.factors.now) = rw lists_length c.loop-j-test.true in
-    let upper-index : c.loop-j.j < length c.args.uppers.now = input_index c.requires.set_input c.loop-j.j factor-index in
+    let factor-index : c.loop-j.j < length (lists_of c.args.factors.now) =
+    rw lists_length c.loop-j-test.true in
+    let upper-index : c.loop-j.j < length c.args.uppers.now =
+    input_index c.requires.set_input c.loop-j.j factor-index in
     upper-index
 
 pub act_power-left-requires : goal.act_power-left-requires
 act_power-left-requires c =
-    let factor-index : c.loop-j.j < length (lists_of c.args.factors.now) = rw lists_length c.loop-j-test.true in
+    let factor-index : c.loop-j.j < length (lists_of c.args.factors.now) =
+    rw lists_length c.loop-j-test.true in
     record {
       well_formed = c.requires.well_formed;
       halves = c.loop-j.invariant.halves;
       actable = subst
           (λ f.
-          Actable c.args.field c.loop-j.work c.loop-j.at c.loop-j.count f (get_or c.args.uppers.now c.loop-j.j 0))
+          Actable c.args.field c.loop-j.work c.loop-j.at c.loop-j.count f
+          (get_or c.args.uppers.now c.loop-j.j 0))
           (lists_at c.args.factors.now c.loop-j.j)
           (passing_actable c.requires.well_formed c.requires.set_input c.loop-j.invariant factor-index);
     }
@@ -53,7 +59,8 @@ loop-j-smaller c = omega arith
 
 pub loop-j-preserved : goal.loop-j-preserved
 loop-j-preserved c =
-    let factor-index : c.loop-j.j < length (lists_of c.args.factors.now) = rw lists_length c.loop-j-test.true in
+    let factor-index : c.loop-j.j < length (lists_of c.args.factors.now) =
+    rw lists_length c.loop-j-test.true in
     passing_more c.requires.well_formed c.requires.set_input c.loop-j.invariant factor-index
     (subst
     (λ f.

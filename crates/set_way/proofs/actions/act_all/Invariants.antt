@@ -7,7 +7,8 @@ use Rattle.set_way.proofs.actions.Passing.{Passing}
 use Rattle.set_way.proofs.actions.act_all.Given as goal
 
 abbrev pub invariant-loop-j : goal.invariant-loop-j
-invariant-loop-j l = Passing l.field (lists_of l.factors) l.uppers l.terms l.initial.work l.work l.at l.count l.j
+invariant-loop-j l = Passing l.field (lists_of l.factors) l.uppers l.terms l.initial.work l.work l.at
+    l.count l.j
 
 abbrev pub decreases-loop-j : goal.decreases-loop-j
 decreases-loop-j l = length l.factors - l.j

@@ -1,4 +1,5 @@
--- `search::settle` meets its contract: of no factor, of one, or of both halves of the factors. Assumes nothing.
+-- `search::settle` meets its contract: of no factor, of one, or of both halves of the factors. Assumes
+-- nothing.
 use native.Mathlib.Omega.{arith}
 use Prim.Native.Nat.{ℕ, ◌-◌, ◌/◌, ◌≤◌}
 use mathlib.Core.Path.{◌≡◌, refl, sym, ◌∙◌}

@@ -9,12 +9,14 @@ use Rattle.set_way.proofs.search.least_powers.Goals as goal
 
 pub slice_bounds-settle-end : goal.slice_bounds-settle-end
 slice_bounds-settle-end c =
-    let eight : length c.args.powers.now ≡ 8 = ap length c.requires.powers_value ∙ length-replicate {A = ℕ} 8 0 in
+    let eight : length c.args.powers.now ≡ 8 =
+    ap length c.requires.powers_value ∙ length-replicate {A = ℕ} 8 0 in
     omega (arith, eight, c.requires.set_input.eight, lists_length c.args.factors.now)
 
 pub settle-requires : goal.settle-requires
 settle-requires c =
-    let eight : length c.args.powers.now ≡ 8 = ap length c.requires.powers_value ∙ length-replicate {A = ℕ} 8 0 in
+    let eight : length c.args.powers.now ≡ 8 =
+    ap length c.requires.powers_value ∙ length-replicate {A = ℕ} 8 0 in
     record {
       well_formed = c.requires.well_formed;
       in_bounds = c.requires.in_bounds;
@@ -31,7 +33,8 @@ settle-requires c =
 
 pub returns : goal.returns
 returns c =
-    let eight : length c.args.powers.now ≡ 8 = ap length c.requires.powers_value ∙ length-replicate {A = ℕ} 8 0 in
+    let eight : length c.args.powers.now ≡ 8 =
+    ap length c.requires.powers_value ∙ length-replicate {A = ℕ} 8 0 in
     settled-searched {n = length c.args.factors.now} c.settle.ensures c.requires.powers_value
     (omega (
       arith,

@@ -18,20 +18,26 @@ load-requires c = set_halves c.requires.set_input c.requires.in_bounds
 
 pub bounds-uppers-0 : goal.bounds-uppers-0
 bounds-uppers-0 c =
-    let factors-one : length (lists_of c.args.factors.now) ≡ 1 = lists_length c.args.factors.now ∙ c.requires.factors_len in
-    let upper-index : 0 < length c.args.uppers.now = input_index c.requires.set_input 0 (omega (arith, factors-one)) in
+    let factors-one : length (lists_of c.args.factors.now) ≡ 1 =
+    lists_length c.args.factors.now ∙ c.requires.factors_len in
+    let upper-index : 0 < length c.args.uppers.now =
+    input_index c.requires.set_input 0 (omega (arith, factors-one)) in
     upper-index
 
 pub level_reaching-level-requires : goal.level_reaching-level-requires
 level_reaching-level-requires c =
-    let factors-one : length (lists_of c.args.factors.now) ≡ 1 = lists_length c.args.factors.now ∙ c.requires.factors_len in
+    let factors-one : length (lists_of c.args.factors.now) ≡ 1 =
+    lists_length c.args.factors.now ∙ c.requires.factors_len in
     let base = subst Base (sym c.characteristic.ensures) (field-base c.requires.well_formed) in
     (base, input_few c.requires.set_input 0 (omega (arith, factors-one)))
 
 pub least_power-requires : goal.least_power-requires
 least_power-requires c =
-    let factors-one : length (lists_of c.args.factors.now) ≡ 1 = lists_length c.args.factors.now ∙ c.requires.factors_len in
-    let reached : Reaching c.args.field.characteristic (get_or c.args.uppers.now 0 0) c.level_reaching-level.result = subst (λ p. Reaching p (get_or c.args.uppers.now 0 0) c.level_reaching-level.result)
+    let factors-one : length (lists_of c.args.factors.now) ≡ 1 =
+    lists_length c.args.factors.now ∙ c.requires.factors_len in
+    let reached : Reaching c.args.field.characteristic (get_or c.args.uppers.now 0 0)
+    c.level_reaching-level.result =
+    subst (λ p. Reaching p (get_or c.args.uppers.now 0 0) c.level_reaching-level.result)
     c.characteristic.ensures
     c.level_reaching-level.ensures in
     record {
@@ -43,14 +49,18 @@ least_power-requires c =
       };
       searchable = subst (λ f. Searchable c.args.field f c.level_reaching-level.result)
           (lists_at c.args.factors.now 0)
-          (factor_searchable c.requires.well_formed c.requires.set_input factors-one c.level_reaching-level.result
+          (factor_searchable c.requires.well_formed c.requires.set_input factors-one
+          c.level_reaching-level.result
           reached);
     }
 
 pub returns : goal.returns
 returns c =
-    let factors-one : length (lists_of c.args.factors.now) ≡ 1 = lists_length c.args.factors.now ∙ c.requires.factors_len in
-    let reached : Reaching c.args.field.characteristic (get_or c.args.uppers.now 0 0) c.level_reaching-level.result = subst (λ p. Reaching p (get_or c.args.uppers.now 0 0) c.level_reaching-level.result)
+    let factors-one : length (lists_of c.args.factors.now) ≡ 1 =
+    lists_length c.args.factors.now ∙ c.requires.factors_len in
+    let reached : Reaching c.args.field.characteristic (get_or c.args.uppers.now 0 0)
+    c.level_reaching-level.result =
+    subst (λ p. Reaching p (get_or c.args.uppers.now 0 0) c.level_reaching-level.result)
     c.characteristic.ensures
     c.level_reaching-level.ensures in
     alone_found c.requires.well_formed c.requires.set_input factors-one c.level_reaching-level.result

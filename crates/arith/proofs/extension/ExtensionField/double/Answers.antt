@@ -4,7 +4,8 @@ use native.Mathlib.Omega.{arith}
 use Rattle.arith.proofs.extension.ExtensionField.double.Goals as goal
 
 pub overflow_cast-result : goal.overflow_cast-result
-overflow_cast-result c = let w = c.requires.well_formed_extension in omega (arith, size-high w, w.size_is_right)
+overflow_cast-result c =
+    let w = c.requires.well_formed_extension in omega (arith, size-high w, w.size_is_right)
 
 pub overflow_cast-result-else-d-self : goal.overflow_cast-result-else-d-self
 overflow_cast-result-else-d-self c =

@@ -10,7 +10,8 @@ use Rattle.arith.proofs.Writing.{Writing}
 use Rattle.arith.proofs.extension.ExtensionField.square.Given as goal
 
 abbrev pub invariant-loop-i : goal.invariant-loop-i
-invariant-loop-i l = (l.i ≤ l.i-end) × (l.i-end ≡ length l.initial.a) × Writing l.initial.a 0 (map (raise (extension_of l.self) 2) l.initial.a) l.a l.i
+invariant-loop-i l = (l.i ≤ l.i-end) × (l.i-end ≡ length l.initial.a) × Writing l.initial.a 0
+    (map (raise (extension_of l.self) 2) l.initial.a) l.a l.i
 
 abbrev pub decreases-loop-i : goal.decreases-loop-i
 decreases-loop-i l = l.i-end - l.i

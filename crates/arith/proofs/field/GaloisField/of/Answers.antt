@@ -37,4 +37,5 @@ pub returns-else-names_binary_field : goal.returns-else-names_binary_field
 unfolding FieldMade
 returns-else-names_binary_field c =
     subst (λ name. Declined name NotBinaryField) (sym c.in-Binary.is)
-    (not-binary_declined _ _ (not-not_true _ (sym c.names_binary_field.ensures ∙ c.if-names_binary_field.false)))
+    (not-binary_declined _ _ (not-not_true _ (sym c.names_binary_field.ensures ∙
+    c.if-names_binary_field.false)))

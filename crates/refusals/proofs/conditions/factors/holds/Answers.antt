@@ -19,10 +19,12 @@ pub returns-in-DegreeOutOfRange : goal.returns-in-DegreeOutOfRange
 returns-in-DegreeOutOfRange c = named _ _ c.in-DegreeOutOfRange.is c.factor_degree_out_of_range.ensures
 
 pub returns-in-CoefficientOutOfRange : goal.returns-in-CoefficientOutOfRange
-returns-in-CoefficientOutOfRange c = named _ _ c.in-CoefficientOutOfRange.is c.coefficient_out_of_range.ensures
+returns-in-CoefficientOutOfRange c =
+    named _ _ c.in-CoefficientOutOfRange.is c.coefficient_out_of_range.ensures
 
 pub returns-in-FileDegreeOutOfRange : goal.returns-in-FileDegreeOutOfRange
 returns-in-FileDegreeOutOfRange c = named _ _ c.in-FileDegreeOutOfRange.is c.file_degree_out_of_range.ensures
 
 pub returns-in-FileCoefficientOutOfRange : goal.returns-in-FileCoefficientOutOfRange
-returns-in-FileCoefficientOutOfRange c = named _ _ c.in-FileCoefficientOutOfRange.is c.file_coefficient_out_of_range.ensures
+returns-in-FileCoefficientOutOfRange c =
+    named _ _ c.in-FileCoefficientOutOfRange.is c.file_coefficient_out_of_range.ensures

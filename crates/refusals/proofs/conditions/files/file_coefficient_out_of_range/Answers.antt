@@ -20,7 +20,8 @@ pub returns-then-n-end : goal.returns-then-n-end
 returns-then-n-end c = c.term_out_of_field.ensures ∙ file-without-upper _ _ c.if-n-end.true
 
 pub returns-then-term_out_of_field : goal.returns-then-term_out_of_field
-returns-then-term_out_of_field c = file_foreign _ _ (sym c.term_out_of_field-2.ensures ∙ c.if-term_out_of_field.true)
+returns-then-term_out_of_field c =
+    file_foreign _ _ (sym c.term_out_of_field-2.ensures ∙ c.if-term_out_of_field.true)
 
 pub returns : goal.returns
 returns c =

@@ -7,7 +7,8 @@ use Rattle.refusals.proofs.conditions.lists.Coefficients.{leading-coefficient}
 use Rattle.refusals.proofs.conditions.lists.coefficient_out_of_range.Goals as goal
 
 pub returns-then-term_out_of_field : goal.returns-then-term_out_of_field
-returns-then-term_out_of_field c = foreign_coefficient _ _ (sym c.term_out_of_field.ensures ∙ c.if-term_out_of_field.true)
+returns-then-term_out_of_field c =
+    foreign_coefficient _ _ (sym c.term_out_of_field.ensures ∙ c.if-term_out_of_field.true)
 
 pub returns-then-factor-eq0 : goal.returns-then-factor-eq0
 returns-then-factor-eq0 c = empty-coefficient _ _ c.if-factor-eq0.true

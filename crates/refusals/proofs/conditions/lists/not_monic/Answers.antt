@@ -7,7 +7,8 @@ use Rattle.refusals.proofs.conditions.lists.Coefficients.{leading-not-monic}
 use Rattle.refusals.proofs.conditions.lists.not_monic.Goals as goal
 
 pub returns-then-term_out_of_field : goal.returns-then-term_out_of_field
-returns-then-term_out_of_field c = foreign_not-monic _ _ (sym c.term_out_of_field.ensures ∙ c.if-term_out_of_field.true)
+returns-then-term_out_of_field c =
+    foreign_not-monic _ _ (sym c.term_out_of_field.ensures ∙ c.if-term_out_of_field.true)
 
 pub returns-then-factor-eq0 : goal.returns-then-factor-eq0
 returns-then-factor-eq0 c = empty-not-monic _ _ c.if-factor-eq0.true
