@@ -17,7 +17,8 @@ use lent::smaller;
 pub(crate) fn divide_by(field: GaloisField, f: &mut [u8], g: &[u8], c: u8)
     requires well_formed { WellFormed field }
     requires divisible { Divisible (field_of field) f.old g.now }
-    requires c_value { c ≡ negative (field_of field) (inverse (field_of field) (get_or g.now (degree g.now) 0)) }
+    requires c_value { c ≡ negative (field_of field)
+        (inverse (field_of field) (get_or g.now (degree g.now) 0)) }
     ensures { Divided (field_of field)
         (inverse (field_of field) (get_or g.now (degree g.now) 0))
         g.now f.old f.new }
