@@ -5,6 +5,10 @@ use Rattle.rate_period.proofs.PeriodAnswer.{period_refused, period-lent, period-
 use Rattle.rate_period.proofs.PeriodAnswer.{period_answerable, period-rated}
 use Rattle.rate_period.proofs.rate_checked.Goals as goal
 
+pub returns-in-Refused : goal.returns-in-Refused
+returns-in-Refused c =
+    period_refused _ _ _ _ _ c.requires.checked c.period_verdict.ensures c.in-Refused.is
+
 pub period_power-found-requires : goal.period_power-found-requires
 period_power-found-requires c =
     let q = c.in-Accepted.is in record {
@@ -21,10 +25,6 @@ rated-requires c =
       answerable = period_answerable _ _ _ _ _ c.requires.checked c.period_verdict.ensures q
           (field-is_field c.requires.well_formed) c.period_power-found.ensures;
     }
-
-pub returns-in-Refused : goal.returns-in-Refused
-returns-in-Refused c =
-    period_refused _ _ _ _ _ c.requires.checked c.period_verdict.ensures c.in-Refused.is
 
 pub returns-in-Accepted : goal.returns-in-Accepted
 returns-in-Accepted c =

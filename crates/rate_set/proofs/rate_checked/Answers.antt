@@ -9,6 +9,10 @@ use Rattle.rate_set.proofs.SetWay.{set_refused, set-lent, set-input, set-sevente
 use Rattle.rate_set.proofs.SetWay.{set-powers-input, set-powered, set-rated}
 use Rattle.rate_set.proofs.rate_checked.Goals as goal
 
+pub returns-in-Refused : goal.returns-in-Refused
+returns-in-Refused c =
+    set_refused _ _ _ _ _ _ c.requires.checked c.set_verdict.ensures c.in-Refused.is c.refused.ensures
+
 pub set_verdict-requires : goal.set_verdict-requires
 set_verdict-requires c =
     record {
@@ -60,10 +64,6 @@ repeat_length-repeat-requires c =
           (field-is_field c.requires.well_formed) c.set_powers.ensures
           c.if-set_powers.true);
     }
-
-pub returns-in-Refused : goal.returns-in-Refused
-returns-in-Refused c =
-    set_refused _ _ _ _ _ _ c.requires.checked c.set_verdict.ensures c.in-Refused.is c.refused.ensures
 
 pub returns-then-set_powers : goal.returns-then-set_powers
 returns-then-set_powers c =
