@@ -84,11 +84,8 @@ mode_numbers free_mode = free_numbers
 
 abbrev pub file_numbers : Result (List RouteRecord) → List ℕ
 file_numbers (refused n) = reader_numbers
-file_numbers (answered rs) = elim (mode_of (byte_of 3 rs)) [
-  | none ↦ []
-  | some m ↦ mode_numbers m
-      (field_in rs)
-]
+file_numbers (answered rs) = elim (mode_of (byte_of 3 rs))
+    [ none ↦ [] | some m ↦ mode_numbers m (field_in rs) ]
 
 -- AN ANSWER, OR A REFUSAL BY ONE OF THE NUMBERS
 
