@@ -332,15 +332,11 @@ def kept_proofs():
 
 
 def keep_proofs(path, tree):
-    """Keeps the times that a file has, or the files of a folder. A crate that was not proved anew has none there, and
-    keeps what it had."""
+    """Keeps the times that a file has. A crate that has none there keeps what it had."""
     kept = kept_proofs()
-    paths = glob.glob(path + '/*.out') if os.path.isdir(path) else [path] if os.path.exists(path) else []
-    for name in paths:
-        text = open(name, encoding='utf-8').read()
-        for crate, seconds in re.findall(r'^rt: (\w+) (?:proved|built)[^(\n]*\((\d+) s\)', text, re.M):
-            if not os.path.isdir(path) or kept.get(crate, (None,))[0] != int(seconds):
-                kept[crate] = (int(seconds), tree)
+    text = open(path, encoding='utf-8').read() if os.path.exists(path) else ''
+    for crate, seconds in re.findall(r'^rt: (\w+) proved \((\d+) s\)', text, re.M):
+        kept[crate] = (int(seconds), tree)
     with open(PROOFS, 'w', encoding='utf-8') as out:
         for crate, (seconds, of) in kept.items():
             out.write('%s\t%d\t%s\n' % (crate, seconds, of))
@@ -730,7 +726,7 @@ Lines that are neither blank nor comments.
     bench/run --install     once: Debian's packages of NTL, FLINT and PARI
     bench/run --twice       this page, of the second of two runs
     bench/run               the same of one run, held to the run before
-    bench/run --proofs      the same, after proving every crate anew; later runs keep these times until a crate is proved anew
+    bench/run --proofs      the same, after proving every crate of a copy; later runs keep these times
     bench/run --before FILE the same beside the library of an earlier tree
     bench/beside FILE       some thousand calls beside the library of an earlier tree, without this page
     bench/leaves            the inner loops alone

@@ -1,7 +1,7 @@
 // The rating program. It reads one route file on standard input and writes the header, the result line and,
 // where the file is rated, the poly line to standard output. `main` reads and writes; what is written for
-// what was read is the matter of `respond`. A program of Rattle ends with status 0: what it could not read or
-// write is a line on standard error, and nothing else is written there.
+// what was read is the matter of `respond`. It always ends with status 0: what it could not read or write is a
+// line on standard error, and nothing else is written there.
 #![tactic(auto)]
 
 ghost use Rattle.std.specs.Prelude.{◌≤◌, length};

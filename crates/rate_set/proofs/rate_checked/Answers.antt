@@ -13,6 +13,13 @@ pub returns-in-Refused : goal.returns-in-Refused
 returns-in-Refused c =
     set_refused _ _ _ _ _ _ c.requires.checked c.set_verdict.ensures c.in-Refused.is c.refused.ensures
 
+pub returns-else-set_powers : goal.returns-else-set_powers
+returns-else-set_powers c =
+    set-seventeen _ _ _ _ _ _ c.requires.checked c.set_verdict.ensures c.in-Accepted.is
+    (field-is_field c.requires.well_formed) c.set_powers.ensures
+    c.if-set_powers.false
+    c.refused-else-set_powers.ensures
+
 pub set_verdict-requires : goal.set_verdict-requires
 set_verdict-requires c =
     record {
@@ -74,10 +81,3 @@ returns-then-set_powers c =
     c.write_product-degree.ensures
     c.repeat_length-repeat.ensures
     c.rated.ensures
-
-pub returns-else-set_powers : goal.returns-else-set_powers
-returns-else-set_powers c =
-    set-seventeen _ _ _ _ _ _ c.requires.checked c.set_verdict.ensures c.in-Accepted.is
-    (field-is_field c.requires.well_formed) c.set_powers.ensures
-    c.if-set_powers.false
-    c.refused-else-set_powers.ensures
