@@ -235,27 +235,23 @@ fn arguments() -> Outcome {
     Ok(8)
 }
 
-// A folder with a link to every command on the path but cc.
-fn path_without_cc() -> std::io::Result<String> {
-    let folder = format!("{BUILT}/without_cc");
-    if Path::new(&folder).exists() {
-        fs::remove_dir_all(&folder)?;
-    }
-    fs::create_dir_all(&folder)?;
+// Makes the folder, with a link to every command on the path but cc.
+fn fill_without_cc(folder: &Path) -> std::io::Result<()> {
+    fs::create_dir(folder)?;
     for place in std::env::split_paths(&std::env::var_os("PATH").unwrap_or_default()) {
         for entry in fs::read_dir(place).into_iter().flatten().flatten() {
             if entry.file_name() != "cc" {
-                let _ = symlink(entry.path(), Path::new(&folder).join(entry.file_name()));
+                let _ = symlink(entry.path(), folder.join(entry.file_name()));
             }
         }
     }
-    fs::canonicalize(folder).map(|path| path.display().to_string())
+    Ok(())
 }
 
 // Without the shared object and without cc there is a line; with cc it is made, and then cc is not needed.
-fn no_compiler() -> Outcome {
-    let path = path_without_cc().map_err(|e| e.to_string())?;
-    let without = || ended(Command::new(TOOL).arg(EXAMPLE).env("PATH", &path), &[]);
+fn tried_without(folder: &Path) -> Outcome {
+    fill_without_cc(folder).map_err(|e| format!("{}: {e}", folder.display()))?;
+    let without = || ended(Command::new(TOOL).arg(EXAMPLE).env("PATH", folder), &[]);
     fs::remove_file(SHARED).map_err(|e| format!("{SHARED}: {e}"))?;
     stops(without()?, 2, "library: cc is not on the path", "")?;
     let made = tool(&[EXAMPLE], &[])?;
@@ -264,6 +260,14 @@ fn no_compiler() -> Outcome {
         "without cc, with the shared object".into()
     })?;
     Ok(3)
+}
+
+// The folder is outside the checkout, in which `rt ci` takes no links.
+fn no_compiler() -> Outcome {
+    let folder = std::env::temp_dir().join(format!("rate_without_cc_{}", std::process::id()));
+    let outcome = tried_without(&folder);
+    let _ = fs::remove_dir_all(&folder);
+    outcome
 }
 
 pub const TESTS: [(&str, Test); 6] = [
