@@ -80,9 +80,13 @@ fn entries(text: &str, enumeration: &str) -> Vec<String> {
 
 fn refusals() -> Outcome {
     let variants = entries(MEANING, "pub enum Refusal {");
-    let numbered = (1..).zip(&variants);
+    // the sources say the number beside the name; it has to be the place in the list
+    let numbered = (1..).zip(&variants).map(|(n, entry)| {
+        let name = entry.strip_suffix(&format!(" = {n}")).unwrap_or(entry);
+        format!("{} = {n}", in_capitals(name))
+    });
     let mut expected = vec!["GOBASHE_OK = 0".to_string()];
-    expected.extend(numbered.map(|(n, name)| format!("{} = {n}", in_capitals(name))));
+    expected.extend(numbered);
     let found = entries(&code(), "enum gobashe_refusal {");
     expect(found, expected, || "the refusals".into())?;
     Ok(variants.len() as u64)

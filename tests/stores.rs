@@ -4,7 +4,7 @@
 // which docs/READING.md shows. Four wrong copies, with right answers, are caught.
 mod common;
 
-use arith::{FieldAnswer, GaloisField};
+use arith::GaloisField;
 use common::calls::Figures;
 use common::field::{fields, Field, Name};
 use common::inputs::{self, dividing, divisor, power, register, x_minus_1};
@@ -16,8 +16,7 @@ use common::route::{field_record, file_of, Factor, Record};
 use common::sequence::Terms;
 use common::{expect, run, Outcome};
 use counting::Counts;
-use meaning::{FieldName, FileOutcome, PowerRating};
-use refusals::numbering::refusal_number;
+use meaning::{FieldName, FileOutcome, PowerRating, Refusal};
 
 const ANSWER: usize = 4097 + 13;
 const HALVES: usize = 8192;
@@ -25,8 +24,8 @@ const WORK: usize = HALVES + 13;
 // the only arrays of the search: the 256 sums of a block, of 16 bits each, in characteristic 2 of 8, and over GF(2^n) the
 // raised coefficients of a factor; and the files in which they are made
 const ARRAYS: [(&str, usize); 3] = [
-    ("/lent/residues.rs", 512),
-    ("/lent/elements.rs", 256),
+    ("/lent/blocks.rs", 512),
+    ("/lent/blocks.rs", 256),
     ("/action/lib.rs", 33),
 ];
 
@@ -102,7 +101,7 @@ impl Period {
 }
 
 // A copy's call, as `rate_period`.
-type Call = fn(FieldName, &[u8], &[u8], &mut [u8], &mut [u8]) -> PowerRating;
+type Call = fn(FieldName, &[u8], &[u8], &mut [u8], &mut [u8]) -> Result<PowerRating, Refusal>;
 
 // The name of a field, as a copy's call takes it.
 fn named(name: Name) -> FieldName {
@@ -113,15 +112,15 @@ fn named(name: Name) -> FieldName {
 }
 
 // What a copy's call returns, in the form in which the exported one does.
-fn returned(rating: PowerRating) -> Figures {
+fn returned(rating: Result<PowerRating, Refusal>) -> Figures {
     let mut figures = Figures::default();
     match rating {
-        PowerRating::Refused(r) => figures.status = refusal_number(r),
-        PowerRating::Rated {
+        Err(r) => figures.status = u64::from(r),
+        Ok(PowerRating {
             power,
             degree,
             repeat,
-        } => (figures.powers[0], figures.complexity, figures.repeat) = (power, degree, repeat),
+        }) => (figures.powers[0], figures.complexity, figures.repeat) = (power, degree, repeat),
     }
     figures
 }
@@ -193,7 +192,7 @@ fn search_and_keep_wider(field: GaloisField, work: &mut [u8], f: &[u8], terms: &
 // What is stored while a copy searches, without the checks before and the answer after.
 fn searched(search: Search, period: &Period) -> Counts {
     let (f, terms) = (poly::to_bytes(&period.f), poly::to_bytes(&period.terms));
-    let FieldAnswer::Made(field) = GaloisField::of(named(period.field.name)) else {
+    let Ok(field) = GaloisField::try_from(named(period.field.name)) else {
         panic!("{}: no field", period.name());
     };
     let mut work = [0xa5; WORK];
@@ -202,9 +201,13 @@ fn searched(search: Search, period: &Period) -> Counts {
 }
 
 // The search stores no byte outside of the work bytes, the sums of a block apart, and over GF(2^n) the coefficients of the
-// factor, which are copied and raised once for each power tried.
+// factor, which are copied and raised once for each power tried. Over odd primes the sums are wider numbers.
 fn no_bytes_elsewhere(search: Search, period: &Period) -> Result<(), String> {
-    let elsewhere = searched(search, period).elsewhere;
+    let counts = searched(search, period);
+    let elsewhere = match period.p() {
+        2 => counts.elsewhere,
+        _ => counts.elsewhere + counts.sums,
+    };
     let allowed = match period.field.is_prime() {
         true => 0,
         false => period.f.len() * (1 + period.exponent()),
@@ -249,7 +252,7 @@ fn file(period: &Period) -> Vec<u8> {
 
 // How often terms are stored more when a period is rated as a file: what is stored elsewhere, less what the call stores
 // there on the terms themselves. Both store the coefficients of the factor there once, answer alike, and store alike into
-// the work bytes.
+// the work bytes and the sums.
 fn more_in_a_file(period: &Period) -> Result<usize, String> {
     let name = || format!("a file, {}", period.name());
     let file = file(period);
@@ -257,14 +260,15 @@ fn more_in_a_file(period: &Period) -> Result<usize, String> {
     let rate = |answer: &mut [u8], work: &mut [u8]| rate_file::rate_file(&file, answer, work);
     let (rating, stored) = counting::count(&mut answer, &mut work, rate);
     let found = match rating.outcome {
-        FileOutcome::Powers { .. } => Ok(rating.powers[0]),
-        FileOutcome::Refused(r) => Err(refusal_number(r)),
+        Ok(FileOutcome::Powers { powers, .. }) => Ok(powers[0]),
+        Err(r) => Err(u64::from(r)),
         _ => return Err(format!("{}: rated by another way", name())),
     };
     let expected = period.rating.as_ref().map(|rating| rating.powers[0]);
     expect(found, expected.map_err(|r| *r), name)?;
     let called = counts(rate_period::rate_period, period);
     expect(stored.work == called.work, true, name)?;
+    expect(stored.sums == called.sums, true, name)?;
     let more = stored.elsewhere.checked_sub(called.elsewhere);
     more.ok_or_else(|| format!("{}: fewer stores than the call", name()))
 }

@@ -39,8 +39,9 @@ fn addresses(bytes: &[u8]) -> Range<usize> {
 }
 
 // The sources whose stores outside of the lent bytes are sums of a block, or raised coefficients: in characteristic 2 sums
-// are bytes, and added up by `add_bits` or, over GF(2^n), `add_multiple`.
-const SUMS: [&str; 2] = ["/arith/field.rs", "/arith/extension.rs"];
+// are bytes, and added up by `add_multiple` of `arith::vectors`. Over odd primes they are wider numbers, and these stores are
+// none.
+const SUMS: [&str; 2] = ["/arith/vectors.rs", "/arith/extension.rs"];
 
 // A value was stored at the place, by the source that calls this.
 #[track_caller]
@@ -63,6 +64,32 @@ pub fn stored<T: Copy>(place: &T) {
             counts.elsewhere += 1;
         }
     })
+}
+
+// The methods of slices that store each element, in place of the library's.
+pub trait Stores<T> {
+    fn counted_fill(&mut self, value: T);
+
+    fn counted_copy_from_slice(&mut self, from: &[T]);
+}
+
+impl<T: Copy> Stores<T> for [T] {
+    #[track_caller]
+    fn counted_fill(&mut self, value: T) {
+        for place in self {
+            *place = value;
+            stored(place);
+        }
+    }
+
+    #[track_caller]
+    fn counted_copy_from_slice(&mut self, from: &[T]) {
+        assert_eq!(self.len(), from.len());
+        for (place, value) in self.iter_mut().zip(from) {
+            *place = *value;
+            stored(place);
+        }
+    }
 }
 
 // An array was made, at the place that calls this.

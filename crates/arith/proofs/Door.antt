@@ -1,9 +1,10 @@
 -- The door of a call: the field is made by its name, or the name is refused.
 --
---   made-named, made_declined == what the constructor's contract says in each of its two cases
+--   made-named, made_declined == what the conversion's contract says in each of its two cases
 --   behind_door, at_door      == the answer of a call, where the field is made and where the name is refused
 -- Assumes nothing.
 use mathlib.Core.Path.{◌≡◌, sym, ap, subst, ◌∙◌}
+use Rattle.std.specs.Prelude.{Result as Answer, Ok, Err}
 use Rattle.meaning.specs.declared.FieldName.{FieldName}
 use Rattle.meaning.specs.declared.Refusal.{Refusal}
 use Rattle.meaning.specs.Field.{Field}
@@ -12,16 +13,13 @@ use Rattle.meaning.specs.FieldNames.{in_field}
 use Rattle.meaning.specs.Answers.{number_of}
 use Rattle.meaning.proofs.Tables.{in_field_lem, no_field}
 use Rattle.arith.specs.declared.field.GaloisField.{GaloisField}
-use Rattle.arith.specs.declared.field.FieldAnswer.{FieldAnswer}
 use Rattle.arith.specs.Represented.{field_of, FieldNamed, Declined, FieldMade}
 
-module _ {name : FieldName} {made : FieldAnswer} (h : FieldMade name made) where
-  pub made-named : {f : GaloisField} → made ≡ FieldAnswer.Made f → FieldNamed name f
-  unfolding FieldMade
+module _ {name : FieldName} {made : Answer GaloisField Refusal} (h : FieldMade name made) where
+  pub made-named : {f : GaloisField} → made ≡ Ok f → FieldNamed name f
   made-named e = subst (FieldMade name) e h
 
-  pub made_declined : {r : Refusal} → made ≡ FieldAnswer.Refused r → Declined name r
-  unfolding FieldMade
+  pub made_declined : {r : Refusal} → made ≡ Err r → Declined name r
   made_declined e = subst (FieldMade name) e h
 
 module _ {A : Type 0} {name : FieldName} (answer : Field → Result A) where

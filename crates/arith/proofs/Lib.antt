@@ -1,4 +1,5 @@
 pub mod Represented
+pub mod Sorts
 pub mod Door
 pub mod Multiplier
 pub mod Numbers

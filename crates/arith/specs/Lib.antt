@@ -1,9 +1,8 @@
 pub mod Represented
 pub mod Inverse
 pub mod Slices
-pub mod primes
-pub mod reducing
 pub mod prime_field
 pub mod extension
+pub mod multiples
 pub mod sums
 pub mod products

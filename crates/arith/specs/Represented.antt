@@ -1,37 +1,43 @@
--- What the contracts of crate arith cite: the field that a struct `GaloisField` stands for.
+-- What the contracts of crate arith cite: the field that a value of `GaloisField` stands for.
 --
---   field_of f         == the field that f stands for: GF(2^n) if the multiplier is 0, else GF(p)
---   WellFormed f      == the parts of f name a field in range and agree with each other: so is whatever the
---                        constructors make, and nothing else; every operation requires it
+--   field_of f         == the field that f stands for, GF(p) or GF(2^n)
+--   WellFormed f      == the parts of f name a field in range and agree with each other
+--   well_formed       == so it is with every f: the parts are those of a type that keeps these facts
 --   FieldNamed name f == the name is that of a field, and f is well-formed and stands for it
 --   Declined name r   == the name is that of no field, and r is the refusal that it meets
---   FieldMade name r  == so the constructor answers the name
-use Rattle.std.specs.Prelude.{◌/◌, ◌≡◌, ◌≢◌, true, false, T, eqb}
+--   FieldMade name r  == so the conversion answers the name
+use Rattle.std.specs.Prelude.{◌≡◌, true, false, Result, MatchResult}
 use Rattle.meaning.specs.declared.FieldName.{FieldName}
 use Rattle.meaning.specs.declared.Refusal.{Refusal}
-use Rattle.meaning.specs.Field.{Field, prime, prime_in_range}
-use Rattle.meaning.specs.Extension.{binary}
-use Rattle.meaning.specs.Conditions.{not_binary}
+use Rattle.meaning.specs.Field.{Field}
 use Rattle.meaning.specs.FieldNames.{named_field, not_field, field_number}
 use Rattle.meaning.specs.Answers.{number_of}
-use Rattle.arith.specs.declared.field.FieldAnswer.{FieldAnswer}
+use Rattle.bridge.proofs.Binary.BinaryNumbers.{binary-name}
+use Rattle.arith.specs.declared.prime_field.PrimeField.{PrimeField}
+use Rattle.arith.specs.declared.extension.ExtensionField.{ExtensionField}
 use Rattle.arith.specs.declared.field.GaloisField.{GaloisField}
+use Rattle.arith.specs.prime_field.PrimeForm.{prime_field_of, WellFormedPrime}
+use Rattle.arith.specs.extension.Extension.{extension_of, WellFormedExtension}
 
 unfoldable pub field_of : GaloisField → Field
-field_of f = elim (eqb f.multiplier 0) [ true ↦ binary f.degree f.low | false ↦ prime f.size ]
+field_of (GaloisField.Prime f) = prime_field_of f
+field_of (GaloisField.Extension f) = extension_of f
 
--- what must hold of the parts of a prime field
-pub record PrimeParts (f : GaloisField) : Type 0 where
-  pub size_is_prime : T (prime_in_range f.size)
-  pub multiplier_is_right : f.multiplier ≡ 65536 / f.size
-  pub degree_is_one : f.degree ≡ 1
-  pub low_is_zero : f.low ≡ 0
+unfoldable pub WellFormed : GaloisField → Type 0
+WellFormed (GaloisField.Prime f) = WellFormedPrime f
+WellFormed (GaloisField.Extension f) = WellFormedExtension f
 
-pub record WellFormed (f : GaloisField) : Type 0 where
-  pub of_prime : f.multiplier ≢ 0 → PrimeParts f
-  pub of_binary : f.multiplier ≡ 0 → not_binary f.degree f.low ≡ false
-  pub size_is_right : f.size ≡ (field_of f).size
-  pub characteristic_is_right : f.characteristic ≡ (field_of f).characteristic
+pub prime_formed : (f : PrimeField) → WellFormedPrime f
+prime_formed f = record { size_is_prime = f.size_is_prime; multiplier_is_right = f.multiplier_is_right }
+
+pub extension_formed : (f : ExtensionField) → WellFormedExtension f
+extension_formed f =
+    record { name = binary-name f.degree f.low f.admitted; size_is_right = f.size_is_right }
+
+pub well_formed : (f : GaloisField) → WellFormed f
+unfolding WellFormed
+well_formed (GaloisField.Prime f) = prime_formed f
+well_formed (GaloisField.Extension f) = extension_formed f
 
 pub record FieldNamed (name : FieldName) (f : GaloisField) : Type 0 where
   pub exists : not_field name ≡ false
@@ -42,6 +48,5 @@ pub record Declined (name : FieldName) (r : Refusal) : Type 0 where
   pub holds : not_field name ≡ true
   pub number : number_of r ≡ field_number name
 
-unfoldable pub FieldMade : FieldName → FieldAnswer → Type 0
-FieldMade name (FieldAnswer.Made f) = FieldNamed name f
-FieldMade name (FieldAnswer.Refused r) = Declined name r
+abbrev pub FieldMade : FieldName → Result GaloisField Refusal → Type 0
+FieldMade name r = MatchResult r (FieldNamed name) (Declined name)

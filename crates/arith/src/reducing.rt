@@ -1,61 +1,30 @@
 // Which polynomials in y of degree up to 8 over GF(2) are irreducible, by their numbers: bit i of the number
 // is the coefficient of y^i; and so which n and low name a field of 2^n elements.
-ghost use Rattle.std.specs.Prelude.{◌≡◌, not, ◌+◌, ◌^◌, ◌≤◌, ◌<◌};
+ghost use Rattle.std.specs.Prelude.{◌≡◌, not, ◌^◌, ◌≤◌, ◌<◌};
 ghost use Rattle.meaning.specs.Conditions.{not_binary};
 ghost use Rattle.bridge.proofs.Binary.ReducingPolynomials.{is_reducing};
-ghost use Rattle.arith.specs.reducing.Reducing.{ReducingBits};
 
 use crate::field::GaloisField;
 
 // The numbers below 512 of irreducible polynomials as the bits of eight words of 64 bits: bit i of word k is
-// 1 if 64·k + i is one. These are the first four words.
-fn low_word(k: u64) -> u64
-    requires { k < 4 }
-    ensures { ReducingBits k result }
-{
-    if k == 0 {
-        return 0x288082208208288c;
-    }
-    if k == 1 {
-        return 0x0028208208800208;
-    }
-    if k == 2 {
-        return 0x8200088020028208;
-    }
-    0x2082802000280802
-}
-
-// The last four, from word 4 on.
-fn high_word(k: u64) -> u64
-    requires { k < 4 }
-    ensures { ReducingBits (4 + k) result }
-{
-    if k == 0 {
-        return 0x8200280028000000;
-    }
-    if k == 1 {
-        return 0x0882022880002000;
-    }
-    if k == 2 {
-        return 0x2002020880002880;
-    }
-    0x0228008020808008
-}
-
-// Word k of the eight.
-fn word(k: u64) -> u64
-    requires { k < 8 }
-    ensures { ReducingBits k result }
-{
-    if k < 4 { low_word(k) } else { high_word(k - 4) }
-}
+// 1 if 64·k + i is one.
+const REDUCING: [u64; 8] = [
+    0x288082208208288c,
+    0x0028208208800208,
+    0x8200088020028208,
+    0x2082802000280802,
+    0x8200280028000000,
+    0x0882022880002000,
+    0x2002020880002880,
+    0x0228008020808008,
+];
 
 // Whether m, below 512, is the number of an irreducible polynomial: bit m % 64 of word m / 64 says so.
 fn is_reducing(m: u64) -> bool
     requires { m < 512 }
     ensures { result ≡ is_reducing m }
 {
-    (word(m / 64) >> (m % 64)) % 2 == 1
+    (REDUCING[(m / 64) as usize] >> (m % 64)) % 2 == 1
 }
 
 // 2^n, for n up to 8.

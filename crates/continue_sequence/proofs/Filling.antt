@@ -13,9 +13,9 @@ use lib.ListN.{length, take, drop, length-drop, drop_of_length-le}
 use lib.Dec.{ltb, eqb}
 use lib.Seq.{length-take-le}
 use borrow.Author.Tests.{ltb-false, eqb-true, not-false}
+use Rattle.std.specs.Prelude.{Ok, Err}
 use Rattle.meaning.specs.declared.FieldName.{FieldName}
 use Rattle.meaning.specs.declared.Refusal.{Refusal}
-use Rattle.meaning.specs.declared.Filling.{Filling}
 use Rattle.meaning.specs.Field.{Field}
 use Rattle.meaning.specs.Polynomial.{Polynomial, degree, monic_multiple}
 use Rattle.meaning.specs.Sequence.{continuation, cut}
@@ -23,7 +23,7 @@ use Rattle.meaning.specs.Result.{Result, refused, first_of, map_result, value_of
 use Rattle.meaning.specs.Conditions.{place_out_of_range, count_out_of_range}
 use Rattle.meaning.specs.Conditions.{continuation_degree_out_of_range, start_unlike_degree}
 use Rattle.meaning.specs.Continuation.{continue_table, filled, continue_in, continue_sequence}
-use Rattle.meaning.specs.Answers.{told_filling}
+use Rattle.meaning.specs.Answers.{told_filling, told, Reply}
 use Rattle.meaning.specs.Calls.{buffer_after, ContinueCall}
 use Rattle.meaning.proofs.Passes.{Passes}
 use Rattle.meaning.proofs.Tables.{in_field_lem, no_field}
@@ -32,14 +32,13 @@ use Rattle.bridge.proofs.Ways.Accepted.{terms-accepted}
 use Rattle.bridge.proofs.Lists.Multiples.{coefficients_lead}
 use Rattle.arith.specs.Represented.{field_of, FieldNamed, Declined}
 use Rattle.arith.specs.declared.field.GaloisField.{GaloisField}
-use Rattle.refusals.specs.declared.Verdict.{Verdict}
 use Rattle.refusals.specs.Verdicts.{number_in}
 use Rattle.refusals.proofs.Settled.{verdict_passes, settle_refused, settle-accepted}
 use Rattle.continue_sequence.specs.continuation.Continuing.{Continuable}
 
 -- a call for a buffer of `size` bytes that is accepted
-module _ (F : Field) (g : Polynomial) (start : List ℕ) (place size : ℕ) {v : Verdict}
-    (e : number_in v ≡ first_of (continue_table F g start place size)) (q : v ≡ Verdict.Accepted) where
+module _ (F : Field) (g : Polynomial) (start : List ℕ) (place size : ℕ) {v : Reply (Unit {0})}
+    (e : number_in v ≡ first_of (continue_table F g start place size)) (q : v ≡ Ok tt) where
   passes : Passes (continue_table F g start place size)
   passes = verdict_passes (continue_table F g start place size) e q
 
@@ -70,11 +69,11 @@ to_end-length l a = length-take-le (length l - a) (drop a l) (rw length-drop (le
 
 module _ (name : FieldName) (g : Polynomial) (start buffer : List ℕ) (place : ℕ) where
   -- what the call tells of a result, and what it leaves
-  told : {r : Filling} {result : Result (List ℕ)}
+  exactly : {r : Reply (Unit {0})} {result : Result (List ℕ)}
       → continue_sequence name g start place buffer ≡ result
       → told_filling r ≡ map_result (λ _. tt) result
       → ContinueCall name g start buffer place r (buffer_after result buffer)
-  told d t =
+  exactly d t =
       record {
         filling = t ∙ ap (map_result (λ _. tt)) (sym d);
         buffer_bytes = ap (λ (r : Result (List ℕ)). buffer_after r buffer) (sym d);
@@ -82,9 +81,9 @@ module _ (name : FieldName) (g : Polynomial) (start buffer : List ℕ) (place : 
 
   -- the name is that of no field
   pub continue_declined : {r : Refusal} → Declined name r
-      → ContinueCall name g start buffer place (Filling.Refused r) buffer
-  unfolding told_filling continue_sequence map_result buffer_after
-  continue_declined d = told (no_field name _ d.holds ∙ ap refused (sym d.number)) refl
+      → ContinueCall name g start buffer place (Err r) buffer
+  unfolding told_filling told continue_sequence map_result buffer_after
+  continue_declined d = exactly (no_field name _ d.holds ∙ ap refused (sym d.number)) refl
 
   module _ {field : GaloisField} (f : FieldNamed name field) where
     named : {result : Result (List ℕ)} → continue_in (field_of field) g start place buffer ≡ result
@@ -95,24 +94,24 @@ module _ (name : FieldName) (g : Polynomial) (start buffer : List ℕ) (place : 
         ∙ ap (λ F. continue_in F g start place buffer) (sym f.is_field)
         ∙ d
 
-    module _ {v : Verdict}
+    module _ {v : Reply (Unit {0})}
         (e : number_in v ≡ first_of (continue_table (field_of field) g start place (length buffer)))
       where
         pub continue_refused : {x : Refusal}
-            → v ≡ Verdict.Refused x
-            → ContinueCall name g start buffer place (Filling.Refused x) buffer
-        unfolding told_filling continue_in map_result buffer_after
-        continue_refused q = told (named (settle_refused _ _ e q)) refl
+            → v ≡ Err x
+            → ContinueCall name g start buffer place (Err x) buffer
+        unfolding told_filling told continue_in map_result buffer_after
+        continue_refused q = exactly (named (settle_refused _ _ e q)) refl
 
         -- the part that the filler was lent runs to the end of the buffer, and comes back as ys
         pub continue_filled : {ys : List ℕ}
-            → v ≡ Verdict.Accepted
+            → v ≡ Ok tt
             → ys
             ≡ cut (continuation (field_of field) (monic_multiple (field_of field) g) start) 0
             (length (take (length buffer - place) (drop place buffer)))
-            → ContinueCall name g start buffer place Filling.Filled
+            → ContinueCall name g start buffer place (Ok tt)
             (take place buffer ++ (ys ++ drop (length buffer - place) (drop place buffer)))
-        unfolding told_filling continue_in filled map_result buffer_after value_of
+        unfolding told_filling told continue_in filled map_result buffer_after value_of
         continue_filled q i =
             rw (to_end buffer place, append-nil, i, to_end-length buffer place)
-            (told (named (settle-accepted _ _ e q)) refl)
+            (exactly (named (settle-accepted _ _ e q)) refl)

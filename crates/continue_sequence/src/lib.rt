@@ -6,9 +6,9 @@ pub mod continuation;
 ghost use Rattle.meaning.specs.Calls.{ContinueCall};
 
 use crate::continuation::fill;
-use arith::{FieldAnswer, GaloisField};
-use meaning::{FieldName, Filling};
-use refusals::{Verdict, continue_verdict};
+use arith::GaloisField;
+use meaning::{FieldName, Refusal};
+use refusals::continue_verdict;
 
 // Fills the buffer, from the place to its end, with the sequence that the polynomial continues the starting
 // terms to, and leaves all before the place as it was; or refuses by 6 or 20, 7, 8, 10, 11 or 15, and leaves
@@ -19,20 +19,12 @@ pub fn continue_sequence(
     start: &[u8],
     buffer: &mut [u8],
     place: usize,
-) -> Filling
+) -> Result<(), Refusal>
     ensures { ContinueCall name polynomial.now start.now buffer.old
         place result buffer.new }
 {
-    match GaloisField::of(name) {
-        FieldAnswer::Refused(r) => Filling::Refused(r),
-        FieldAnswer::Made(field) => {
-            match continue_verdict(field, polynomial, start, place, buffer.len()) {
-                Verdict::Refused(r) => Filling::Refused(r),
-                Verdict::Accepted => {
-                    fill(&mut buffer[place..], field, polynomial, start);
-                    Filling::Filled
-                }
-            }
-        }
-    }
+    let field = GaloisField::try_from(name)?;
+    continue_verdict(field, polynomial, start, place, buffer.len())?;
+    fill(&mut buffer[place..], field, polynomial, start);
+    Ok(())
 }

@@ -6,16 +6,13 @@ use mathlib.Core.Path.{◌≡◌, refl, sym, ap, subst, ◌∙◌}
 use mathlib.Core.List.{List}
 use lib.ListN.{length}
 use borrow.Author.Tests.{eq-eqb, ne_eqb}
+use Rattle.std.specs.Prelude.{Bool, Ok, Err}
 use Rattle.meaning.specs.declared.FieldName.{FieldName}
 use Rattle.meaning.specs.declared.FieldNumbers.{FieldNumbers}
-use Rattle.meaning.specs.declared.Refusal.{Refusal}
-use Rattle.meaning.specs.declared.Irreducibility.{Irreducibility}
 use Rattle.meaning.specs.declared.PowerRating.{PowerRating}
-use Rattle.meaning.specs.declared.SetOutcome.{SetOutcome}
 use Rattle.meaning.specs.declared.SetRating.{SetRating}
 use Rattle.meaning.specs.declared.FreeRating.{FreeRating}
 use Rattle.meaning.specs.declared.EntryRating.{EntryRating}
-use Rattle.meaning.specs.declared.Filling.{Filling}
 use Rattle.meaning.specs.declared.Rating.{Rating}
 use Rattle.meaning.specs.declared.Answer.{Answer}
 use Rattle.meaning.specs.declared.Entry.{Entry}
@@ -26,15 +23,17 @@ use Rattle.meaning.specs.Portion.{SetFigures, rate_set}
 use Rattle.meaning.specs.Free.{rate_free}
 use Rattle.meaning.specs.Continuation.{continue_sequence}
 use Rattle.meaning.specs.Irreducibility.{ask_irreducible}
-use Rattle.meaning.specs.Answers.{number_of, told_irreducible, told_power, told_free, told_entry}
-use Rattle.meaning.specs.Answers.{told_filling}
-use Rattle.meaning.specs.Answers.{told_set, set_figures_told, set_padded}
+use Rattle.meaning.specs.Answers.{told_irreducible, told_power, told_free, told_entry}
+use Rattle.meaning.specs.Answers.{told_filling, told, Reply}
+use Rattle.meaning.specs.Answers.{told_set, set_places, set_figures_told, set_padded}
 use Rattle.meaning.specs.Calls.{LentAfter, IrreducibleCall, PeriodCall, SetCall, FreeCall, EntryCall}
 use Rattle.meaning.specs.Calls.{ContinueCall}
-use Rattle.meaning.specs.Exports.{named_by, status_of, period_told, set_told, free_told, RatingExported}
+use Rattle.meaning.specs.Exports.{rating_refused, named_by, status_of, period_told, set_told, free_told}
+use Rattle.meaning.specs.Exports.{RatingExported}
 use Rattle.meaning.specs.Exports.{entry_told, EntryExported, Filled, answer_told, Question}
 use Rattle.bridge.proofs.Basics.Searches.{never_answered, answered_same, refused_same}
 use Rattle.exports.specs.ratings.Outcomes.{outcome_told}
+use Rattle.exports.specs.status.Replies.{status_in}
 
 -- THE NAME OF A FIELD
 module _ (f : FieldNumbers) where
@@ -46,33 +45,24 @@ module _ (f : FieldNumbers) where
   unfolding named_by
   named-binary e = rw (ne_eqb _ _ e, named_by)
 
--- THE SET WAY: what an outcome tells with its powers is what the result tells
-outcome_rated : (x : Result SetFigures) (d m n : ℕ) (ps : List ℕ)
-    → told_set (SetOutcome.Rated d m n) ≡ map_result set_figures_told x
-    → ps ≡ set_padded x
-    → outcome_told (SetOutcome.Rated d m n) ps ≡ set_told x
-unfolding told_set map_result set_figures_told set_padded set_told outcome_told
-outcome_rated (refused k) d m n ps t p = absurd (never_answered (sym t))
-outcome_rated (answered a) d m n ps t p =
+-- THE SET WAY: what a reply tells with its powers is what the result tells
+outcome_told_lem : (x : Result SetFigures) (r : Reply SetRating)
+    → told_set r ≡ map_result set_figures_told x
+    → set_places r ≡ set_padded x
+    → outcome_told r ≡ set_told x
+unfolding told_set told set_places map_result set_figures_told set_padded set_told outcome_told
+outcome_told_lem (refused k) (Ok a) t p = absurd (never_answered (sym t))
+outcome_told_lem (answered b) (Ok a) t p =
     let y = answered_same t in
     λ i. record { status = 0; complexity = (y i).degree; repeat = (y i).repeat; word = 0; powers = p i }
+outcome_told_lem (refused k) (Err r) t p = ap rating_refused (refused_same t)
+outcome_told_lem (answered b) (Err r) t p = absurd (never_answered t)
 
-outcome_refused : (x : Result SetFigures) (r : Refusal) (ps : List ℕ)
-    → told_set (SetOutcome.Refused r) ≡ map_result set_figures_told x
-    → ps ≡ set_padded x
-    → outcome_told (SetOutcome.Refused r) ps ≡ set_told x
-unfolding told_set map_result set_figures_told set_padded set_told outcome_told
-outcome_refused (refused k) r ps t p =
-    let y = refused_same t in
-    λ i. record { status = y i; complexity = 0; repeat = 0; word = 0; powers = p i }
-outcome_refused (answered a) r ps t p = absurd (never_answered t)
-
-outcome_told_lem : (x : Result SetFigures) (o : SetOutcome) (ps : List ℕ)
-    → told_set o ≡ map_result set_figures_told x
-    → ps ≡ set_padded x
-    → outcome_told o ps ≡ set_told x
-outcome_told_lem x (SetOutcome.Rated d m n) ps t p = outcome_rated x d m n ps t p
-outcome_told_lem x (SetOutcome.Refused r) ps t p = outcome_refused x r ps t p
+-- THE STATUS of a reply, whatever is told of its value
+pub status_in_told : {A B : Type 0} (f : A → B) (r : Reply A) → status_in r ≡ status_of (told f r)
+unfolding status_in told status_of
+status_in_told f (Ok a) = refl
+status_in_told f (Err r) = refl
 
 status_map : {A B : Type 0} (f : A → B) (r : Result A) → status_of (map_result f r) ≡ status_of r
 unfolding status_of map_result
@@ -91,7 +81,8 @@ module _ {name name' : FieldName} (n : name ≡ name') where
       subst (λ m. RatingExported tell (rate m) answer work r answer' work') n
       (record { told = e ∙ ap tell t; lent = l })
 
-  pub period-exported : {f ts answer work : List ℕ} {a : PowerRating} {answer' work' : List ℕ} {r : Rating}
+  pub period-exported : {f ts answer work : List ℕ} {a : Reply PowerRating} {answer' work' : List ℕ}
+      {r : Rating}
       → PeriodCall name f ts answer work a answer' work'
       → r ≡ period_told (told_power a)
       → RatingExported period_told (rate_period name' f ts (length answer) (length work)) answer work
@@ -99,17 +90,17 @@ module _ {name name' : FieldName} (n : name ≡ name') where
   period-exported {f} {ts} {answer} {work} c e =
       exported period_told (λ m. rate_period m f ts (length answer) (length work)) c.rating c.lent e
 
-  pub set-exported : {fs : List Polynomial} {vs ts answer work : List ℕ} {a : SetRating}
+  pub set-exported : {fs : List Polynomial} {vs ts answer work : List ℕ} {a : Reply SetRating}
       {answer' work' : List ℕ} {r : Rating}
       → SetCall name fs vs ts answer work a answer' work'
-      → r ≡ outcome_told a.outcome a.powers
+      → r ≡ outcome_told a
       → RatingExported set_told (rate_set name' fs vs ts (length answer) (length work)) answer work
       r answer' work'
   set-exported {fs} {vs} {ts} {answer} {work} {a} c e =
       exported set_told (λ m. rate_set m fs vs ts (length answer) (length work)) refl c.lent
-      (e ∙ outcome_told_lem _ a.outcome a.powers c.rating c.powers)
+      (e ∙ outcome_told_lem _ a c.rating c.powers)
 
-  pub free-exported : {ts answer work : List ℕ} {a : FreeRating} {answer' work' : List ℕ} {r : Rating}
+  pub free-exported : {ts answer work : List ℕ} {a : Reply FreeRating} {answer' work' : List ℕ} {r : Rating}
       → FreeCall name ts answer work a answer' work'
       → r ≡ free_told (told_free a)
       → RatingExported free_told (rate_free name' ts (length answer) (length work)) answer work r
@@ -117,41 +108,27 @@ module _ {name name' : FieldName} (n : name ≡ name') where
   free-exported {ts} {answer} {work} c e =
       exported free_told (λ m. rate_free m ts (length answer) (length work)) c.rating c.lent e
 
-  pub question_exported : {f : Polynomial} {a : Irreducibility} {r : Answer}
+  pub question_exported : {f : Polynomial} {a : Reply Bool} {r : Answer}
       → IrreducibleCall name f a
       → r ≡ answer_told (told_irreducible a)
       → Question (ask_irreducible name' f) r
   question_exported {f} c e =
       record { told = e ∙ ap answer_told (c.answer ∙ ap (λ (m : FieldName). ask_irreducible m f) n) }
 
-  -- where the answer is b
-  module _ {g start buffer : List ℕ} {place : ℕ} {a : Filling} {buffer' : List ℕ}
-      (c : ContinueCall name g start buffer place a buffer') where
-    filling : {b : Filling} {k : ℕ} → a ≡ b → k ≡ status_of (told_filling b)
-        → Filled (continue_sequence name' g start place buffer) buffer k buffer'
-    filling {b} {k} q i =
-        subst (λ m. Filled (continue_sequence m g start place buffer) buffer k buffer') n
-        (record {
-          told =
-              i
-              ∙ ap (λ (f : Filling). status_of (told_filling f)) (sym q)
-              ∙ ap status_of c.filling
-              ∙ status_map _ _;
-          lent = c.buffer_bytes;
-        })
-
-    pub filled-exported : a ≡ Filling.Filled
-        → Filled (continue_sequence name' g start place buffer) buffer 0 buffer'
-    unfolding told_filling status_of
-    filled-exported q = filling q refl
-
-    pub unfilled_exported : {x : Refusal} {k : ℕ} → a ≡ Filling.Refused x → k ≡ number_of x
-        → Filled (continue_sequence name' g start place buffer) buffer k buffer'
-    unfolding told_filling status_of
-    unfilled_exported q i = filling q i
+  pub filled-exported : {g start buffer : List ℕ} {place k : ℕ} {a : Reply (Unit {0})} {buffer' : List ℕ}
+      → ContinueCall name g start buffer place a buffer'
+      → k ≡ status_in a
+      → Filled (continue_sequence name' g start place buffer) buffer k buffer'
+  unfolding told_filling
+  filled-exported {g} {start} {buffer} {place} {k} {a} {buffer'} c i =
+      subst (λ m. Filled (continue_sequence m g start place buffer) buffer k buffer') n
+      (record {
+        told = i ∙ status_in_told _ a ∙ ap status_of c.filling ∙ status_map _ _;
+        lent = c.buffer_bytes;
+      })
 
 -- THE SEARCH
-pub entry-exported : {ts work : List ℕ} {a : EntryRating} {work' : List ℕ} {r : Entry}
+pub entry-exported : {ts work : List ℕ} {a : Reply EntryRating} {work' : List ℕ} {r : Entry}
     → EntryCall ts work a work'
     → r ≡ entry_told (told_entry a)
     → EntryExported ts work r work'

@@ -4,15 +4,15 @@ use Prim.Native.Nat.{ℕ}
 use mathlib.Core.Path.{◌≡◌, refl, sym, ap, ◌∙◌}
 use mathlib.Core.List.{List}
 use lib.ListN.{length, get_or}
+use Rattle.std.specs.Prelude.{Ok, Err}
 use Rattle.meaning.specs.declared.Refusal.{Refusal}
-use Rattle.meaning.specs.declared.RecordOutcome.{RecordOutcome}
 use Rattle.meaning.specs.Result.{Result, refused, answered, map_result}
 use Rattle.meaning.specs.Route.{RouteRecord, end_record, records, read_record}
-use Rattle.meaning.specs.Answers.{number_of, told_record}
-use Rattle.meaning.specs.Calls.{body_after}
+use Rattle.meaning.specs.Answers.{number_of, told_record, told}
+use Rattle.meaning.specs.Calls.{body_after, RecordCall}
 use Rattle.meaning.specs.Exports.{body_start, record_told, RecordExported}
 use Rattle.bridge.proofs.Basics.Searches.{never_answered, answered_same, refused_same}
-use Rattle.route.specs.reader.Starting.{BodyStart}
+use Rattle.route.specs.reader.Reading.{BodyStart}
 
 -- record n, from the records of a file
 abbrev read_in : Result (List RouteRecord) → ℕ → Result RouteRecord
@@ -38,18 +38,16 @@ refused_told n (refused j) k t =
     ap (λ (m : ℕ). record { status = m; kind = 0; from = 0; length = 0 }) (refused_same t)
 refused_told n (answered rs) k t = absurd (never_answered t)
 
-module _ (file : List ℕ) (n : ℕ) {o : RecordOutcome}
-    (told : told_record o ≡ map_result (λ a. a.kind) (read_record file n)) where
-  pub record_found : {k : ℕ} {body : List ℕ} {s : ℕ} → o ≡ RecordOutcome.Found k
-      → body ≡ body_after (read_record file n)
+module _ {file : List ℕ} {n k : ℕ} {body : List ℕ} where
+  pub record_found : {j s : ℕ} → RecordCall file n (Ok k) body
+      → j ≡ k
       → BodyStart file n s
-      → RecordExported file n (record { status = 0; kind = k; from = s; length = length body })
-  unfolding told_record read_record
-  record_found {k} {body} {s} q b h =
-      record { told = found-told n (records file) k body s (ap told_record (sym q) ∙ told) b h.place }
+      → RecordExported file n (record { status = 0; kind = j; from = s; length = length body })
+  unfolding told_record told read_record
+  record_found {j} {s} c e h =
+      record { told = found-told n (records file) j body s (ap answered e ∙ c.found) c.part h.place }
 
-  pub record_refused : {x : Refusal} {k : ℕ} → o ≡ RecordOutcome.Refused x → k ≡ number_of x
+  pub record_refused : {x : Refusal} → RecordCall file n (Err x) body → k ≡ number_of x
       → RecordExported file n (record { status = k; kind = 0; from = 0; length = 0 })
-  unfolding told_record read_record
-  record_refused {x} {k} q i =
-      record { told = refused_told n (records file) k (ap refused i ∙ ap told_record (sym q) ∙ told) }
+  unfolding told_record told read_record
+  record_refused c i = record { told = refused_told n (records file) k (ap refused i ∙ c.found) }

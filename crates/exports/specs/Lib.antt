@@ -1,2 +1,3 @@
 pub mod ratings
 pub mod profile
+pub mod status

@@ -7,8 +7,7 @@ ghost use Rattle.meaning.specs.Irreducibility.{ask_irreducible};
 ghost use Rattle.meaning.specs.Exports.{version, named_by, answer_told, Question};
 
 use crate::field::named_by;
-use meaning::{Answer, FieldNumbers, Irreducibility};
-use refusals::numbering::refusal_number;
+use meaning::{Answer, FieldNumbers, Refusal};
 
 // The number of the interface; it changes when a function or a struct does.
 #[unsafe(no_mangle)]
@@ -27,14 +26,16 @@ pub extern "C" fn gobashe_prime_in_range(n: u64) -> bool
 }
 
 // The answer as numbers: 1 for yes and 0 for no.
-fn answer_told(answer: Irreducibility) -> Answer
+fn answer_told(answer: Result<bool, Refusal>) -> Answer
     ensures { result ≡ answer_told (told_irreducible answer) }
 {
     match answer {
-        Irreducibility::Irreducible => Answer { status: 0, yes: 1 },
-        Irreducibility::HasFactors => Answer { status: 0, yes: 0 },
-        Irreducibility::Refused(r) => Answer {
-            status: refusal_number(r),
+        Ok(yes) => Answer {
+            status: 0,
+            yes: yes.into(),
+        },
+        Err(r) => Answer {
+            status: r.into(),
             yes: 0,
         },
     }

@@ -3,8 +3,8 @@ ghost use Rattle.meaning.specs.Continuation.{continue_sequence};
 ghost use Rattle.meaning.specs.Exports.{named_by, Filled};
 
 use crate::field::named_by;
-use meaning::{FieldNumbers, Filling};
-use refusals::numbering::refusal_number;
+use crate::status::status;
+use meaning::FieldNumbers;
 
 // Fills the buffer from the place on with the continuation.
 #[unsafe(no_mangle)]
@@ -20,8 +20,6 @@ pub extern "C" fn gobashe_continue_sequence(
         buffer.old)
         buffer.old result buffer.new }
 {
-    match rater::continue_sequence(named_by(field), polynomial, start, buffer, place) {
-        Filling::Filled => 0,
-        Filling::Refused(r) => refusal_number(r),
-    }
+    let filling = rater::continue_sequence(named_by(field), polynomial, start, buffer, place);
+    status(filling)
 }

@@ -4,8 +4,7 @@ ghost use Rattle.meaning.specs.Answers.{told_entry};
 ghost use Rattle.meaning.specs.Calls.{CatalogueCall};
 ghost use Rattle.meaning.specs.Exports.{entry_told, EntryExported};
 
-use meaning::{Entry, EntryRating};
-use refusals::numbering::refusal_number;
+use meaning::{Entry, EntryRating, Refusal};
 
 // Entry i of the catalogue, counted from 0; beyond the last 0, which is no entry.
 #[unsafe(no_mangle)]
@@ -16,17 +15,17 @@ pub extern "C" fn gobashe_catalogue_entry(i: usize) -> u64
 }
 
 // What a search tells.
-fn entry_told(rating: EntryRating) -> Entry
+fn entry_told(rating: Result<EntryRating, Refusal>) -> Entry
     ensures { result ≡ entry_told (told_entry rating) }
 {
     match rating {
-        EntryRating::Found { entry, power } => Entry {
+        Ok(EntryRating { entry, power }) => Entry {
             status: 0,
             entry,
             power,
         },
-        EntryRating::Refused(r) => Entry {
-            status: refusal_number(r),
+        Err(r) => Entry {
+            status: r.into(),
             entry: 0,
             power: 0,
         },

@@ -8,8 +8,7 @@ use meaning::{FieldName, FieldNumbers};
 pub fn named_by(field: FieldNumbers) -> FieldName
     ensures { result ≡ named_by field }
 {
-    let degree = field.degree;
-    let number = field.number;
+    let FieldNumbers { degree, number } = field;
     if degree == 0 {
         FieldName::Prime(number)
     } else {

@@ -14,3 +14,4 @@ mod field;
 pub mod profile;
 pub mod ratings;
 pub mod reader;
+mod status;

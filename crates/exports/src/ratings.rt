@@ -10,96 +10,79 @@ ghost use Rattle.meaning.specs.Exports.{RatingExported};
 ghost use Rattle.exports.specs.ratings.Outcomes.{outcome_told};
 
 use crate::field::named_by;
-use meaning::{FieldNumbers, FreeRating, PowerRating, Rating, Refusal, SetOutcome, SetRating};
-use refusals::numbering::refusal_number;
+use meaning::{FieldNumbers, FreeRating, PowerRating, Rating, Refusal, SetRating};
 
 // A refusal: its number, and zeros.
 fn refused_rating(refusal: Refusal) -> Rating
     ensures { result ≡ rating_refused (number_of refusal) }
 {
-    let powers = [0u64; 8];
     Rating {
-        status: refusal_number(refusal),
+        status: refusal.into(),
         complexity: 0,
         repeat: 0,
         word: 0,
-        powers,
+        powers: [0; 8],
     }
 }
 
 // What the period way tells: its one power stands first.
-fn period_rating(rating: PowerRating) -> Rating
+fn period_rating(rating: Result<PowerRating, Refusal>) -> Rating
     ensures { result ≡ period_told (told_power rating) }
 {
     match rating {
-        PowerRating::Rated {
-            power,
-            degree,
-            repeat,
-        } => {
-            let mut powers = [0u64; 8];
-            powers[0] = power;
+        Ok(rating) => {
+            let mut powers = [0; 8];
+            powers[0] = rating.power;
             Rating {
                 status: 0,
-                complexity: degree,
-                repeat,
+                complexity: rating.degree,
+                repeat: rating.repeat,
                 word: 0,
                 powers,
             }
         }
-        PowerRating::Refused(r) => refused_rating(r),
+        Err(r) => refused_rating(r),
     }
 }
 
 // What the set way tells.
-fn set_rating(rating: SetRating) -> Rating
-    ensures { result ≡ outcome_told rating.outcome rating.powers }
+fn set_rating(rating: Result<SetRating, Refusal>) -> Rating
+    ensures { result ≡ outcome_told rating }
 {
-    let outcome = rating.outcome;
-    let powers = rating.powers;
-    match outcome {
-        SetOutcome::Rated {
-            degree,
-            repeat,
-            count: _,
-        } => Rating {
-            status: 0,
-            complexity: degree,
-            repeat,
-            word: 0,
-            powers,
-        },
-        SetOutcome::Refused(r) => Rating {
-            status: refusal_number(r),
-            complexity: 0,
-            repeat: 0,
-            word: 0,
-            powers,
-        },
+    match rating {
+        Ok(rating) => {
+            let powers = rating.powers;
+            Rating {
+                status: 0,
+                complexity: rating.degree,
+                repeat: rating.repeat,
+                word: 0,
+                powers,
+            }
+        }
+        Err(r) => refused_rating(r),
     }
 }
 
 // What the free way tells, with its word as a number: 1 for `one`, 2 for `some`.
-fn free_rating(rating: FreeRating) -> Rating
+fn free_rating(rating: Result<FreeRating, Refusal>) -> Rating
     ensures { result ≡ free_told (told_free rating) }
 {
-    let powers = [0u64; 8];
     match rating {
-        FreeRating::Unique { degree } => Rating {
-            status: 0,
-            complexity: degree,
-            repeat: 0,
-            word: 1,
-            powers,
-        },
-        FreeRating::Several { degree } => Rating {
-            status: 0,
-            complexity: degree,
-            repeat: 0,
-            word: 2,
-            powers,
-        },
-        FreeRating::Refused(r) => refused_rating(r),
+        Ok(figures) => {
+            let (degree, word) = match figures {
+                FreeRating::Unique { degree } => (degree, 1),
+                FreeRating::Several { degree } => (degree, 2),
+            };
+            Rating {
+                status: 0,
+                complexity: degree,
+                repeat: 0,
+                word,
+                powers: [0; 8],
+            }
+        }
+        Err(r) => refused_rating(r),
     }
 }
 

@@ -21,13 +21,13 @@ use Rattle.arith.specs.declared.field.GaloisField.{GaloisField}
 use Rattle.arith.specs.Represented.{field_of, FieldNamed}
 use Rattle.arith.proofs.Represented.{field-is_field}
 use Rattle.lent.specs.blocks.Blocks.{block_on_period, Places}
-use Rattle.lent.proofs.halves.Bytes.{kept_same}
 use Rattle.action.proofs.Blocks.{nonzero_block}
 use Rattle.action.proofs.Powers.{power_annihilates}
-use Rattle.powers.specs.declared.levels.Level.{Level}
+use Rattle.lent.specs.declared.levels.Level.{Level}
 use Rattle.powers.specs.levels.Levels.{Dividing}
-use Rattle.period_way.specs.declared.Found.TheVariants.{Nothing}
-use Rattle.period_way.specs.Period.{told, PeriodInput, PeriodSearched}
+use Rattle.std.specs.Prelude.{None}
+use Rattle.meaning.specs.Period.{period_power}
+use Rattle.period_way.specs.Period.{told, PeriodInput}
 use Rattle.period_way.proofs.Periodic.{period-none, period_levelled}
 
 pub field-two : {field : GaloisField} → FieldNamed (FieldName.Prime 2) field → field_of field ≡ prime 2
@@ -42,23 +42,18 @@ size_characteristic e =
 pub look_none :
     {field : GaloisField} (binary : FieldNamed (FieldName.Prime 2) field) (f : Polynomial) {ts : List ℕ}
     (x : PeriodInput (field_of field) f ts) (level : Level)
-    (l : Dividing field.characteristic (length ts) level) {at m : ℕ} (look : Places (length ts) at m)
+    (l : Dividing (field_of field).characteristic (length ts) level) {at m : ℕ} (look : Places (length ts) at m)
     {b : Bool}
     → b ≡ all_zero (block_on_period (field_of field) f level.power ts at m)
     → b ≡ false
-    → (w : List ℕ) → PeriodSearched (field_of field) f ts w w Nothing
+    → told None ≡ period_power (field_of field) f ts
 unfolding told
-look_none {field} binary f {ts} x level l look e h w =
-    let good = binary.well_formed in
-    record {
-      power =
-          sym
-          (period-none good f ts x level l
-          (sym
-          (power_annihilates good (period_levelled good f ts x level l)
-          (sym
-          (raises_same (field-is_field good) level.exponent (size_characteristic (field-two binary)) f
-          (monic-elements (field_of field) f x.monic))) ts)
-          ∙ sym (nonzero_block (field_of field) f level.power ts look e h)));
-      kept = kept_same w;
-    }
+look_none {field} binary f {ts} x level l look e h =
+    sym
+    (period-none field f ts x level l
+    (sym
+    (power_annihilates field (period_levelled field f ts x level l)
+    (sym
+    (raises_same (field-is_field field) level.exponent (size_characteristic (field-two binary)) f
+    (monic-elements (field_of field) f x.monic))) ts)
+    ∙ sym (nonzero_block (field_of field) f level.power ts look e h)))

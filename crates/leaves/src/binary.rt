@@ -7,16 +7,16 @@ ghost use Rattle.meaning.specs.Extension.{binary};
 ghost use Rattle.meaning.specs.Conditions.{not_binary};
 ghost use Rattle.arith.specs.Inverse.{inverse};
 ghost use Rattle.arith.specs.Slices.{combined};
-ghost use Rattle.arith.specs.Represented.{field_of, WellFormed, FieldMade};
+ghost use Rattle.arith.specs.Represented.{field_of, FieldMade};
 ghost use Rattle.leaves.specs.Suited.{suited, where_suited};
 ghost use Rattle.leaves.specs.binary.Squares.{squares};
 ghost use Rattle.leaves.specs.binary.Acted.{has_room, Acted};
 
-use crate::suits;
+use crate::{dot_in, update_in};
+use arith::GaloisField;
 use arith::reducing::names_binary_field;
-use arith::{FieldAnswer, GaloisField};
 use lent::blocks::act_block;
-use meaning::FieldName;
+use meaning::{FieldName, Refusal};
 use refusals::conditions::lists::term_out_of_field;
 
 // Whether the two numbers name a field.
@@ -28,10 +28,10 @@ pub extern "C" fn leaf_names_binary(degree: u64, low: u64) -> bool
 }
 
 // The field that the two numbers name, or the refusal.
-fn named(degree: u64, low: u64) -> FieldAnswer
+fn named(degree: u64, low: u64) -> Result<GaloisField, Refusal>
     ensures { FieldMade (FieldName.Binary degree low) result }
 {
-    GaloisField::of(FieldName::Binary { degree, low })
+    GaloisField::try_from(FieldName::Binary { degree, low })
 }
 
 // a + b
@@ -39,10 +39,7 @@ fn named(degree: u64, low: u64) -> FieldAnswer
 pub extern "C" fn leaf_binary_sum(degree: u64, low: u64, a: u8, b: u8) -> u8
     ensures { result ≡ where_suited (not (not_binary degree low)) ((binary degree low).add a b) 0 }
 {
-    match named(degree, low) {
-        FieldAnswer::Made(field) => field.sum(a, b),
-        FieldAnswer::Refused(_) => 0,
-    }
+    named(degree, low).map_or(0, |field| field.sum(a, b))
 }
 
 // a·b
@@ -50,10 +47,7 @@ pub extern "C" fn leaf_binary_sum(degree: u64, low: u64, a: u8, b: u8) -> u8
 pub extern "C" fn leaf_binary_product(degree: u64, low: u64, a: u8, b: u8) -> u8
     ensures { result ≡ where_suited (not (not_binary degree low)) ((binary degree low).mul a b) 0 }
 {
-    match named(degree, low) {
-        FieldAnswer::Made(field) => field.product(a, b),
-        FieldAnswer::Refused(_) => 0,
-    }
+    named(degree, low).map_or(0, |field| field.product(a, b))
 }
 
 // The number whose product with a is 1; 0 if a stands for 0.
@@ -61,10 +55,7 @@ pub extern "C" fn leaf_binary_product(degree: u64, low: u64, a: u8, b: u8) -> u8
 pub extern "C" fn leaf_binary_inverse(degree: u64, low: u64, a: u8) -> u8
     ensures { result ≡ where_suited (not (not_binary degree low)) (inverse (binary degree low) a) 0 }
 {
-    match named(degree, low) {
-        FieldAnswer::Made(field) => field.inverse(a),
-        FieldAnswer::Refused(_) => 0,
-    }
+    named(degree, low).map_or(0, |field| field.inverse(a))
 }
 
 // The sum of products c0·s0 + c1·s1 + …
@@ -74,13 +65,7 @@ pub extern "C" fn leaf_binary_dot(degree: u64, low: u64, c: &[u8], s: &[u8]) -> 
         (suited (length c.now) (length s.now) && not (not_binary degree low))
         (act_at (binary degree low) c.now (known s.now) 0) 0 }
 {
-    if !suits(c.len(), s.len()) {
-        return 0;
-    }
-    match named(degree, low) {
-        FieldAnswer::Made(field) => field.dot(c, s),
-        FieldAnswer::Refused(_) => 0,
-    }
+    dot_in(FieldName::Binary { degree, low }, c, s)
 }
 
 // The update a + c·b of a, as far as b goes.
@@ -90,23 +75,16 @@ pub extern "C" fn leaf_binary_update(degree: u64, low: u64, a: &mut [u8], c: u8,
         (suited (length b.now) (length a.old) && not (not_binary degree low))
         (combined (binary degree low) a.old c b.now) a.old }
 {
-    if !suits(b.len(), a.len()) {
-        return;
-    }
-    if let FieldAnswer::Made(field) = named(degree, low) {
-        field.add_multiple(a, c, b);
-    }
+    update_in(FieldName::Binary { degree, low }, a, c, b);
 }
 
 // Raises each number of a to the characteristic if all are elements of the field; else leaves a as it was.
 fn frobenius_in(field: GaloisField, a: &mut [u8])
-    requires { WellFormed field }
     ensures { a.new ≡ squares (field_of field) a.old }
 {
-    if term_out_of_field(field, a) {
-        return;
+    if !term_out_of_field(field, a) {
+        field.frobenius(a);
     }
-    field.frobenius(a);
 }
 
 // Squares each number of a if all are elements of the field; else leaves a as it was.
@@ -116,22 +94,17 @@ pub extern "C" fn leaf_binary_squares(degree: u64, low: u64, a: &mut [u8])
         ≡ where_suited (not (not_binary degree low)) (squares (binary degree low) a.old)
         a.old }
 {
-    if let FieldAnswer::Made(field) = named(degree, low) {
+    if let Ok(field) = named(degree, low) {
         frobenius_in(field, a);
     }
 }
 
 // Whether `size` bytes hold a period of n terms, 1 to 256 of them, and as many after them.
+#[tactic(auto, unfolding(crate::specs::binary::Acted::has_room))]
 fn has_room(n: usize, size: usize) -> bool
     ensures { result ≡ has_room n size }
 {
-    if n == 0 {
-        return false;
-    }
-    if 256 < n {
-        return false;
-    }
-    n + n <= size
+    1 <= n && n <= 256 && n + n <= size
 }
 
 // Acts with f and the stride q on the first n bytes of w as a period: writes the n values after them, and
@@ -153,7 +126,7 @@ pub extern "C" fn leaf_binary_act(
         return false;
     }
     match named(degree, low) {
-        FieldAnswer::Made(field) => act_block(field, w, 0, n, 0, f, q, n, n),
-        FieldAnswer::Refused(_) => false,
+        Ok(field) => act_block(field, w, 0, n, 0, f, q, n, n),
+        Err(_) => false,
     }
 }

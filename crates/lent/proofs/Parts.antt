@@ -5,7 +5,6 @@
 --   lent_back, copied-back == a part from the front that was lent and came back; a list that was copied into
 --                        zeros, as it is lent
 --   zeros-length, zeros-lent == zeros that are lent from the front
---   zeros-front, zeros-enough == what came back for them, lent again
 --   copied, front-copied == a list that is copied over one that is no longer; the front of one
 --   front_fits, front-room == a part from the front is not longer than was asked for, and is there
 --   cleared-part      == the work bytes after their first 8,192 were lent on and came back as zeros
@@ -59,13 +58,6 @@ module _ (m n : ℕ) (h : m ≤ n) where
       (replicate (length {A = ℕ} (take (m - 0) (replicate n 0))) 0)
   zeros-lent =
       zeros-part (m - 0) n (omega arith) ∙ ap (λ k. replicate k 0) (sub-zero m ∙ sym zeros-length)
-
-  module _ (y : List ℕ) (e : length y ≡ length {A = ℕ} (take (m - 0) (replicate n 0))) where
-    pub zeros-front : take (m - 0) (y ++ drop (m - 0) (replicate n 0)) ≡ y
-    zeros-front = lent_back y (drop (m - 0) (replicate n 0)) (e ∙ zeros-length)
-
-    pub zeros-enough : m ≤ length (y ++ drop (m - 0) (replicate n 0))
-    zeros-enough = omega (arith, zeros-length, length-append y (drop (m - 0) (replicate n 0)))
 
 -- A list that is copied over another
 pub copied : (l t : List ℕ) → length l ≤ length t → t ++ drop (length t) l ≡ t

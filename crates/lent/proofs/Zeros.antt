@@ -3,6 +3,8 @@
 --   Anything a l i    == what a loop keeps: a is 0 exactly where the first i numbers of l are
 --   anything_none, anything_more, anything_end == before the first turn, a turn, after the last
 --   all_zero-append    == all zero in two parts
+--   none_zero         == an empty list
+--   zero-block, nonzero-block == a list that begins with a block that is all 0, or is not
 --   zeros-none, zeros-more, zeros-end == the first i numbers are 0: before the first block, one block more,
 --                        after the last
 --   nonzero-part      == where a part is not all 0, the list is not
@@ -68,6 +70,21 @@ all_zero-append (x ∷ l) m = go (eqb x 0) refl (all_zero-append l m)
         → all_zero (x ∷ l ++ m) ≡ (all_zero (x ∷ l) && all_zero m)
     go true e h = rw (e, holds_for_all) h
     go false e h = rw (e, holds_for_all)
+
+pub none_zero : (l : List ℕ) → length l ≡ 0 → true ≡ all_zero l
+none_zero [] e = sym (T_true all_zero-nil)
+none_zero (x ∷ l) e = absurd (omega arith)
+
+-- A block from the front
+module _ {l : List ℕ} (b r : List ℕ) {z : Bool} (e : l ≡ b ++ r) (f : z ≡ all_zero b) where
+  split : all_zero l ≡ (z && all_zero r)
+  split = ap all_zero e ∙ all_zero-append b r ∙ ap (λ x. x && all_zero r) (sym f)
+
+  pub zero-block : z ≡ true → all_zero r ≡ all_zero l
+  zero-block t = sym (split ∙ ap (λ x. x && all_zero r) t)
+
+  pub nonzero-block : z ≡ false → false ≡ all_zero l
+  nonzero-block t = sym (split ∙ ap (λ x. x && all_zero r) t)
 
 -- Block by block
 module _ (l : List ℕ) where

@@ -1,4 +1,4 @@
 pub mod blocks
-pub mod elements
+pub mod sums
 pub mod halves
 pub mod raising

@@ -4,16 +4,21 @@ ghost use Rattle.std.specs.Prelude.{◌≡◌, ◌-◌, length};
 ghost use Rattle.bridge.proofs.Sequences.KnownActions.{all_zero};
 ghost use Rattle.lent.specs.halves.Halves.{Halves, Placed};
 
-use crate::{copy, smaller};
+// Terms at the front of a half of the work bytes.
+#[derive(Clone, Copy)]
+pub struct Place {
+    pub half: usize,
+    pub count: usize,
+}
 
 // Whether all bytes of a block are 0, by one test for all of them.
 pub(crate) fn block_zero(block: &[u8]) -> bool
     ensures { result ≡ all_zero block.now }
 {
-    // Invariant: `any` is 0 exactly if the first i bytes are.
+    // Invariant: `any` is 0 exactly if the first bytes are.
     let mut any: u8 = 0;
-    for i in 0..block.len() {
-        any = any | block[i];
+    for byte in block {
+        any |= *byte;
     }
     any == 0
 }
@@ -22,14 +27,11 @@ pub(crate) fn block_zero(block: &[u8]) -> bool
 pub fn all_zero(part: &[u8]) -> bool
     ensures { result ≡ all_zero part.now }
 {
-    let mut i = 0;
-    // Invariant: the first i bytes are 0.
-    while i < part.len() {
-        let m = smaller(256, part.len() - i);
-        if !block_zero(&part[i..i + m]) {
+    // Invariant: the bytes before those that are left are 0.
+    for block in part.chunks(256) {
+        if !block_zero(block) {
             return false;
         }
-        i += m;
     }
     true
 }
@@ -40,5 +42,5 @@ pub fn load(work: &mut [u8], h: usize, terms: &[u8])
     ensures { Placed work.old h (1 - h) terms.now work.new }
 {
     let at = 4096 * h;
-    copy(terms, &mut work[at..at + terms.len()]);
+    work[at..at + terms.len()].copy_from_slice(terms);
 }

@@ -65,7 +65,7 @@ fn align(mut known: Progress, g: &mut [u64], a: usize) -> Progress
     // g is moved down by `aligned` − a₀ bits, for the number a₀ that `aligned` was at first
     while known.aligned + 64 <= known.seen + 1 {
         move_word(g, a);
-        known.aligned = known.aligned + 64;
+        known.aligned += 64;
     }
     known
 }
@@ -154,9 +154,9 @@ fn reduce(terms: &[u8], mut known: Progress, f: &mut [u64], g: &mut [u64], a: us
     let l = known.degree;
     // f is 0 at the places from e + s to e + w − 1, for the degree e of g, s = 2·L − n for n counted so far
     // and w = 2·L − m for m terms
-    while known.seen < 2 * l {
+    for _ in known.seen..2 * l {
         known = cancel(known, f, g, a);
-        known.seen = known.seen + 1;
+        known.seen += 1;
     }
 }
 

@@ -3,7 +3,7 @@
 // halves of 4,096: f, the polynomial of least degree so far, stands in one without its leading 1, and g, an
 // earlier f, in the other with it; zeros come after both, and updates are in place. The meter takes the same
 // steps, one a call. Over GF(2) f and g stand in words on the stack, and the work bytes are only cleared.
-// Assumes a well-formed field, at most 4,096 terms, and as many lent bytes as each function says.
+// Assumes at most 4,096 terms, and as many lent bytes as each function says.
 #![tactic(auto)]
 
 mod binary;

@@ -7,8 +7,6 @@ ghost use Rattle.bridge.proofs.Lists.Monics.{digit};
 ghost use Rattle.massey.specs.words.Words.{bit_of, bits_from, Window, Room, Moved, Added, Exchanged};
 ghost use Rattle.massey.specs.words.Words.{NextOne, TermsPacked};
 
-use lent::smaller;
-
 // The 64 bits from bit k of a word on, which the next word continues, for k below 64. (No word is shifted by
 // 64.)
 fn window(lower: u64, upper: u64, k: u64) -> u64
@@ -64,7 +62,7 @@ pub(crate) fn next_one(f: &[u64], n: usize, m: usize) -> usize
     while t < m {
         let rest = f[63 - t / 64] << ((t % 64) as u64);
         if rest != 0 {
-            return smaller(t + (u64::leading_zeros(rest) as usize), m);
+            return (t + (u64::leading_zeros(rest) as usize)).min(m);
         }
         t = 64 * (t / 64 + 1);
     }
@@ -76,13 +74,12 @@ fn packed(s: &[u8]) -> u64
     requires { (0 < length s.now) × (length s.now ≤ 64) }
     ensures { (i : ℕ) → i < 64 → digit 2 result (63 - i) ≡ get_or s.now i 0 % 2 }
 {
-    let n = s.len();
     let mut w = 0;
-    // w: the word of the first i terms, the last of them in its lowest bit
-    for i in 0..n {
-        w = 2 * w + (s[i] % 2) as u64;
+    // w: the word of the terms so far, the last of them in its lowest bit
+    for term in s {
+        w = 2 * w + (*term % 2) as u64;
     }
-    w << ((64 - n) as u64)
+    w << ((64 - s.len()) as u64)
 }
 
 // Writes the bits of the terms into f, which is all zeros: that of t(n) is bit 4,095 − n.
@@ -90,12 +87,9 @@ pub(crate) fn pack(terms: &[u8], f: &mut [u64])
     requires { (length terms.now ≤ 4096) × (length f.old ≡ 66) × ((j : ℕ) → get_or f.old j 0 ≡ 0) }
     ensures { TermsPacked terms.now f.new }
 {
-    let m = terms.len();
-    let mut i = 0;
     // the first 64·i terms are packed, and the words below them and above are 0
-    while 64 * i < m {
-        f[63 - i] = packed(&terms[64 * i..smaller(64 * i + 64, m)]);
-        i += 1;
+    for (i, block) in terms.chunks(64).enumerate() {
+        f[63 - i] = packed(block);
     }
 }
 

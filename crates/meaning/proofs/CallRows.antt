@@ -11,16 +11,15 @@ use lib.ListN.{replicate}
 use lib.Dec.{eqb}
 use borrow.Author.Tests.{eqb-false}
 use Rattle.meaning.specs.declared.Refusal.{Refusal}
-use Rattle.meaning.specs.declared.Irreducibility.{Irreducibility}
 use Rattle.meaning.specs.declared.PowerRating.{PowerRating}
-use Rattle.meaning.specs.declared.SetOutcome.{SetOutcome}
 use Rattle.meaning.specs.declared.FreeRating.{FreeRating}
-use Rattle.meaning.specs.declared.Filling.{Filling}
 use Rattle.meaning.specs.declared.FileOutcome.{FileOutcome}
-use Rattle.meaning.specs.declared.RecordOutcome.{RecordOutcome}
 use Rattle.meaning.specs.Calls.{PrimeCall, IrreducibleCall, PeriodCall, SetCall, FreeCall}
 use Rattle.meaning.specs.Calls.{ContinueCall, FileCall, RecordCall, ProgramCall}
 use Rattle.meaning.specs.Print.{text}
+use Rattle.meaning.specs.declared.SetRating.{SetRating}
+use Rattle.meaning.specs.Answers.{Reply}
+use Rattle.std.specs.Prelude.{Ok, Err}
 use Rattle.meaning.proofs.Computed.{GF, computed}
 use Rattle.meaning.proofs.Rows.{box, field, mode, factor, terms, end, case_a, x+1, x²+1, x²+x+1}
 
@@ -54,84 +53,91 @@ file_h = box 7 ++ (field 2 ++ (mode 3 ++ (terms (1 ∷ 0 ∷ []) ++ end)))
 abbrev pub eight_zeros : List ℕ
 eight_zeros = replicate 8 0
 
+-- the replies of the period way and of the set way
+abbrev pub rated_period : (power degree repeat : ℕ) → Reply PowerRating
+rated_period r d n = Ok (record { power = r; degree = d; repeat = n })
+
+abbrev pub rated_set : (degree repeat count : ℕ) → List ℕ → Reply SetRating
+rated_set d n k rs = Ok (record { degree = d; repeat = n; count = k; powers = rs })
+
 pub record CallRows : Type 0 where
   pub prime251 : PrimeCall 251 true
   pub prime253 : PrimeCall 253 false
-  pub irreducible : IrreducibleCall (GF 2) x²+x+1 Irreducibility.Irreducible
-  pub reducible : IrreducibleCall (GF 2) x²+1 Irreducibility.HasFactors
-  pub irreducible_refused : IrreducibleCall (GF 4) x²+1 (Irreducibility.Refused Refusal.NotPrime)
+  pub irreducible : IrreducibleCall (GF 2) x²+x+1 (Ok true)
+  pub reducible : IrreducibleCall (GF 2) x²+1 (Ok false)
+  pub irreducible_refused : IrreducibleCall (GF 4) x²+1 (Err Refusal.NotPrime)
   pub period_b : PeriodCall (GF 2) x+1 (0 ∷ 0 ∷ 0 ∷ 1 ∷ []) answer work
-      (PowerRating.Rated 4 4 4)
+      (rated_period 4 4 4)
       (1 ∷ 0 ∷ 0 ∷ 0 ∷ 1 ∷ replicate 4094 7)
       cleared
   pub period_f : PeriodCall (GF 2) x²+x+1 (0 ∷ 0 ∷ 0 ∷ 1 ∷ []) answer work
-      (PowerRating.Refused Refusal.NotAnnihilated)
+      (Err Refusal.NotAnnihilated)
       answer
       cleared
   pub period_twelve : PeriodCall (GF 2) x²+1 (0 ∷ []) answer work
-      (PowerRating.Refused Refusal.Reducible)
+      (Err Refusal.Reducible)
       answer
       work
   pub set_g : SetCall (GF 2) (x+1 ∷ []) (2 ∷ []) (1 ∷ 0 ∷ []) answer work
-      (record { outcome = SetOutcome.Rated 2 2 1; powers = 2 ∷ replicate 7 0 })
+      (rated_set 2 2 1 (2 ∷ replicate 7 0))
       (1 ∷ 0 ∷ 1 ∷ replicate 4096 7)
       cleared
   pub set_l : SetCall (GF 2) (x+1 ∷ []) (1 ∷ []) (1 ∷ 0 ∷ []) answer work
-      (record { outcome = SetOutcome.Refused Refusal.NotAnnihilated; powers = eight_zeros })
+      (Err Refusal.NotAnnihilated)
       answer
       cleared
   pub set_k : SetCall (GF 2) (x+1 ∷ x²+x+1 ∷ []) (1 ∷ 1 ∷ []) (0 ∷ 1 ∷ 1 ∷ []) answer work
-      (record { outcome = SetOutcome.Rated 2 3 2; powers = 0 ∷ 1 ∷ 0 ∷ 0 ∷ 0 ∷ 0 ∷ 0 ∷ 0 ∷ [] })
+      (rated_set 2 3 2 (0 ∷ 1 ∷ 0 ∷ 0 ∷ 0 ∷ 0 ∷ 0 ∷ 0 ∷ []))
       (1 ∷ 1 ∷ 1 ∷ replicate 4096 7)
       cleared
   pub set_nine : SetCall (GF 2) [] [] (0 ∷ []) answer work
-      (record { outcome = SetOutcome.Refused Refusal.FactorCount; powers = eight_zeros })
+      (Err Refusal.FactorCount)
       answer
       work
   pub free_h : FreeCall (GF 2) (1 ∷ 0 ∷ []) answer work
-      (FreeRating.Unique 1)
+      (Ok (FreeRating.Unique 1))
       (0 ∷ 1 ∷ replicate 4097 7)
       cleared
   pub free_i : FreeCall (GF 2) (0 ∷ 1 ∷ []) answer work
-      (FreeRating.Several 2)
+      (Ok (FreeRating.Several 2))
       (0 ∷ 0 ∷ 1 ∷ replicate 4096 7)
       cleared
   pub free_sixteen : FreeCall (GF 2) (0 ∷ 1 ∷ []) answer []
-      (FreeRating.Refused Refusal.LentTooShort)
+      (Err Refusal.LentTooShort)
       answer
       []
   pub continue_n : ContinueCall (GF 2) x²+x+1 (0 ∷ 1 ∷ []) (9 ∷ 9 ∷ 9 ∷ 9 ∷ []) 1
-      Filling.Filled
+      (Ok tt)
       (9 ∷ 0 ∷ 1 ∷ 1 ∷ [])
   pub continue_seven : ContinueCall (GF 2) x²+x+1 (0 ∷ 1 ∷ []) (9 ∷ 9 ∷ []) 2
-      (Filling.Refused Refusal.CountOutOfRange)
+      (Err Refusal.CountOutOfRange)
       (9 ∷ 9 ∷ [])
   pub rated_b : FileCall file_b answer work
-      (record { sender = 7; outcome = FileOutcome.Powers 4 4 1; powers = 4 ∷ 0 ∷ 0 ∷ 0 ∷ 0 ∷ 0 ∷ 0 ∷ 0 ∷ [] })
+      (record { sender = 7; outcome = Ok (FileOutcome.Powers 4 4 1 (4 ∷ 0 ∷ 0 ∷ 0 ∷ 0 ∷ 0 ∷ 0 ∷ 0 ∷ [])) })
       (1 ∷ 0 ∷ 0 ∷ 0 ∷ 1 ∷ replicate 4094 7)
       cleared
   pub rated_twice : FileCall file_twice answer work
-      (record { sender = 7; outcome = FileOutcome.Powers 2 2 1; powers = 2 ∷ replicate 7 0 })
+      (record { sender = 7; outcome = Ok (FileOutcome.Powers 2 2 1 (2 ∷ replicate 7 0)) })
       (1 ∷ 0 ∷ 1 ∷ replicate 4096 7)
       cleared
   pub rated_a : FileCall file_a answer work
-      (record { sender = 7; outcome = FileOutcome.Powers 12 18 1; powers = 4 ∷ replicate 7 0 })
+      (record { sender = 7; outcome = Ok (FileOutcome.Powers 12 18 1 (4 ∷ replicate 7 0)) })
       (1 ∷ 0 ∷ 0 ∷ 0 ∷ 1 ∷ 0 ∷ 0 ∷ 0 ∷ 0 ∷ 0 ∷ 0 ∷ 0 ∷ 1 ∷ replicate 4086 7)
       cleared
   pub rated_h : FileCall file_h answer work
-      (record { sender = 7; outcome = FileOutcome.Unique 1 2; powers = eight_zeros })
+      (record { sender = 7; outcome = Ok (FileOutcome.Unique 1 2) })
       ((0 ∷ 1 ∷ []) ++ replicate 4097 7)
       cleared
   pub rated_i : FileCall file_i answer work
-      (record { sender = 7; outcome = FileOutcome.Several 2 2; powers = eight_zeros })
+      (record { sender = 7; outcome = Ok (FileOutcome.Several 2 2) })
       (0 ∷ 0 ∷ 1 ∷ replicate 4096 7)
       cleared
   pub rated_four : FileCall (box 7 ++ end) answer work
-      (record { sender = 7; outcome = FileOutcome.Refused Refusal.RecordOutOfPlace; powers = eight_zeros })
+      (record { sender = 7; outcome = Err Refusal.RecordOutOfPlace })
       answer
       work
-  pub record_two : RecordCall file_b 2 (RecordOutcome.Found 3) (1 ∷ [])
-  pub record_refused : RecordCall (box 7) 0 (RecordOutcome.Refused Refusal.FileCutShort) []
+  pub record_two : RecordCall file_b 2 (Ok 3) (1 ∷ [])
+  pub record_refused : RecordCall (box 7) 0 (Err Refusal.FileCutShort) []
   pub program_a : ProgramCall file_a
       (text "box result density powers\n7 ok 12/18 4\npoly 1 0 0 0 1 0 0 0 0 0 0 0 1\n")
   pub program_h : ProgramCall file_h (text "box result density powers\n7 ok 1/2 one\npoly 0 1\n")

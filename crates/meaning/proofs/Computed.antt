@@ -50,7 +50,8 @@ use Rattle.meaning.specs.Print.{text, digits, decimal, joined, line, header, lab
 use Rattle.meaning.specs.Print.{result_line, poly_line, report, printed}
 use Rattle.meaning.specs.Answers.{number_of, told_irreducible, told_filling, told_power, told_free, told_set}
 use Rattle.meaning.specs.Answers.{set_figures_told, told_file, label_told, file_figures_told, told_record}
-use Rattle.meaning.specs.Answers.{padded, set_padded, label_powers, file_padded}
+use Rattle.meaning.specs.Answers.{padded, set_padded, label_powers, file_padded, told, free_figures_of}
+use Rattle.meaning.specs.Answers.{set_places, file_told_of, file_places}
 use Rattle.meaning.specs.Calls.{buffer_after, body_after}
 use Rattle.meaning.specs.Exports.{version, named_by, status_of, period_told, set_told, word_number, free_told}
 use Rattle.meaning.specs.Exports.{entry_told, answer_told, body_start, record_told}
@@ -187,7 +188,10 @@ unfolding number_of told_irreducible told_filling told_power told_free told_set 
 open_answers-1 = tt
 
 unfoldable pub open_answers-2 : Unit {0}
-unfolding file_figures_told told_record padded set_padded label_powers file_padded
+unfolding file_figures_told told_record padded set_padded label_powers file_padded told free_figures_of
+    set_places
+    file_told_of
+    file_places
 open_answers-2 = tt
 
 unfoldable pub open_calls : Unit {0}

@@ -16,19 +16,14 @@ use lib.Dec.{T, eqb}
 use borrow.Author.Tests.{eqb-true}
 use Rattle.meaning.specs.declared.FieldName.{FieldName}
 use Rattle.meaning.specs.declared.Refusal.{Refusal}
-use Rattle.meaning.specs.declared.Irreducibility.{Irreducibility}
 use Rattle.meaning.specs.declared.PowerRating.{PowerRating}
-use Rattle.meaning.specs.declared.SetOutcome.{SetOutcome}
 use Rattle.meaning.specs.declared.SetRating.{SetRating}
 use Rattle.meaning.specs.declared.FreeRating.{FreeRating}
 use Rattle.meaning.specs.declared.Meter.{Meter}
-use Rattle.meaning.specs.declared.MeterStart.{MeterStart}
 use Rattle.meaning.specs.declared.MeterStep.{MeterStep}
 use Rattle.meaning.specs.declared.EntryRating.{EntryRating}
-use Rattle.meaning.specs.declared.Filling.{Filling}
 use Rattle.meaning.specs.declared.FileOutcome.{FileOutcome}
 use Rattle.meaning.specs.declared.FileRating.{FileRating}
-use Rattle.meaning.specs.declared.RecordOutcome.{RecordOutcome}
 use Rattle.meaning.specs.declared.Refusal.TheVariants.{FileTooLong, UnknownKind, FileCutShort}
 use Rattle.meaning.specs.declared.Refusal.TheVariants.{RecordOutOfPlace, ModeUnsuited, NotPrime}
 use Rattle.meaning.specs.declared.Refusal.TheVariants.{CountOutOfRange, TermOutOfField, FactorCount}
@@ -40,16 +35,16 @@ use Rattle.meaning.specs.declared.Refusal.TheVariants.{NoEntry, NotBinaryField}
 use Rattle.meaning.specs.Search.{map_option, holds_for_all}
 use Rattle.meaning.specs.Route.{look_up}
 use Rattle.meaning.specs.Result.{Result, refused, answered, Rated}
-use Rattle.meaning.specs.Power.{PowerFigures}
 use Rattle.meaning.specs.Free.{FreeFigures}
 use Rattle.meaning.specs.Meter.{MeterModel, Holding}
-use Rattle.meaning.specs.Catalogue.{EntryFigures}
 use Rattle.meaning.specs.Calls.{LentAfter, IrreducibleCall, PeriodCall, SetCall}
 use Rattle.meaning.specs.Calls.{FreeCall, StartCall, TermCall, ReadingCall, ContinueCall, FileCall}
 use Rattle.meaning.specs.Calls.{EntryCall, CatalogueCall}
 use Rattle.meaning.specs.Calls.{RecordCall}
 use Rattle.meaning.specs.Answers.{number_of, told_irreducible, told_filling, told_power, told_free, SetTold}
-use Rattle.meaning.specs.Answers.{told_start, told_entry, told_set}
+use Rattle.meaning.specs.Answers.{told_start, told_entry, told_set, Reply, told, free_figures_of, set_places}
+use Rattle.meaning.specs.Answers.{file_places, file_told_of}
+use Rattle.std.specs.Prelude.{Ok, Err}
 use Rattle.meaning.specs.Answers.{FileTold, with_powers, with_one, with_some, told_file, told_record}
 
 unfoldable pub refusals : List (ℕ × Refusal)
@@ -139,112 +134,105 @@ determined : {A B : Type 0} (f : A → B) (g : B → Option A) → ((a : A) → 
     → a ≡ b
 determined f g back a b e = some_same a b (sym (back a) ∙ ap g e ∙ back b)
 
--- the answer that a refusal by number tells
-refusing : {A : Type 0} → (Refusal → A) → ℕ → Option A
-refusing f n = map_option f (refusal_of n)
+-- the reply that tells a result, where g undoes what is told of its value
+reply : {A B : Type 0} → (B → Option A) → Result B → Option (Reply A)
+reply g (refused n) = map_option Err (refusal_of n)
+reply g (answered b) = map_option Ok (g b)
 
-refusing-number : {A : Type 0} (f : Refusal → A) (r : Refusal) → refusing f (number_of r) ≡ some (f r)
-unfolding refusing map_option
-refusing-number f r = ap (map_option f) (refusal_number r)
+reply-told : {A B : Type 0} (f : A → B) (g : B → Option A) → ((a : A) → g (f a) ≡ some a)
+    → (r : Reply A)
+    → reply g (told f r) ≡ some r
+unfolding told reply map_option
+reply-told f g back (Ok a) = ap (map_option Ok) (back a)
+reply-told f g back (Err r) = ap (map_option Err) (refusal_number r)
 
-irreducibility : Result Bool → Option Irreducibility
-irreducibility (refused n) = refusing Irreducibility.Refused n
-irreducibility (answered b) =
-    elim b [ true ↦ some Irreducibility.Irreducible | false ↦ some Irreducibility.HasFactors ]
+-- two replies that tell the same are the same
+pub told-determined : {A B : Type 0} (f : A → B) (g : B → Option A) → ((a : A) → g (f a) ≡ some a)
+    → (r s : Reply A)
+    → told f r ≡ told f s
+    → r ≡ s
+told-determined f g back = determined (told f) (reply g) (reply-told f g back)
 
-irreducibility-told : (r : Irreducibility) → irreducibility (told_irreducible r) ≡ some r
-unfolding irreducibility told_irreducible
-irreducibility-told Irreducibility.Irreducible = refl
-irreducibility-told Irreducibility.HasFactors = refl
-irreducibility-told (Irreducibility.Refused r) = refusing-number Irreducibility.Refused r
+themselves-determined : {A : Type 0} (r s : Reply A) → told (λ a. a) r ≡ told (λ a. a) s → r ≡ s
+themselves-determined = told-determined (λ a. a) some (λ a. refl)
 
-pub irreducible-determined : (r s : Irreducibility) → told_irreducible r ≡ told_irreducible s → r ≡ s
-irreducible-determined = determined told_irreducible irreducibility irreducibility-told
+pub irreducible-determined : (r s : Reply Bool) → told_irreducible r ≡ told_irreducible s → r ≡ s
+unfolding told_irreducible
+irreducible-determined = themselves-determined
 
-filling : Result (Unit {0}) → Option Filling
-filling (refused n) = refusing Filling.Refused n
-filling (answered u) = some Filling.Filled
+pub filling-determined : (r s : Reply (Unit {0})) → told_filling r ≡ told_filling s → r ≡ s
+unfolding told_filling
+filling-determined = themselves-determined
 
-filling-told : (r : Filling) → filling (told_filling r) ≡ some r
-unfolding filling told_filling
-filling-told Filling.Filled = refl
-filling-told (Filling.Refused r) = refusing-number Filling.Refused r
+pub start-determined : (r s : Reply Meter) → told_start r ≡ told_start s → r ≡ s
+unfolding told_start
+start-determined = themselves-determined
 
-pub filling-determined : (r s : Filling) → told_filling r ≡ told_filling s → r ≡ s
-filling-determined = determined told_filling filling filling-told
+pub record_determined : (r s : Reply ℕ) → told_record r ≡ told_record s → r ≡ s
+unfolding told_record
+record_determined = themselves-determined
 
-power : Result PowerFigures → Option PowerRating
-power (refused n) = refusing PowerRating.Refused n
-power (answered a) = some (PowerRating.Rated a.power a.degree a.repeat)
+pub power-determined : (r s : Reply PowerRating) → told_power r ≡ told_power s → r ≡ s
+unfolding told_power
+power-determined =
+    told-determined _ (λ a. some (record { power = a.power; degree = a.degree; repeat = a.repeat }))
+    (λ a. refl)
 
-power-told : (r : PowerRating) → power (told_power r) ≡ some r
-unfolding power told_power
-power-told (PowerRating.Rated r d n) = refl
-power-told (PowerRating.Refused r) = refusing-number PowerRating.Refused r
+pub entry-determined : (r s : Reply EntryRating) → told_entry r ≡ told_entry s → r ≡ s
+unfolding told_entry
+entry-determined = told-determined _ (λ a. some (record { entry = a.entry; power = a.power })) (λ a. refl)
 
-pub power-determined : (r s : PowerRating) → told_power r ≡ told_power s → r ≡ s
-power-determined = determined told_power power power-told
+free_of : FreeFigures → Option FreeRating
+free_of a = elim a.unique [
+  | true ↦ some (FreeRating.Unique a.degree)
+  | false ↦ some (FreeRating.Several a.degree)
+]
 
-set : Result SetTold → Option SetOutcome
-set (refused n) = refusing SetOutcome.Refused n
-set (answered a) = some (SetOutcome.Rated a.degree a.repeat a.count)
+free_of-figures : (r : FreeRating) → free_of (free_figures_of r) ≡ some r
+unfolding free_of free_figures_of
+free_of-figures (FreeRating.Unique d) = refl
+free_of-figures (FreeRating.Several d) = refl
 
-set_told : (r : SetOutcome) → set (told_set r) ≡ some r
-unfolding set told_set
-set_told (SetOutcome.Rated d m n) = refl
-set_told (SetOutcome.Refused r) = refusing-number SetOutcome.Refused r
+pub free-determined : (r s : Reply FreeRating) → told_free r ≡ told_free s → r ≡ s
+unfolding told_free
+free-determined = told-determined free_figures_of free_of free_of-figures
 
-pub set-determined : (r s : SetOutcome) → told_set r ≡ told_set s → r ≡ s
-set-determined = determined told_set set set_told
+-- of a set and of a file the eight powers stand beside what is told
+set_of : Result SetTold × List ℕ → Option (Reply SetRating)
+set_of (refused n, rs) = map_option Err (refusal_of n)
+set_of (answered a, rs) =
+    some (Ok (record { degree = a.degree; repeat = a.repeat; count = a.count; powers = rs }))
 
-free : Result FreeFigures → Option FreeRating
-free (refused n) = refusing FreeRating.Refused n
-free (answered a) =
-    elim a.unique [
-      | true ↦ some (FreeRating.Unique a.degree)
-      | false ↦ some (FreeRating.Several a.degree)
-    ]
+set_of-told : (r : Reply SetRating) → set_of (told_set r, set_places r) ≡ some r
+unfolding set_of told_set told set_places map_option
+set_of-told (Ok a) = refl
+set_of-told (Err r) = ap (map_option Err) (refusal_number r)
 
-free-told : (r : FreeRating) → free (told_free r) ≡ some r
-unfolding free told_free
-free-told (FreeRating.Unique d) = refl
-free-told (FreeRating.Several d) = refl
-free-told (FreeRating.Refused r) = refusing-number FreeRating.Refused r
+pub set-determined : (r s : Reply SetRating) → told_set r ≡ told_set s → set_places r ≡ set_places s → r ≡ s
+set-determined r s e f =
+    determined (λ r. (told_set r, set_places r)) set_of set_of-told r s (λ i. (e i, f i))
 
-pub free-determined : (r s : FreeRating) → told_free r ≡ told_free s → r ≡ s
-free-determined = determined told_free free free-told
+file_of : Result FileTold × List ℕ → Option (Reply FileOutcome)
+file_of (refused n, rs) = map_option Err (refusal_of n)
+file_of (answered (with_powers d m n), rs) = some (Ok (FileOutcome.Powers d m n rs))
+file_of (answered (with_one d m), rs) = some (Ok (FileOutcome.Unique d m))
+file_of (answered (with_some d m), rs) = some (Ok (FileOutcome.Several d m))
 
-file : Result FileTold → Option FileOutcome
-file (refused n) = refusing FileOutcome.Refused n
-file (answered (with_powers d m n)) = some (FileOutcome.Powers d m n)
-file (answered (with_one d m)) = some (FileOutcome.Unique d m)
-file (answered (with_some d m)) = some (FileOutcome.Several d m)
+file_of-told : (r : Reply FileOutcome) → file_of (told_file r, file_places r) ≡ some r
+unfolding file_of told_file file_told_of told file_places map_option
+file_of-told (Ok (FileOutcome.Powers d m n rs)) = refl
+file_of-told (Ok (FileOutcome.Unique d m)) = refl
+file_of-told (Ok (FileOutcome.Several d m)) = refl
+file_of-told (Err r) = ap (map_option Err) (refusal_number r)
 
-file-told : (r : FileOutcome) → file (told_file r) ≡ some r
-unfolding file told_file
-file-told (FileOutcome.Powers d m n) = refl
-file-told (FileOutcome.Unique d m) = refl
-file-told (FileOutcome.Several d m) = refl
-file-told (FileOutcome.Refused r) = refusing-number FileOutcome.Refused r
-
-pub file-determined : (r s : FileOutcome) → told_file r ≡ told_file s → r ≡ s
-file-determined = determined told_file file file-told
-
-found : Result ℕ → Option RecordOutcome
-found (refused n) = refusing RecordOutcome.Refused n
-found (answered k) = some (RecordOutcome.Found k)
-
-found-told : (r : RecordOutcome) → found (told_record r) ≡ some r
-unfolding found told_record
-found-told (RecordOutcome.Found k) = refl
-found-told (RecordOutcome.Refused r) = refusing-number RecordOutcome.Refused r
-
-pub record_determined : (r s : RecordOutcome) → told_record r ≡ told_record s → r ≡ s
-record_determined = determined told_record found found-told
+pub file-determined : (r s : Reply FileOutcome) → told_file r ≡ told_file s → file_places r ≡ file_places s
+    → r ≡ s
+file-determined r s e f =
+    determined (λ r. (told_file r, file_places r)) file_of file_of-told r s (λ i. (e i, f i))
 
 -- The calls: two runs on the same input agree.
 pub irreducible_call_determined :
-    {name : FieldName} {f : List ℕ} {r s : Irreducibility}
+    {name : FieldName} {f : List ℕ} {r s : Reply Bool}
     → IrreducibleCall name f r
     → IrreducibleCall name f s
     → r ≡ s
@@ -259,7 +247,7 @@ pub lent-determined :
 lent-determined c d = (c.answer_bytes ∙ sym d.answer_bytes, c.work_bytes ∙ sym d.work_bytes)
 
 pub period_call_determined :
-    {name : FieldName} {f ts answer work a b w x : List ℕ} {r s : PowerRating}
+    {name : FieldName} {f ts answer work a b w x : List ℕ} {r s : Reply PowerRating}
     → PeriodCall name f ts answer work r a w
     → PeriodCall name f ts answer work s b x
     → (r ≡ s) × ((a ≡ b) × (w ≡ x))
@@ -267,39 +255,30 @@ period_call_determined {r = r} {s = s} c d =
     (power-determined r s (c.rating ∙ sym d.rating), lent-determined c.lent d.lent)
 
 pub set_call_determined :
-    {name : FieldName} {fs : List (List ℕ)} {vs ts answer work a b w x : List ℕ} {r s : SetRating}
+    {name : FieldName} {fs : List (List ℕ)} {vs ts answer work a b w x : List ℕ} {r s : Reply SetRating}
     → SetCall name fs vs ts answer work r a w
     → SetCall name fs vs ts answer work s b x
     → (r ≡ s) × ((a ≡ b) × (w ≡ x))
-set_call_determined {r = r} {s = s} c d =
-    let outcomes = set-determined r.outcome s.outcome (c.rating ∙ sym d.rating) in
-    let places = c.powers ∙ sym d.powers in
-    (λ i. record { outcome = outcomes i; powers = places i }, lent-determined c.lent d.lent)
+set_call_determined {r = r} {s = s} c d = (
+  set-determined r s (c.rating ∙ sym d.rating) (c.powers ∙ sym d.powers),
+  lent-determined c.lent d.lent,
+)
 
 pub free_call_determined :
-    {name : FieldName} {ts answer work a b w x : List ℕ} {r s : FreeRating}
+    {name : FieldName} {ts answer work a b w x : List ℕ} {r s : Reply FreeRating}
     → FreeCall name ts answer work r a w
     → FreeCall name ts answer work s b x
     → (r ≡ s) × ((a ≡ b) × (w ≡ x))
 free_call_determined {r = r} {s = s} c d =
     (free-determined r s (c.rating ∙ sym d.rating), lent-determined c.lent d.lent)
 
-start : Result Meter → Option MeterStart
-start (refused n) = refusing MeterStart.Refused n
-start (answered m) = some (MeterStart.Started m)
-
-start-told : (r : MeterStart) → start (told_start r) ≡ some r
-unfolding start told_start
-start-told (MeterStart.Started m) = refl
-start-told (MeterStart.Refused r) = refusing-number MeterStart.Refused r
-
 pub start_call_determined :
-    {model : MeterModel} {name : FieldName} {work w x : List ℕ} {r s : MeterStart}
+    {model : MeterModel} {name : FieldName} {work w x : List ℕ} {r s : Reply Meter}
     → StartCall model name work r w
     → StartCall model name work s x
     → (r ≡ s) × (w ≡ x)
 start_call_determined {r = r} {s = s} c d = (
-  determined told_start start start-told r s (c.starting ∙ sym d.starting),
+  start-determined r s (c.starting ∙ sym d.starting),
   c.work_bytes ∙ sym d.work_bytes,
 )
 
@@ -321,7 +300,7 @@ term_call_determined {name = name} {ts = ts} {r = r} {s = s} h c d =
     )
 
 pub reading_call_determined :
-    {model : MeterModel} {name : FieldName} {ts terms work : List ℕ} {m : Meter} {r s : FreeRating}
+    {model : MeterModel} {name : FieldName} {ts terms work : List ℕ} {m : Meter} {r s : Reply FreeRating}
     → Holding model name ts m terms work
     → ReadingCall model m r
     → ReadingCall model m s
@@ -329,22 +308,13 @@ pub reading_call_determined :
 reading_call_determined {name = name} {ts = ts} {terms = terms} {work = work} {r = r} {s = s} h c d =
     free-determined r s (c.reading name ts terms work h ∙ sym (d.reading name ts terms work h))
 
-entry : Result EntryFigures → Option EntryRating
-entry (refused n) = refusing EntryRating.Refused n
-entry (answered a) = some (EntryRating.Found a.entry a.power)
-
-entry-told : (r : EntryRating) → entry (told_entry r) ≡ some r
-unfolding entry told_entry
-entry-told (EntryRating.Found n r) = refl
-entry-told (EntryRating.Refused r) = refusing-number EntryRating.Refused r
-
 pub entry_call_determined :
-    {ts work w x : List ℕ} {r s : EntryRating}
+    {ts work w x : List ℕ} {r s : Reply EntryRating}
     → EntryCall ts work r w
     → EntryCall ts work s x
     → (r ≡ s) × (w ≡ x)
 entry_call_determined {r = r} {s = s} c d = (
-  determined told_entry entry entry-told r s (c.finding ∙ sym d.finding),
+  entry-determined r s (c.finding ∙ sym d.finding),
   c.work_bytes ∙ sym d.work_bytes,
 )
 
@@ -352,7 +322,7 @@ pub catalogue_call_determined : {i r s : ℕ} → CatalogueCall i r → Catalogu
 catalogue_call_determined c d = c.answer ∙ sym d.answer
 
 pub continue_call_determined :
-    {name : FieldName} {g start buffer : List ℕ} {place : ℕ} {b c : List ℕ} {r s : Filling}
+    {name : FieldName} {g start buffer : List ℕ} {place : ℕ} {b c : List ℕ} {r s : Reply (Unit {0})}
     → ContinueCall name g start buffer place r b
     → ContinueCall name g start buffer place s c
     → (r ≡ s) × (b ≡ c)
@@ -366,14 +336,11 @@ pub file_call_determined :
     → (r ≡ s) × ((a ≡ b) × (w ≡ x))
 file_call_determined {r = r} {s = s} c d =
     let senders = c.sender ∙ sym d.sender in
-    let outcomes = file-determined r.outcome s.outcome (c.rating ∙ sym d.rating) in
-    let places = c.powers ∙ sym d.powers in (
-      λ i. record { sender = senders i; outcome = outcomes i; powers = places i },
-      lent-determined c.lent d.lent,
-    )
+    let outcomes = file-determined r.outcome s.outcome (c.rating ∙ sym d.rating) (c.powers ∙ sym d.powers) in
+    (λ i. record { sender = senders i; outcome = outcomes i }, lent-determined c.lent d.lent)
 
 pub record_call_determined :
-    {input : List ℕ} {n : ℕ} {r s : RecordOutcome} {a b : List ℕ}
+    {input : List ℕ} {n : ℕ} {r s : Reply ℕ} {a b : List ℕ}
     → RecordCall input n r a
     → RecordCall input n s b
     → (r ≡ s) × (a ≡ b)

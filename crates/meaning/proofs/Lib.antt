@@ -22,3 +22,4 @@ pub mod CallRows
 pub mod WrongRaters
 pub mod Stretches
 pub mod Slices
+pub mod Replies

@@ -21,10 +21,11 @@ use lib.ListN.{length, replicate}
 use lib.Dec.{lit≤, T}
 use Rattle.meaning.specs.declared.FieldName.{FieldName}
 use Rattle.meaning.specs.declared.Refusal.{Refusal}
-use Rattle.meaning.specs.declared.PowerRating.{PowerRating}
 use Rattle.meaning.specs.declared.SetRating.{SetRating}
-use Rattle.meaning.specs.declared.SetOutcome.{SetOutcome}
 use Rattle.meaning.specs.declared.FreeRating.{FreeRating}
+use Rattle.meaning.proofs.CallRows.{rated_period, rated_set}
+use Rattle.meaning.specs.Answers.{Reply}
+use Rattle.std.specs.Prelude.{Ok, Err}
 use Rattle.meaning.specs.Search.{holds_for_some}
 use Rattle.meaning.specs.Field.{prime}
 use Rattle.meaning.specs.Extension.{binary}
@@ -65,12 +66,11 @@ unfolding computed
 lent = tt
 
 -- what the set way answers with one factor
-abbrev pub rated : (degree repeat power : ℕ) → SetRating
-rated d n r = record { outcome = SetOutcome.Rated d n 1; powers = r ∷ 0 ∷ 0 ∷ 0 ∷ 0 ∷ 0 ∷ 0 ∷ 0 ∷ [] }
+abbrev pub rated : (degree repeat power : ℕ) → Reply SetRating
+rated d n r = rated_set d n 1 (r ∷ 0 ∷ 0 ∷ 0 ∷ 0 ∷ 0 ∷ 0 ∷ 0 ∷ [])
 
-abbrev pub too_few_terms : SetRating
-too_few_terms =
-    record { outcome = SetOutcome.Refused Refusal.TooFewTerms; powers = 0 ∷ 0 ∷ 0 ∷ 0 ∷ 0 ∷ 0 ∷ 0 ∷ 0 ∷ [] }
+abbrev pub too_few_terms : Reply SetRating
+too_few_terms = Err Refusal.TooFewTerms
 
 -- THE FACTOR x + 1
 abbrev pub factors : List Polynomial
@@ -122,12 +122,12 @@ alternating-set =
     record { rating = refl; powers = refl; lent = record { answer_bytes = refl; work_bytes = refl } }
 
 pub alternating-period :
-    PeriodCall (GF 2) x+1 (cut alternating 3 2) answer work (PowerRating.Rated 2 2 2) after-x²+1 clean
+    PeriodCall (GF 2) x+1 (cut alternating 3 2) answer work (rated_period 2 2 2) after-x²+1 clean
 unfolding computed alternating
 alternating-period = record { rating = refl; lent = record { answer_bytes = refl; work_bytes = refl } }
 
 pub alternating-free :
-    FreeCall (GF 2) (cut alternating 1 4) answer work (FreeRating.Unique 2) after-x²+1 clean
+    FreeCall (GF 2) (cut alternating 1 4) answer work (Ok (FreeRating.Unique 2)) after-x²+1 clean
 unfolding computed alternating
 alternating-free = record { rating = refl; lent = record { answer_bytes = refl; work_bytes = refl } }
 
@@ -231,6 +231,6 @@ pub three-second : Fits (prime 2) three 2 (1 ∷ 0 ∷ 1 ∷ [])
 unfolding computed
 three-second = record { monic = tt; of_degree = refl; annihilates = tt }
 
-pub three-free : FreeCall (GF 2) three answer work (FreeRating.Several 2) after_x² clean
+pub three-free : FreeCall (GF 2) three answer work (Ok (FreeRating.Several 2)) after_x² clean
 unfolding computed
 three-free = record { rating = refl; lent = record { answer_bytes = refl; work_bytes = refl } }

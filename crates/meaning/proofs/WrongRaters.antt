@@ -10,7 +10,6 @@ use mathlib.Core.List.{List, [], ◌∷◌, ◌++◌}
 use lib.ListN.{replicate, get_or}
 use Rattle.meaning.specs.declared.Refusal.{Refusal}
 use Rattle.meaning.specs.declared.PowerRating.{PowerRating}
-use Rattle.meaning.specs.declared.SetOutcome.{SetOutcome}
 use Rattle.meaning.specs.declared.FreeRating.{FreeRating}
 use Rattle.meaning.specs.declared.FileOutcome.{FileOutcome}
 use Rattle.meaning.specs.Polynomial.{Polynomial}
@@ -23,6 +22,10 @@ use Rattle.meaning.specs.Calls.{PeriodCall, SetCall, FreeCall, FileCall, Program
 use Rattle.meaning.proofs.Computed.{GF, computed}
 use Rattle.meaning.proofs.Rows.{x+1, x²+1, x²+x+1}
 use Rattle.meaning.proofs.CallRows.{answer, work, file_a, file_twice, file_h, file_i, eight_zeros, differ}
+use Rattle.meaning.proofs.CallRows.{rated_period, rated_set}
+use Rattle.meaning.specs.declared.SetRating.{SetRating}
+use Rattle.meaning.specs.Answers.{Reply}
+use Rattle.std.specs.Prelude.{Ok, Err}
 
 -- THE PERIOD AND THE FREE CALL, on row B (a period, with x + 1) and row E
 
@@ -30,41 +33,41 @@ abbrev x+2 : Polynomial
 x+2 = 2 ∷ 1 ∷ []
 
 -- what a wrong rater answers on row B; the bytes afterwards may be any
-abbrev WrongOnB : PowerRating → Type 0
+abbrev WrongOnB : Reply PowerRating → Type 0
 WrongOnB r = (answer' work' : List ℕ) → PeriodCall (GF 2) x+1 (0 ∷ 0 ∷ 0 ∷ 1 ∷ []) answer work r answer' work'
     → ⊥
 
 pub record WrongRaters : Type 0 where
   -- finds the top digit of r − 1 = 11 (base 2) and invents the other
-  pub top_digit_only : WrongOnB (PowerRating.Rated 3 3 4)
-  pub invented_power : WrongOnB (PowerRating.Rated 5 5 8)
-  pub invented_repeat : WrongOnB (PowerRating.Rated 4 4 5)
+  pub top_digit_only : WrongOnB (rated_period 3 3 4)
+  pub invented_power : WrongOnB (rated_period 5 5 8)
+  pub invented_repeat : WrongOnB (rated_period 4 4 5)
   -- tells twice the period on row E: a number of terms after which it repeats, not the least
   pub repeat_not_least : (answer' work' : List ℕ)
-      → PeriodCall (GF 3) x+2 (0 ∷ 1 ∷ 2 ∷ []) answer work (PowerRating.Rated 2 2 6) answer' work'
+      → PeriodCall (GF 3) x+2 (0 ∷ 1 ∷ 2 ∷ []) answer work (rated_period 2 2 6) answer' work'
       → ⊥
-  pub seventeen_for_all : WrongOnB (PowerRating.Refused Refusal.NotAnnihilated)
-  pub one_for_all : WrongOnB (PowerRating.Rated 0 0 1)
-  pub refuses_all : WrongOnB (PowerRating.Refused Refusal.NotPrime)
+  pub seventeen_for_all : WrongOnB (Err Refusal.NotAnnihilated)
+  pub one_for_all : WrongOnB (rated_period 0 0 1)
+  pub refuses_all : WrongOnB (Err Refusal.NotPrime)
   -- tells the right figures and writes nothing, or something else
   pub nothing_written : (work' : List ℕ)
-      → PeriodCall (GF 2) x+1 (0 ∷ 0 ∷ 0 ∷ 1 ∷ []) answer work (PowerRating.Rated 4 4 4) answer work'
+      → PeriodCall (GF 2) x+1 (0 ∷ 0 ∷ 0 ∷ 1 ∷ []) answer work (rated_period 4 4 4) answer work'
       → ⊥
   pub work_not_cleared : (answer' : List ℕ)
-      → PeriodCall (GF 2) x+1 (0 ∷ 0 ∷ 0 ∷ 1 ∷ []) answer work (PowerRating.Rated 4 4 4) answer' work
+      → PeriodCall (GF 2) x+1 (0 ∷ 0 ∷ 0 ∷ 1 ∷ []) answer work (rated_period 4 4 4) answer' work
       → ⊥
   pub refused_and_written : (answer' work' : List ℕ)
       → answer' ≡ 1 ∷ replicate 4098 7
-      → PeriodCall (GF 2) x²+1 (0 ∷ []) answer work (PowerRating.Refused Refusal.Reducible) answer' work'
+      → PeriodCall (GF 2) x²+1 (0 ∷ []) answer work (Err Refusal.Reducible) answer' work'
       → ⊥
   -- answers row H with x², which fits the two terms, but with a degree that is not the least
   pub degree_not_least : (answer' work' : List ℕ)
-      → FreeCall (GF 2) (1 ∷ 0 ∷ []) answer work (FreeRating.Several 2) answer' work'
+      → FreeCall (GF 2) (1 ∷ 0 ∷ []) answer work (Ok (FreeRating.Several 2)) answer' work'
       → ⊥
   -- answers row I with x² + 1, which fits the two terms, but x² comes before it
   pub later_one : (answer' work' : List ℕ)
       → answer' ≡ 1 ∷ 0 ∷ 1 ∷ replicate 4096 7
-      → FreeCall (GF 2) (0 ∷ 1 ∷ []) answer work (FreeRating.Several 2) answer' work'
+      → FreeCall (GF 2) (0 ∷ 1 ∷ []) answer work (Ok (FreeRating.Several 2)) answer' work'
       → ⊥
 
 -- a figure of a result, 1000 where it is refused
@@ -116,43 +119,40 @@ x³+x+1 = 1 ∷ 1 ∷ 0 ∷ 1 ∷ []
 abbrev first : ℕ → List ℕ
 first r = r ∷ replicate 7 0
 
-abbrev SetA : SetOutcome → List ℕ → List ℕ → List ℕ → Type 0
-SetA o eight answer' work' =
-    SetCall (GF 2) (x³+x+1 ∷ []) (6 ∷ []) terms_a answer work (record { outcome = o; powers = eight }) answer'
-    work'
+abbrev SetA : Reply SetRating → List ℕ → List ℕ → Type 0
+SetA r answer' work' = SetCall (GF 2) (x³+x+1 ∷ []) (6 ∷ []) terms_a answer work r answer' work'
 
-abbrev WrongSetOnA : SetOutcome → List ℕ → Type 0
-WrongSetOnA o eight = (answer' work' : List ℕ) → SetA o eight answer' work' → ⊥
+abbrev WrongSetOnA : Reply SetRating → Type 0
+WrongSetOnA r = (answer' work' : List ℕ) → SetA r answer' work' → ⊥
 
-abbrev WrongSetOnK : SetOutcome → List ℕ → Type 0
-WrongSetOnK o eight =
+abbrev WrongSetOnK : Reply SetRating → Type 0
+WrongSetOnK r =
     (answer' work' : List ℕ)
-    → SetCall (GF 2) (x+1 ∷ x²+x+1 ∷ []) (1 ∷ 1 ∷ []) (0 ∷ 1 ∷ 1 ∷ []) answer work
-    (record { outcome = o; powers = eight }) answer' work'
+    → SetCall (GF 2) (x+1 ∷ x²+x+1 ∷ []) (1 ∷ 1 ∷ []) (0 ∷ 1 ∷ 1 ∷ []) answer work r answer' work'
     → ⊥
 
 pub record WrongSets : Type 0 where
-  pub top_digit_only : WrongSetOnA (SetOutcome.Rated 9 28 1) (first 3)
+  pub top_digit_only : WrongSetOnA (rated_set 9 28 1 (first 3))
   -- returns the product of the upper powers
-  pub upper_powers : WrongSetOnA (SetOutcome.Rated 18 56 1) (first 6)
-  pub both_upper_powers : WrongSetOnK (SetOutcome.Rated 3 3 2) (1 ∷ first 1)
+  pub upper_powers : WrongSetOnA (rated_set 18 56 1 (first 6))
+  pub both_upper_powers : WrongSetOnK (rated_set 3 3 2 (1 ∷ first 1))
   -- tells another power beside the right degree; the powers in the other order
-  pub invented_power : WrongSetOnA (SetOutcome.Rated 12 28 1) (first 5)
-  pub powers_exchanged : WrongSetOnK (SetOutcome.Rated 2 3 2) (1 ∷ replicate 7 0)
+  pub invented_power : WrongSetOnA (rated_set 12 28 1 (first 5))
+  pub powers_exchanged : WrongSetOnK (rated_set 2 3 2 (1 ∷ replicate 7 0))
   -- tells the repeat length of the upper power, none with one factor, none with two, twice it
-  pub repeat_of_the_upper_power : WrongSetOnA (SetOutcome.Rated 12 56 1) (first 4)
-  pub no_repeat_with_one : WrongSetOnA (SetOutcome.Rated 12 0 1) (first 4)
-  pub no_repeat_with_several : WrongSetOnK (SetOutcome.Rated 2 0 2) (0 ∷ first 1)
-  pub repeat_not_least : WrongSetOnK (SetOutcome.Rated 2 6 2) (0 ∷ first 1)
-  pub seventeen_for_all : WrongSetOnA (SetOutcome.Refused Refusal.NotAnnihilated) eight_zeros
-  pub one_for_all : WrongSetOnA (SetOutcome.Rated 0 1 1) eight_zeros
-  pub refuses_all : WrongSetOnA (SetOutcome.Refused Refusal.NotPrime) eight_zeros
-  pub nothing_written : (work' : List ℕ) → SetA (SetOutcome.Rated 12 28 1) (first 4) answer work' → ⊥
-  pub work_not_cleared : (answer' : List ℕ) → SetA (SetOutcome.Rated 12 28 1) (first 4) answer' work → ⊥
+  pub repeat_of_the_upper_power : WrongSetOnA (rated_set 12 56 1 (first 4))
+  pub no_repeat_with_one : WrongSetOnA (rated_set 12 0 1 (first 4))
+  pub no_repeat_with_several : WrongSetOnK (rated_set 2 0 2 (0 ∷ first 1))
+  pub repeat_not_least : WrongSetOnK (rated_set 2 6 2 (0 ∷ first 1))
+  pub seventeen_for_all : WrongSetOnA (Err Refusal.NotAnnihilated)
+  pub one_for_all : WrongSetOnA (rated_set 0 1 1 eight_zeros)
+  pub refuses_all : WrongSetOnA (Err Refusal.NotPrime)
+  pub nothing_written : (work' : List ℕ) → SetA (rated_set 12 28 1 (first 4)) answer work' → ⊥
+  pub work_not_cleared : (answer' : List ℕ) → SetA (rated_set 12 28 1 (first 4)) answer' work → ⊥
   pub refused_and_written : (answer' work' : List ℕ)
       → answer' ≡ 1 ∷ replicate 4098 7
       → SetCall (GF 2) [] [] (0 ∷ []) answer work
-      (record { outcome = SetOutcome.Refused Refusal.FactorCount; powers = eight_zeros }) answer' work'
+      (Err Refusal.FactorCount) answer' work'
       → ⊥
 
 set-degree : Result SetTold → ℕ
@@ -185,35 +185,34 @@ wrong_sets =
 -- THE FILE CALL, on row A as a file of box 7 in mode 2, on the rows H and I as files in mode 3, of which H
 -- has `one` and I has `some`, and on the period 0101 as a file in mode 1
 
-abbrev FileOf : List ℕ → FileOutcome → List ℕ → List ℕ → List ℕ → Type 0
-FileOf file o eight answer' work' =
-    FileCall file answer work (record { sender = 7; outcome = o; powers = eight }) answer' work'
+abbrev FileOf : List ℕ → Reply FileOutcome → List ℕ → List ℕ → Type 0
+FileOf file o answer' work' = FileCall file answer work (record { sender = 7; outcome = o }) answer' work'
 
-abbrev WrongOnFile : List ℕ → FileOutcome → List ℕ → Type 0
-WrongOnFile file o eight = (answer' work' : List ℕ) → FileOf file o eight answer' work' → ⊥
+abbrev WrongOnFile : List ℕ → Reply FileOutcome → Type 0
+WrongOnFile file o = (answer' work' : List ℕ) → FileOf file o answer' work' → ⊥
 
 pub record WrongFiles : Type 0 where
-  pub top_digit_only : WrongOnFile file_a (FileOutcome.Powers 9 18 1) (first 3)
-  pub upper_powers : WrongOnFile file_a (FileOutcome.Powers 18 18 1) (first 6)
-  pub invented_power : WrongOnFile file_a (FileOutcome.Powers 12 18 1) (first 5)
-  pub seventeen_for_all : WrongOnFile file_a (FileOutcome.Refused Refusal.NotAnnihilated) eight_zeros
-  pub one_for_all : WrongOnFile file_a (FileOutcome.Powers 0 18 1) eight_zeros
-  pub refuses_all : WrongOnFile file_a (FileOutcome.Refused Refusal.ModeUnsuited) eight_zeros
+  pub top_digit_only : WrongOnFile file_a (Ok (FileOutcome.Powers 9 18 1 (first 3)))
+  pub upper_powers : WrongOnFile file_a (Ok (FileOutcome.Powers 18 18 1 (first 6)))
+  pub invented_power : WrongOnFile file_a (Ok (FileOutcome.Powers 12 18 1 (first 5)))
+  pub seventeen_for_all : WrongOnFile file_a (Err Refusal.NotAnnihilated)
+  pub one_for_all : WrongOnFile file_a (Ok (FileOutcome.Powers 0 18 1 eight_zeros))
+  pub refuses_all : WrongOnFile file_a (Err Refusal.ModeUnsuited)
   pub nothing_written : (work' : List ℕ)
-      → FileOf file_a (FileOutcome.Powers 12 18 1) (first 4) answer work'
+      → FileOf file_a (Ok (FileOutcome.Powers 12 18 1 (first 4))) answer work'
       → ⊥
   pub work_not_cleared : (answer' : List ℕ)
-      → FileOf file_a (FileOutcome.Powers 12 18 1) (first 4) answer' work
+      → FileOf file_a (Ok (FileOutcome.Powers 12 18 1 (first 4))) answer' work
       → ⊥
   -- the word, the denominator and the box
-  pub some_for_one : WrongOnFile file_h (FileOutcome.Several 1 2) eight_zeros
-  pub one_for_some : WrongOnFile file_i (FileOutcome.Unique 2 2) eight_zeros
-  pub terms_miscounted : WrongOnFile file_a (FileOutcome.Powers 12 17 1) (first 4)
-  pub terms_for_period : WrongOnFile file_twice (FileOutcome.Powers 2 4 1) (first 2)
-  pub reduced : WrongOnFile file_twice (FileOutcome.Powers 1 1 1) (first 2)
+  pub some_for_one : WrongOnFile file_h (Ok (FileOutcome.Several 1 2))
+  pub one_for_some : WrongOnFile file_i (Ok (FileOutcome.Unique 2 2))
+  pub terms_miscounted : WrongOnFile file_a (Ok (FileOutcome.Powers 12 17 1 (first 4)))
+  pub terms_for_period : WrongOnFile file_twice (Ok (FileOutcome.Powers 2 4 1 (first 2)))
+  pub reduced : WrongOnFile file_twice (Ok (FileOutcome.Powers 1 1 1 (first 2)))
   pub box_forgotten : (answer' work' : List ℕ)
       → FileCall file_a answer work
-      (record { sender = 0; outcome = FileOutcome.Powers 12 18 1; powers = first 4 }) answer' work'
+      (record { sender = 0; outcome = Ok (FileOutcome.Powers 12 18 1 (first 4)) }) answer' work'
       → ⊥
 
 -- the degree that is told; the denominator of the density; 1 for the word `one`

@@ -2,12 +2,15 @@
 -- an answer. The contracts and the theorems speak of the answers through these definitions alone.
 --
 --   number_of r        == the number of the refusal in the list of paper 01
+--   Reply A           == what a call hands back: a value, or a refusal
+--   told f r          == the result that a reply tells, f of its value
 --   told_irreducible, told_filling, told_power, told_free, told_start, told_entry, told_set, told_file,
 -- told_record ==
---                          the result that an answer tells; of a start the meter itself
+--                          the result that a reply tells; of a start the meter itself
 --   SetTold, FileTold == what the answers of a set and of a file tell beside their eight powers; `count` is
 --                        the number of powers, and `denominator` the number after the stroke of the density
 --   set_figures_told, file_figures_told == what they should tell of the figures
+--   set_places, file_places == the eight powers of a reply; all zeros where there are none
 --   padded rs         == the powers as they stand in eight places: in order, then zeros
 --   set_padded, file_padded == the eight places after a result; all zeros where refused or where there are no
 --                          powers
@@ -21,16 +24,14 @@ use Rattle.meaning.specs.declared.Refusal.TheVariants.{Reducible}
 use Rattle.meaning.specs.declared.Refusal.TheVariants.{EqualFactors, UpperPowers, TooFewTerms}
 use Rattle.meaning.specs.declared.Refusal.TheVariants.{LentTooShort, NotAnnihilated, MeterFull}
 use Rattle.meaning.specs.declared.Refusal.TheVariants.{NoEntry, NotBinaryField}
-use Rattle.meaning.specs.declared.Irreducibility.{Irreducibility}
 use Rattle.meaning.specs.declared.PowerRating.{PowerRating}
-use Rattle.meaning.specs.declared.SetOutcome.{SetOutcome}
+use Rattle.meaning.specs.declared.SetRating.{SetRating}
 use Rattle.meaning.specs.declared.FreeRating.{FreeRating}
 use Rattle.meaning.specs.declared.Meter.{Meter}
-use Rattle.meaning.specs.declared.MeterStart.{MeterStart}
 use Rattle.meaning.specs.declared.EntryRating.{EntryRating}
-use Rattle.meaning.specs.declared.Filling.{Filling}
 use Rattle.meaning.specs.declared.FileOutcome.{FileOutcome}
-use Rattle.meaning.specs.declared.RecordOutcome.{RecordOutcome}
+use Rattle.std.specs.Prelude.{Ok, Err}
+use Rattle.std.specs.Prelude.{Result as Replied}
 use Rattle.meaning.specs.Result.{Result, refused, answered}
 use Rattle.meaning.specs.Power.{PowerFigures}
 use Rattle.meaning.specs.Portion.{SetFigures}
@@ -60,40 +61,49 @@ number_of MeterFull = 18
 number_of NoEntry = 19
 number_of NotBinaryField = 20
 
-unfoldable pub told_irreducible : Irreducibility → Result Bool
-told_irreducible Irreducibility.Irreducible = answered true
-told_irreducible Irreducibility.HasFactors = answered false
-told_irreducible (Irreducibility.Refused r) = refused (number_of r)
+unfoldable pub padded : List ℕ → List ℕ
+padded rs = rs ++ replicate (8 - length rs) 0
 
-unfoldable pub told_filling : Filling → Result (Unit {0})
-told_filling Filling.Filled = answered tt
-told_filling (Filling.Refused r) = refused (number_of r)
+abbrev pub Reply : Type 0 → Type 0
+Reply A = Replied A Refusal
 
-unfoldable pub told_power : PowerRating → Result PowerFigures
-told_power (PowerRating.Rated r d n) = answered (record { power = r; degree = d; repeat = n })
-told_power (PowerRating.Refused r) = refused (number_of r)
+unfoldable pub told : {A B : Type 0} → (A → B) → Reply A → Result B
+told f (Ok a) = answered (f a)
+told f (Err r) = refused (number_of r)
 
-unfoldable pub told_free : FreeRating → Result FreeFigures
-told_free (FreeRating.Unique d) = answered (record { degree = d; unique = true })
-told_free (FreeRating.Several d) = answered (record { degree = d; unique = false })
-told_free (FreeRating.Refused r) = refused (number_of r)
+unfoldable pub told_irreducible : Reply Bool → Result Bool
+told_irreducible r = told (λ a. a) r
 
-unfoldable pub told_start : MeterStart → Result Meter
-told_start (MeterStart.Started m) = answered m
-told_start (MeterStart.Refused r) = refused (number_of r)
+unfoldable pub told_filling : Reply (Unit {0}) → Result (Unit {0})
+told_filling r = told (λ a. a) r
 
-unfoldable pub told_entry : EntryRating → Result EntryFigures
-told_entry (EntryRating.Found n r) = answered (record { entry = n; power = r })
-told_entry (EntryRating.Refused r) = refused (number_of r)
+unfoldable pub told_power : Reply PowerRating → Result PowerFigures
+told_power r = told (λ a. record { power = a.power; degree = a.degree; repeat = a.repeat }) r
+
+unfoldable pub free_figures_of : FreeRating → FreeFigures
+free_figures_of (FreeRating.Unique d) = record { degree = d; unique = true }
+free_figures_of (FreeRating.Several d) = record { degree = d; unique = false }
+
+unfoldable pub told_free : Reply FreeRating → Result FreeFigures
+told_free r = told free_figures_of r
+
+unfoldable pub told_start : Reply Meter → Result Meter
+told_start r = told (λ m. m) r
+
+unfoldable pub told_entry : Reply EntryRating → Result EntryFigures
+told_entry r = told (λ a. record { entry = a.entry; power = a.power }) r
 
 pub record SetTold : Type 0 where
   pub degree : ℕ
   pub repeat : ℕ
   pub count : ℕ
 
-unfoldable pub told_set : SetOutcome → Result SetTold
-told_set (SetOutcome.Rated d m n) = answered (record { degree = d; repeat = m; count = n })
-told_set (SetOutcome.Refused r) = refused (number_of r)
+unfoldable pub told_set : Reply SetRating → Result SetTold
+told_set r = told (λ a. record { degree = a.degree; repeat = a.repeat; count = a.count }) r
+
+unfoldable pub set_places : Reply SetRating → List ℕ
+set_places (Ok a) = a.powers
+set_places (Err r) = padded []
 
 unfoldable pub set_figures_told : SetFigures → SetTold
 set_figures_told a = record { degree = a.degree; repeat = a.repeat; count = length a.powers }
@@ -103,11 +113,19 @@ pub data FileTold : Type 0 where
   with_one : (degree denominator : ℕ) → FileTold
   with_some : (degree denominator : ℕ) → FileTold
 
-unfoldable pub told_file : FileOutcome → Result FileTold
-told_file (FileOutcome.Powers d m n) = answered (with_powers d m n)
-told_file (FileOutcome.Unique d m) = answered (with_one d m)
-told_file (FileOutcome.Several d m) = answered (with_some d m)
-told_file (FileOutcome.Refused r) = refused (number_of r)
+unfoldable pub file_told_of : FileOutcome → FileTold
+file_told_of (FileOutcome.Powers d m n rs) = with_powers d m n
+file_told_of (FileOutcome.Unique d m) = with_one d m
+file_told_of (FileOutcome.Several d m) = with_some d m
+
+unfoldable pub told_file : Reply FileOutcome → Result FileTold
+told_file r = told file_told_of r
+
+unfoldable pub file_places : Reply FileOutcome → List ℕ
+file_places (Ok (FileOutcome.Powers d m n rs)) = rs
+file_places (Ok (FileOutcome.Unique d m)) = padded []
+file_places (Ok (FileOutcome.Several d m)) = padded []
+file_places (Err r) = padded []
 
 unfoldable pub label_told : Label → ℕ → ℕ → FileTold
 label_told (powers rs) d m = with_powers d m (length rs)
@@ -117,12 +135,8 @@ label_told several d m = with_some d m
 unfoldable pub file_figures_told : FileFigures → FileTold
 file_figures_told a = label_told a.label a.degree a.denominator
 
-unfoldable pub told_record : RecordOutcome → Result ℕ
-told_record (RecordOutcome.Found k) = answered k
-told_record (RecordOutcome.Refused r) = refused (number_of r)
-
-unfoldable pub padded : List ℕ → List ℕ
-padded rs = rs ++ replicate (8 - length rs) 0
+unfoldable pub told_record : Reply ℕ → Result ℕ
+told_record r = told (λ kind. kind) r
 
 unfoldable pub set_padded : Result SetFigures → List ℕ
 set_padded (refused n) = padded []

@@ -17,17 +17,13 @@
 -- else is an equation: nothing about an answer is left to the program.
 use Rattle.std.specs.Prelude.{ℕ, ◌≡◌, Bool, List, [], ◌∷◌, ◌++◌, length, get_or, set}
 use Rattle.meaning.specs.declared.FieldName.{FieldName}
-use Rattle.meaning.specs.declared.Irreducibility.{Irreducibility}
 use Rattle.meaning.specs.declared.PowerRating.{PowerRating}
 use Rattle.meaning.specs.declared.SetRating.{SetRating}
 use Rattle.meaning.specs.declared.FreeRating.{FreeRating}
 use Rattle.meaning.specs.declared.Meter.{Meter}
-use Rattle.meaning.specs.declared.MeterStart.{MeterStart}
 use Rattle.meaning.specs.declared.MeterStep.{MeterStep}
 use Rattle.meaning.specs.declared.EntryRating.{EntryRating}
-use Rattle.meaning.specs.declared.Filling.{Filling}
 use Rattle.meaning.specs.declared.FileRating.{FileRating}
-use Rattle.meaning.specs.declared.RecordOutcome.{RecordOutcome}
 use Rattle.meaning.specs.Field.{prime_in_range}
 use Rattle.meaning.specs.Polynomial.{Polynomial}
 use Rattle.meaning.specs.Result.{Result, refused, answered, map_result, Rated, figures_of, answer_after}
@@ -44,7 +40,7 @@ use Rattle.meaning.specs.File.{rate_file}
 use Rattle.meaning.specs.Print.{printed}
 use Rattle.meaning.specs.Answers.{told_irreducible, told_filling, told_power, told_free, told_start, told_set}
 use Rattle.meaning.specs.Answers.{set_figures_told, told_file, file_figures_told, told_record, set_padded}
-use Rattle.meaning.specs.Answers.{told_entry, file_padded}
+use Rattle.meaning.specs.Answers.{told_entry, file_padded, set_places, file_places, Reply}
 use Rattle.meaning.specs.FieldNames.{named_field}
 
 pub record LentAfter {A : Type 0} (result : Result (Rated A)) (answer work answer' work' : List ℕ)
@@ -55,28 +51,28 @@ pub record LentAfter {A : Type 0} (result : Result (Rated A)) (answer work answe
 pub record PrimeCall (n : ℕ) (r : Bool) : Type 0 where
   pub answer : r ≡ prime_in_range n
 
-pub record IrreducibleCall (name : FieldName) (f : Polynomial) (r : Irreducibility) : Type 0 where
+pub record IrreducibleCall (name : FieldName) (f : Polynomial) (r : Reply Bool) : Type 0 where
   pub answer : told_irreducible r ≡ ask_irreducible name f
 
-pub record PeriodCall (name : FieldName) (f ts answer work : List ℕ) (r : PowerRating)
+pub record PeriodCall (name : FieldName) (f ts answer work : List ℕ) (r : Reply PowerRating)
     (answer' work' : List ℕ)
     : Type 0 where
   pub rating : told_power r ≡ figures_of (rate_period name f ts (length answer) (length work))
   pub lent : LentAfter (rate_period name f ts (length answer) (length work)) answer work answer' work'
 
-pub record SetCall (name : FieldName) (fs : List Polynomial) (vs ts answer work : List ℕ) (r : SetRating)
+pub record SetCall (name : FieldName) (fs : List Polynomial) (vs ts answer work : List ℕ) (r : Reply SetRating)
     (answer' work' : List ℕ) : Type 0 where
-  pub rating : told_set r.outcome
+  pub rating : told_set r
       ≡ map_result set_figures_told (figures_of (rate_set name fs vs ts (length answer) (length work)))
-  pub powers : r.powers ≡ set_padded (figures_of (rate_set name fs vs ts (length answer) (length work)))
+  pub powers : set_places r ≡ set_padded (figures_of (rate_set name fs vs ts (length answer) (length work)))
   pub lent : LentAfter (rate_set name fs vs ts (length answer) (length work)) answer work answer' work'
 
-pub record FreeCall (name : FieldName) (ts answer work : List ℕ) (r : FreeRating) (answer' work' : List ℕ)
+pub record FreeCall (name : FieldName) (ts answer work : List ℕ) (r : Reply FreeRating) (answer' work' : List ℕ)
     : Type 0 where
   pub rating : told_free r ≡ figures_of (rate_free name ts (length answer) (length work))
   pub lent : LentAfter (rate_free name ts (length answer) (length work)) answer work answer' work'
 
-pub record StartCall (model : MeterModel) (name : FieldName) (work : List ℕ) (r : MeterStart) (work' : List ℕ)
+pub record StartCall (model : MeterModel) (name : FieldName) (work : List ℕ) (r : Reply Meter) (work' : List ℕ)
     : Type 0 where
   pub starting : told_start r ≡ map_result (λ _. model.meter name []) (start_meter name)
   pub work_bytes : work' ≡ unless_refused (start_meter name) work (model.work name [])
@@ -97,12 +93,12 @@ pub record TermCall (model : MeterModel) (m : Meter) (t : ℕ) (terms work : Lis
       → Holding model name ts m terms work
       → TermTaken model name ts m t terms work r terms' work'
 
-pub record ReadingCall (model : MeterModel) (m : Meter) (r : FreeRating) : Type 0 where
+pub record ReadingCall (model : MeterModel) (m : Meter) (r : Reply FreeRating) : Type 0 where
   pub reading : (name : FieldName) (ts terms work : List ℕ)
       → Holding model name ts m terms work
       → told_free r ≡ meter_reading (named_field name) ts
 
-pub record EntryCall (ts work : List ℕ) (r : EntryRating) (work' : List ℕ) : Type 0 where
+pub record EntryCall (ts work : List ℕ) (r : Reply EntryRating) (work' : List ℕ) : Type 0 where
   pub finding : told_entry r ≡ find_entry ts (length work)
   pub work_bytes : work' ≡ work_after (find_entry ts (length work)) work
 
@@ -115,7 +111,7 @@ unfoldable pub buffer_after : Result (List ℕ) → List ℕ → List ℕ
 buffer_after (refused n) buffer = buffer
 buffer_after (answered after) buffer = after
 
-pub record ContinueCall (name : FieldName) (g : Polynomial) (start buffer : List ℕ) (place : ℕ) (r : Filling)
+pub record ContinueCall (name : FieldName) (g : Polynomial) (start buffer : List ℕ) (place : ℕ) (r : Reply (Unit {0}))
     (buffer' : List ℕ) : Type 0 where
   pub filling : told_filling r ≡ map_result (λ _. tt) (continue_sequence name g start place buffer)
   pub buffer_bytes : buffer' ≡ buffer_after (continue_sequence name g start place buffer) buffer
@@ -124,7 +120,7 @@ pub record FileCall (file answer work : List ℕ) (r : FileRating) (answer' work
   pub sender : r.sender ≡ box_of file
   pub rating : told_file r.outcome
       ≡ map_result file_figures_told (figures_of (rate_file file (length answer) (length work)))
-  pub powers : r.powers ≡ file_padded (figures_of (rate_file file (length answer) (length work)))
+  pub powers : file_places r.outcome ≡ file_padded (figures_of (rate_file file (length answer) (length work)))
   pub lent : LentAfter (rate_file file (length answer) (length work)) answer work answer' work'
 
 -- the body that the reader hands back: the empty part where the file is refused
@@ -132,7 +128,7 @@ unfoldable pub body_after : Result RouteRecord → List ℕ
 body_after (refused n) = []
 body_after (answered r) = r.body
 
-pub record RecordCall (file : List ℕ) (n : ℕ) (r : RecordOutcome) (body : List ℕ) : Type 0 where
+pub record RecordCall (file : List ℕ) (n : ℕ) (r : Reply ℕ) (body : List ℕ) : Type 0 where
   pub found : told_record r ≡ map_result (λ a. a.kind) (read_record file n)
   pub part : body ≡ body_after (read_record file n)
 

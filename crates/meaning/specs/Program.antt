@@ -1,8 +1,7 @@
 -- The contracts of the rating program's two parts: the lines of a rating, and the response to what was read.
 --
---   rated_result outcome powers answer == what a rating of a file tells with its powers and the answer bytes
---                        beside it: of the powers as many as it counts, of the bytes as many as its degree
---                        and one more
+--   rated_result outcome answer == what a rating of a file tells with the answer bytes beside it: of the
+--                        powers as many as it counts, of the bytes as many as its degree and one more
 --   lines_of r answer  == the lines of that result, for the box that the rating names
 --   PrintCall r answer out n out' == the lines of the rating r stand at the front of the lent bytes `out`,
 --                        all other bytes are as they were, and n is the number of bytes in the lines
@@ -16,18 +15,19 @@ use Rattle.meaning.specs.declared.FileRating.{FileRating}
 use Rattle.meaning.specs.Result.{Result, refused, answered, Rated, written}
 use Rattle.meaning.specs.File.{powers, unique, several, FileFigures, file_answer}
 use Rattle.meaning.specs.Print.{report}
-use Rattle.meaning.specs.Answers.{number_of}
+use Rattle.meaning.specs.Answers.{number_of, Reply}
+use Rattle.std.specs.Prelude.{Ok, Err}
 use Rattle.meaning.specs.Calls.{ProgramCall}
 
-unfoldable pub rated_result : FileOutcome → List ℕ → List ℕ → Result (Rated FileFigures)
-rated_result (FileOutcome.Powers d m n) rs answer =
+unfoldable pub rated_result : Reply FileOutcome → List ℕ → Result (Rated FileFigures)
+rated_result (Ok (FileOutcome.Powers d m n rs)) answer =
     answered (file_answer d m (powers (take n rs)) (take (suc d) answer))
-rated_result (FileOutcome.Unique d m) rs answer = answered (file_answer d m unique (take (suc d) answer))
-rated_result (FileOutcome.Several d m) rs answer = answered (file_answer d m several (take (suc d) answer))
-rated_result (FileOutcome.Refused r) rs answer = refused (number_of r)
+rated_result (Ok (FileOutcome.Unique d m)) answer = answered (file_answer d m unique (take (suc d) answer))
+rated_result (Ok (FileOutcome.Several d m)) answer = answered (file_answer d m several (take (suc d) answer))
+rated_result (Err r) answer = refused (number_of r)
 
 unfoldable pub lines_of : FileRating → List ℕ → List ℕ
-lines_of r answer = report r.sender (rated_result r.outcome r.powers answer)
+lines_of r answer = report r.sender (rated_result r.outcome answer)
 
 pub record PrintCall (r : FileRating) (answer out : List ℕ) (n : ℕ) (out' : List ℕ) : Type 0 where
   pub count : n ≡ length (lines_of r answer)

@@ -1,6 +1,10 @@
-// The answers of the public calls. There is no code here: the contracts and the theorems speak of these types
-// through the definitions of specs/Answers.antt, which give each case the number and the values of paper 01.
+// What the public calls answer: a rating, or the refusal of the numbered list. The contracts and the theorems
+// speak of these types through the definitions of specs/Answers.antt, which give each case its number and its
+// values. The only code here gives a refusal its number.
 #![tactic(auto)]
+
+ghost use Rattle.std.specs.Prelude.{◌≡◌};
+ghost use Rattle.meaning.specs.Answers.{number_of};
 
 // The name of a field: GF(p) by its prime p, GF(2^n) by its degree n and the coefficients of its reducing
 // polynomial below y^n, as the bits of a number. Any numbers are a name; 6 turns down those of the first kind
@@ -15,84 +19,72 @@ pub enum FieldName {
 #[derive(Clone, Copy)]
 pub enum Refusal {
     // 1: the file has more than 16,384 bytes
-    FileTooLong,
+    FileTooLong = 1,
     // 2: the kind byte of a record is not 1 to 9
-    UnknownKind,
+    UnknownKind = 2,
     // 3: the file ends inside a body or before the end record
-    FileCutShort,
+    FileCutShort = 3,
     // 4: a record is out of place
-    RecordOutOfPlace,
+    RecordOutOfPlace = 4,
     // 5: the mode is unknown, or the factors do not suit it
-    ModeUnsuited,
+    ModeUnsuited = 5,
     // 6: p is not a prime from 2 to 251
-    NotPrime,
+    NotPrime = 6,
     // 7: no terms or too many; for a continuation, no places to fill or too many, or the place is past the
     // buffer
-    CountOutOfRange,
+    CountOutOfRange = 7,
     // 8: a term is not an element of the field
-    TermOutOfField,
+    TermOutOfField = 8,
     // 9: no factor, or more than eight
-    FactorCount,
+    FactorCount = 9,
     // 10: a degree out of range
-    DegreeOutOfRange,
+    DegreeOutOfRange = 10,
     // 11: a coefficient is not an element of the field, or the leading one is 0, or there is none
-    CoefficientOutOfRange,
+    CoefficientOutOfRange = 11,
     // 12: a reducible factor
-    Reducible,
+    Reducible = 12,
     // 13: two equal factors
-    EqualFactors,
+    EqualFactors = 13,
     // 14: an upper power of 0, or a total degree above 4,096
-    UpperPowers,
+    UpperPowers = 14,
     // 15: fewer terms than the total degree; for a continuation, not as many starting terms as the degree
-    TooFewTerms,
+    TooFewTerms = 15,
     // 16: the lent answer or the lent work bytes are too short
-    LentTooShort,
+    LentTooShort = 16,
     // 17: nothing allowed annihilates the terms
-    NotAnnihilated,
+    NotAnnihilated = 17,
     // 18: the meter already holds 4,096 terms
-    MeterFull,
+    MeterFull = 18,
     // 19: no entry of the catalogue has a power that annihilates the period
-    NoEntry,
+    NoEntry = 19,
     // 20: n is not 2 to 8, or the reducing polynomial has a bit at or above n or is reducible
-    NotBinaryField,
+    NotBinaryField = 20,
 }
 
-// Whether a polynomial is irreducible.
-#[derive(Clone, Copy)]
-pub enum Irreducibility {
-    Irreducible,
-    HasFactors,
-    Refused(Refusal),
+// The number of a refusal in the list.
+impl From<Refusal> for u64 {
+    ghost from_gives = { λ refusal number. number ≡ number_of refusal };
+
+    fn from(refusal: Refusal) -> u64 {
+        refusal as u64
+    }
 }
 
 // The rating of a period: f to the least power annihilates it, and it repeats every `repeat` terms.
 #[derive(Clone, Copy)]
-pub enum PowerRating {
-    Rated {
-        power: u64,
-        degree: u64,
-        repeat: u64,
-    },
-    Refused(Refusal),
+pub struct PowerRating {
+    pub power: u64,
+    pub degree: u64,
+    pub repeat: u64,
 }
 
-// The rating of a portion with one to eight factors, the powers apart. The continuation repeats every
-// `repeat` terms; 0 where it never does, or not within 65,536 terms.
-#[derive(Clone, Copy)]
-pub enum SetOutcome {
-    Rated {
-        degree: u64,
-        repeat: u64,
-        count: u64,
-    },
-    Refused(Refusal),
-}
-
-// The rating of a portion with one to eight factors: `count` powers in the order of the factors, then zeros;
-// refused: zeros.
+// The rating of a portion with one to eight factors: `count` powers in the order of the factors, then zeros.
+// The continuation repeats every `repeat` terms; 0 where it never does, or not within 65,536 terms.
 #[derive(Clone, Copy)]
 pub struct SetRating {
-    pub outcome: SetOutcome,
+    pub degree: u64,
+    pub repeat: u64,
+    pub count: u64,
     pub powers: [u64; 8],
 }
 
@@ -101,7 +93,6 @@ pub struct SetRating {
 pub enum FreeRating {
     Unique { degree: u64 },
     Several { degree: u64 },
-    Refused(Refusal),
 }
 
 // A meter that shows the rating of a portion alone after each term: the field that it was started for, how
@@ -118,43 +109,31 @@ pub struct Meter {
     pub half: usize,
 }
 
-// Whether a meter was started.
-#[derive(Clone, Copy)]
-pub enum MeterStart {
-    Started(Meter),
-    Refused(Refusal),
-}
-
 // A meter after one term more, or as it was where the term is refused, and the reading or the refusal.
 #[derive(Clone, Copy)]
 pub struct MeterStep {
-    pub reading: FreeRating,
+    pub reading: Result<FreeRating, Refusal>,
     pub meter: Meter,
 }
 
 // What a search of the catalogue finds: the first entry with a power that annihilates the period, and the
 // least such power.
 #[derive(Clone, Copy)]
-pub enum EntryRating {
-    Found { entry: u64, power: u64 },
-    Refused(Refusal),
+pub struct EntryRating {
+    pub entry: u64,
+    pub power: u64,
 }
 
-// Whether a buffer was filled with a continued sequence.
-#[derive(Clone, Copy)]
-pub enum Filling {
-    Filled,
-    Refused(Refusal),
-}
-
-// The rating of a route file, the box and the powers apart. The density is the degree over the denominator:
-// the shortest period in the period mode, and else the number of terms.
+// The rating of what a route file holds: in the period mode and the set mode with `count` powers, then zeros.
+// The density is the degree over the denominator: the shortest period in the period mode, and else the number
+// of terms.
 #[derive(Clone, Copy)]
 pub enum FileOutcome {
     Powers {
         degree: u64,
         denominator: u64,
         count: u64,
+        powers: [u64; 8],
     },
     Unique {
         degree: u64,
@@ -164,30 +143,19 @@ pub enum FileOutcome {
         degree: u64,
         denominator: u64,
     },
-    Refused(Refusal),
 }
 
-// The rating of a route file, with the number of the box that sent it: `count` powers, then zeros; in the
-// free mode and refused: zeros.
+// The rating of a route file or its refusal, with the number of the box that sent it.
 #[derive(Clone, Copy)]
 pub struct FileRating {
     pub sender: u64,
-    pub outcome: FileOutcome,
-    pub powers: [u64; 8],
+    pub outcome: Result<FileOutcome, Refusal>,
 }
 
-// What the route reader finds under a number, the body apart.
-#[derive(Clone, Copy)]
-pub enum RecordOutcome {
-    Found { kind: u8 },
-    Refused(Refusal),
-}
-
-// What the route reader hands back: the body is a part of the lent file, the empty part where the file is
-// refused.
+// What the route reader hands back: the kind of a record, and its body, which is a part of the lent file.
 #[derive(Clone, Copy)]
 pub struct FoundRecord<'a> {
-    pub outcome: RecordOutcome,
+    pub kind: u8,
     pub body: &'a [u8],
 }
 

@@ -13,13 +13,12 @@
 -- Assumes nothing.
 use Prim.Native.Nat.{ℕ, zero, suc, ◌+◌, ◌*◌, ◌-◌, ◌≤◌, ◌<◌}
 use mathlib.Core.Path.{◌≡◌, refl, sym, ap, ap₂, subst, ◌∙◌}
-use mathlib.Core.Bool.{false}
 use mathlib.Core.List.{List, [], ◌∷◌, ◌++◌}
 use native.Mathlib.Nat as ℕ
 use native.Mathlib.Omega.{arith}
 use lib.ListN.{length, take, drop, set, length-drop, take-append-drop, get_or-append}
 use lib.Seq.{take_at, drop_at, take_all}
-use lib.Dec.{T, leb, ltb, ltb→lt, lt→ltb}
+use lib.Dec.{T, leb, leb→le, ltb, ltb→lt, lt→ltb}
 use Rattle.meaning.specs.declared.FieldName.{FieldName}
 use Rattle.meaning.specs.declared.Meter.{Meter}
 use Rattle.meaning.specs.Field.{Field}
@@ -169,9 +168,9 @@ module _ {name : FieldName} {ts : List ℕ} {m : Meter} {terms work : List ℕ}
     held_count : m.held ≡ length ts
     held_count = ap (λ m. m.held) h.numbers
 
-    pub stored-terms : length ts < length terms → part (set terms m.held t) 0 (m.held + 1 - 0) ≡ next
+    pub stored-terms : length ts < length terms → part (set terms m.held t) 0 (m.held + 1) ≡ next
     stored-terms l =
-        let e : m.held + 1 - 0 ≡ suc (length ts) = omega (arith, held_count) in
+        let e : m.held + 1 ≡ suc (length ts) = omega (arith, held_count) in
         ap₂ (λ n k. take k (set terms n t)) held_count e
         ∙ take-stored (length ts) terms t l
         ∙ ap (λ u. u ++ (t ∷ [])) h.front
@@ -185,11 +184,11 @@ module _ {name : FieldName} {ts : List ℕ} {m : Meter} {terms work : List ℕ}
         holding-stands
 
 -- Whether a meter is usable
-pub usable_no : (m : Meter) → m.held < m.degree → Usable m false
+pub usable_no : (m : Meter) → m.held < m.degree → Usable m (leb m.degree m.held)
 usable_no m l =
     record {
-      degree = λ e. absurd (subst T (sym e) tt);
-      half = λ e. absurd (subst T (sym e) tt);
+      degree = λ e. absurd (omega (arith, leb→le m.degree m.held (subst T (sym e) tt)));
+      half = λ e. absurd (omega (arith, leb→le m.degree m.held (subst T (sym e) tt)));
       holding = λ name ts terms work h. absurd (omega (arith, holding-numbers h));
     }
 

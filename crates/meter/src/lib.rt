@@ -4,16 +4,16 @@
 // with other bytes than the last call left.
 #![tactic(auto)]
 
-ghost use Rattle.std.specs.Prelude.{◌≡◌, true, ◌<◌, length};
+ghost use Rattle.std.specs.Prelude.{◌≡◌, true, ◌<◌, length, Ok};
 ghost use Rattle.meaning.specs.Calls.{StartCall, TermCall, ReadingCall};
-ghost use Rattle.arith.specs.Represented.{field_of, WellFormed};
-ghost use Rattle.meter.specs.Model.{meter_model, meter_of, recurrence_of, refused_step, Usable, Taken};
+ghost use Rattle.arith.specs.Represented.{field_of};
+ghost use Rattle.meter.specs.Model.{meter_model, meter_of, recurrence_of, Usable, Taken, NextCall};
 
-use arith::{FieldAnswer, GaloisField};
+use arith::GaloisField;
 use massey::figures;
 use massey::step::Recurrence;
-use meaning::{FieldName, FreeRating, Meter, MeterStart, MeterStep, Refusal};
-use refusals::{Verdict, term_verdict};
+use meaning::{FieldName, FreeRating, Meter, MeterStep, Refusal};
+use refusals::term_verdict;
 
 // The meter for the field with this name, with the numbers of a recurrence.
 fn meter_of(name: FieldName, known: Recurrence) -> Meter
@@ -44,21 +44,17 @@ fn recurrence_of(meter: Meter) -> Recurrence
 
 // A meter for terms of the field with this name that holds none, or the refusal by 6 or 20. If it starts, it
 // clears the work bytes.
-pub fn start_meter(name: FieldName, work: &mut [u8; 8192]) -> MeterStart
+pub fn start_meter(name: FieldName, work: &mut [u8; 8192]) -> Result<Meter, Refusal>
     ensures { StartCall meter_model name work.old result work.new }
 {
-    match GaloisField::of(name) {
-        FieldAnswer::Refused(r) => MeterStart::Refused(r),
-        FieldAnswer::Made(_) => {
-            let known = Recurrence::start(work);
-            MeterStart::Started(meter_of(name, known))
-        }
-    }
+    GaloisField::try_from(name)?;
+    let known = Recurrence::start(work);
+    Ok(meter_of(name, known))
 }
 
 // The degree that the meter shows, and the word.
 pub fn reading(meter: Meter) -> FreeRating
-    ensures { ReadingCall meter_model meter result }
+    ensures { ReadingCall meter_model meter (Ok result) }
 {
     figures(meter.degree, meter.held)
 }
@@ -67,25 +63,11 @@ pub fn reading(meter: Meter) -> FreeRating
 fn is_usable(meter: Meter) -> bool
     ensures { Usable meter result }
 {
-    if meter.held < meter.degree {
-        return false;
-    }
-    meter.half < 2
-}
-
-// The refusal of a term, which leaves the meter as it was.
-fn unchanged(meter: Meter, r: Refusal) -> MeterStep
-    ensures { result ≡ refused_step meter r }
-{
-    MeterStep {
-        reading: FreeRating::Refused(r),
-        meter,
-    }
+    meter.degree <= meter.held && meter.half < 2
 }
 
 // Stores the term after those held, and takes the step on it in the field of the meter.
 fn take(field: GaloisField, meter: Meter, term: u8, terms: &mut [u8], work: &mut [u8]) -> Meter
-    requires well_formed { WellFormed field }
     requires usable { Usable meter true }
     requires terms_len { (length terms.old ≡ 4096) × (length work.old ≡ 8192) × (meter.held < 4096) }
     ensures { Taken (field_of field) meter term terms.old work.old result
@@ -94,9 +76,26 @@ fn take(field: GaloisField, meter: Meter, term: u8, terms: &mut [u8], work: &mut
     let known = recurrence_of(meter);
     let n = meter.held;
     terms[n] = term;
-    let next = known.after_all(field, &terms[0..n + 1], work);
+    let next = known.after_all(field, &terms[..n + 1], work);
     let name = meter.field;
     meter_of(name, next)
+}
+
+// The meter after the term, or what refuses it: 6 or 20 by the name, 6 by the numbers of the meter, 8 or 18.
+fn next_meter(
+    meter: Meter,
+    term: u8,
+    terms: &mut [u8; 4096],
+    work: &mut [u8; 8192],
+) -> Result<Meter, Refusal>
+    ensures { NextCall meter term terms.old work.old result terms.new work.new }
+{
+    let field = GaloisField::try_from(meter.field)?;
+    if !is_usable(meter) {
+        return Err(Refusal::NotPrime);
+    }
+    term_verdict(field, meter.held, term)?;
+    Ok(take(field, meter, term, terms, work))
 }
 
 // The meter after the term and what it shows then, or the refusal by 8 or 18, which leaves the meter and all
@@ -106,23 +105,14 @@ pub fn take_term(meter: Meter, term: u8, terms: &mut [u8; 4096], work: &mut [u8;
     ensures { TermCall meter_model meter term terms.old work.old result
         terms.new work.new }
 {
-    let name = meter.field;
-    match GaloisField::of(name) {
-        FieldAnswer::Refused(r) => unchanged(meter, r),
-        FieldAnswer::Made(field) => {
-            if !is_usable(meter) {
-                return unchanged(meter, Refusal::NotPrime);
-            }
-            match term_verdict(field, meter.held, term) {
-                Verdict::Refused(r) => unchanged(meter, r),
-                Verdict::Accepted => {
-                    let next = take(field, meter, term, terms, work);
-                    MeterStep {
-                        reading: reading(next),
-                        meter: next,
-                    }
-                }
-            }
-        }
+    match next_meter(meter, term, terms, work) {
+        Ok(next) => MeterStep {
+            reading: Ok(reading(next)),
+            meter: next,
+        },
+        Err(r) => MeterStep {
+            reading: Err(r),
+            meter,
+        },
     }
 }

@@ -1,11 +1,12 @@
 -- The period way: what the action of f^(p^w) on the period says, and what the search in its first terms
 -- finds. Assumes nothing.
-use Prim.Native.Nat.{ℕ, ◌*◌, ◌-◌, ◌^◌, ◌%◌, ◌≤◌, ◌<◌, min}
+use Prim.Native.Nat.{ℕ, ◌*◌, ◌-◌, ◌^◌, ◌≤◌, ◌<◌, min}
 use mathlib.Core.Path.{◌≡◌, sym, ap, subst, ◌∙◌}
-use mathlib.Core.Logic.{◌≢◌}
 use mathlib.Core.Bool.{Bool, true, false, not}
 use mathlib.Core.List.{List}
-use mathlib.Core.Option.{Option, none, some}
+use mathlib.Core.Option as maybe
+use mathlib.Core.Option.{none, some}
+use Rattle.std.specs.Prelude.{Option, Some, None}
 use native.Mathlib.Nat as ℕ
 use native.Mathlib.Omega.{arith}
 use lib.ListN.{length, take, length-take}
@@ -21,21 +22,19 @@ use Rattle.bridge.proofs.Lists.Polynomials.{monic-nonempty, monic-elements}
 use Rattle.bridge.proofs.Ways.PowerSearch.{power_found, power_acts, act_steps}
 use Rattle.bridge.proofs.Ways.Periods.{PeriodSearch, period-search}
 use Rattle.arith.specs.declared.field.GaloisField.{GaloisField}
-use Rattle.arith.specs.Represented.{field_of, WellFormed}
-use Rattle.arith.proofs.Represented.{field-is_field, field_characteristic, characteristic_least}
-use Rattle.powers.specs.declared.levels.Level.{Level}
+use Rattle.arith.specs.Represented.{field_of}
+use Rattle.arith.proofs.Represented.{field-is_field, characteristic_least}
+use Rattle.lent.specs.declared.levels.Level.{Level}
 use Rattle.powers.specs.levels.Levels.{Dividing}
 use Rattle.lent.specs.halves.Halves.{half, Placed}
 use Rattle.lent.specs.raising.Levelled.{Levelled}
 use Rattle.powers.specs.digit_search.Searching.{Searchable, Searched}
 use Rattle.lent.proofs.halves.Bytes.{take_min, kept_same, placed-kept, kept_trans, cleared-kept}
-use Rattle.period_way.specs.declared.Found.{Found}
-use Rattle.period_way.specs.declared.Found.TheVariants.{Power, Nothing}
 use Rattle.period_way.specs.Period.{told, PeriodInput, PeriodSearched, PeriodFound}
 
 pub dividing_low : {p n : ℕ} {level : Level} → 0 < n → Dividing p n level → level.power ≤ n
 dividing_low {p} {n} {level} l x =
-    omega (arith, x.is_level, x.product, ℕ.le-mul_of_pos_right (p ^ level.exponent) some-rest)
+    omega (arith, x.is_level.power, x.product, ℕ.le-mul_of_pos_right (p ^ level.exponent) some-rest)
   where
     some-rest : 0 < x.rest
     some-rest =
@@ -43,31 +42,22 @@ dividing_low {p} {n} {level} l x =
         (λ z. omega (arith, x.product ∙ ap (◌*◌ (p ^ level.exponent)) z ∙ ℕ.mul-zero (p ^ level.exponent)))
 
 -- Answers on lists
-module _ {field : GaloisField} (good : WellFormed field) (f : Polynomial) (ts : List ℕ)
+module _ (field : GaloisField) (f : Polynomial) (ts : List ℕ)
     (x : PeriodInput (field_of field) f ts) (level : Level)
-    (l : Dividing field.characteristic (length ts) level) where
+    (l : Dividing (field_of field).characteristic (length ts) level) where
   period-found :
-      PeriodSearch (field_of field) f ts (power_acts (field_of field) f) field.characteristic
+      PeriodSearch (field_of field) f ts (power_acts (field_of field) f) (field_of field).characteristic
       level.exponent
   period-found =
-      subst
-      (λ p.
-      length ts ≡ p ^ level.exponent * l.rest
-      → l.rest % p ≢ 0
-      → PeriodSearch (field_of field) f ts (power_acts (field_of field) f) p level.exponent)
-      (field_characteristic good)
-      (λ e r.
-      period-search (field-is_field good) f ts x.monic x.positive x.irreducibility x.at_least_one
-      x.in_field level.exponent l.rest e r (power_acts (field_of field) f)
-      (act_steps (field_of field) f))
-      l.product
-      l.undivided
+      period-search (field-is_field field) f ts x.monic x.positive x.irreducibility x.at_least_one
+      x.in_field level.exponent l.rest l.product l.undivided (power_acts (field_of field) f)
+      (act_steps (field_of field) f)
 
   period-some :
       annihilates_period (field_of field) (power (field_of field) f level.power) ts ≡ true
       → period_power (field_of field) f ts
       ≡ some (
-      power_found (power_acts (field_of field) f) field.characteristic (degree f) level.exponent
+      power_found (power_acts (field_of field) f) (field_of field).characteristic (degree f) level.exponent
       (take (level.power * degree f) ts)
       )
   period-some =
@@ -76,10 +66,10 @@ module _ {field : GaloisField} (good : WellFormed field) (f : Polynomial) (ts : 
       annihilates_period (field_of field) (power (field_of field) f q) ts ≡ true
       → period_power (field_of field) f ts
       ≡ some (
-      power_found (power_acts (field_of field) f) field.characteristic (degree f) level.exponent
+      power_found (power_acts (field_of field) f) (field_of field).characteristic (degree f) level.exponent
       (take (q * degree f) ts)
       ))
-      (sym l.is_level)
+      (sym l.is_level.power)
       (λ h. period-found.finds (true-T h))
 
   pub period-none :
@@ -90,7 +80,7 @@ module _ {field : GaloisField} (good : WellFormed field) (f : Polynomial) (ts : 
       (λ q.
       annihilates_period (field_of field) (power (field_of field) f q) ts ≡ false
       → period_power (field_of field) f ts ≡ none)
-      (sym l.is_level)
+      (sym l.is_level.power)
       (λ h. is_none_none (true-T (period-found.decides ∙ ap not h)))
 
   -- What the search asks
@@ -112,35 +102,35 @@ module _ {field : GaloisField} (good : WellFormed field) (f : Polynomial) (ts : 
         nonempty = period-nonempty;
         short = x.short;
         is_level = l.is_level;
-        near = omega (arith, period-near, characteristic_least good);
+        near = omega (arith, period-near, characteristic_least field);
       }
 
-  pub period_levelled : Levelled field f level.exponent level.power
+  pub period_levelled : Levelled field f level
   period_levelled =
       record {
         elements = monic-elements (field_of field) f x.monic;
         nonempty = period-nonempty;
         short = x.short;
-        is_level = l.is_level;
+        base = l.is_level.base;
         near = period-near;
       }
 
   -- What it answers
   module _ {b : Bool}
       (e : b ≡ annihilates_period (field_of field) (power (field_of field) f level.power) ts) where
-    pub searched-none : (w : List ℕ) → b ≡ false → PeriodSearched (field_of field) f ts w w Nothing
+    pub searched-none : (w : List ℕ) → b ≡ false → PeriodSearched (field_of field) f ts w w None
     unfolding told
     searched-none w h = record { power = sym (period-none (sym e ∙ h)); kept = kept_same w }
 
     module _ {w w₁ : List ℕ} {count : ℕ} (small : count ≡ min (length ts) (level.power * (length f - 1)))
-        (loaded : Placed w 0 1 (take (count - 0) ts) w₁) where
+        (loaded : Placed w 0 1 (take count ts) w₁) where
       first-terms : half w₁ 0 count ≡ take (level.power * degree f) ts
       unfolding degree
       first-terms =
-          let n : length (take (count - 0) ts) ≡ count = omega (arith, length-take (count - 0) ts) in
+          let n : length (take count ts) ≡ count = omega (arith, length-take count ts) in
           sym (ap (half w₁ 0) n)
           ∙ loaded.made
-          ∙ ap (λ k. take k ts) (ℕ.sub-zero count ∙ small)
+          ∙ ap (λ k. take k ts) small
           ∙ sym (take_min (length ts) (level.power * degree f) ts)
           ∙ ap (take (level.power * degree f)) (take-length ts)
 
@@ -148,15 +138,15 @@ module _ {field : GaloisField} (good : WellFormed field) (f : Polynomial) (ts : 
           {w₂ : List ℕ} {r : ℕ}
           → b ≡ true
           → Searched field w₁ 0 count f level w₂ r
-          → PeriodSearched (field_of field) f ts w w₂ (Power r)
+          → PeriodSearched (field_of field) f ts w w₂ (Some r)
       unfolding told
       searched-some h y =
           record {
             power =
-                ap {B = Option ℕ} some
+                ap {B = maybe.Option ℕ} some
                 (y.power
                 ∙ ap
-                (power_found (power_acts (field_of field) f) field.characteristic (degree f)
+                (power_found (power_acts (field_of field) f) (field_of field).characteristic (degree f)
                 level.exponent)
                 first-terms)
                 ∙ sym (period-some (sym e ∙ h));
@@ -165,7 +155,7 @@ module _ {field : GaloisField} (good : WellFormed field) (f : Polynomial) (ts : 
 
 -- a period that was searched, and the work bytes cleared
 pub cleared-found :
-    {F : Field} {f ts w w₁ w₂ : List ℕ} {r : Found}
+    {F : Field} {f ts w w₁ w₂ : List ℕ} {r : Option ℕ}
     → PeriodSearched F f ts w w₁ r
     → w₂ ≡ cleared w₁
     → PeriodFound F f ts w w₂ r

@@ -7,19 +7,17 @@
 --                        those beyond the halves are as they were
 --   PeriodFound F f ts w w' r == r tells it, and w has become w': the first 8,192 are 0, and the others as
 --                        they were
-use Rattle.std.specs.Prelude.{ℕ, ◌≤◌, ◌≡◌, List, length, T}
-use Rattle.std.proofs.Math.Option.{Option, none, some}
+use Rattle.std.specs.Prelude.{ℕ, ◌≤◌, ◌≡◌, List, length, T, Option, Some, None}
+use Rattle.std.proofs.Math.Option as maybe
 use Rattle.meaning.specs.Field.{Field, are_elements}
 use Rattle.meaning.specs.Polynomial.{Polynomial, degree, is_monic_over, irreducible}
 use Rattle.meaning.specs.Result.{cleared}
 use Rattle.meaning.specs.Period.{period_power}
 use Rattle.lent.specs.halves.Kept.{Kept}
-use Rattle.period_way.specs.declared.Found.{Found}
-use Rattle.period_way.specs.declared.Found.TheVariants.{Power, Nothing}
 
-unfoldable pub told : Found → Option ℕ
-told (Power r) = some r
-told Nothing = none
+unfoldable pub told : Option ℕ → maybe.Option ℕ
+told (Some r) = maybe.some r
+told None = maybe.none
 
 pub record PeriodInput (F : Field) (f : Polynomial) (ts : List ℕ) : Type 0 where
   pub monic : T (is_monic_over F f)
@@ -30,10 +28,10 @@ pub record PeriodInput (F : Field) (f : Polynomial) (ts : List ℕ) : Type 0 whe
   pub at_least_one : 1 ≤ length ts
   pub not_many : length ts ≤ 4096
 
-pub record PeriodSearched (F : Field) (f : Polynomial) (ts w w' : List ℕ) (r : Found) : Type 0 where
+pub record PeriodSearched (F : Field) (f : Polynomial) (ts w w' : List ℕ) (r : Option ℕ) : Type 0 where
   pub power : told r ≡ period_power F f ts
   pub kept : Kept w w'
 
-pub record PeriodFound (F : Field) (f : Polynomial) (ts w w' : List ℕ) (r : Found) : Type 0 where
+pub record PeriodFound (F : Field) (f : Polynomial) (ts w w' : List ℕ) (r : Option ℕ) : Type 0 where
   pub power : told r ≡ period_power F f ts
   pub work : w' ≡ cleared w

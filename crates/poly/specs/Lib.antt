@@ -6,4 +6,3 @@ pub mod division
 pub mod residues
 pub mod factors
 pub mod multiples
-pub mod parts

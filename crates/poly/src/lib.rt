@@ -10,6 +10,7 @@ pub mod equality;
 pub mod factors;
 pub mod multiples;
 pub mod parts;
+pub mod powered;
 pub mod products;
 pub mod raising;
 pub mod residues;

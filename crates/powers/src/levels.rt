@@ -3,26 +3,19 @@
 ghost use Rattle.std.specs.Prelude.{◌≤◌, ◌<◌};
 ghost use Rattle.powers.specs.levels.Levels.{Base, Reaching, Dividing};
 
-// The power p^exponent, which is `power`.
-#[derive(Clone, Copy)]
-pub struct Level {
-    pub exponent: usize,
-    pub power: usize,
-}
+use lent::levels::Level;
 
 // The least power of p that is at least r.
 pub fn level_reaching(p: usize, r: usize) -> Level
     requires { Base p × (r ≤ 4096) }
     ensures { Reaching p r result }
 {
-    // power = p^exponent, and the power before it is less than r
-    let mut exponent = 0;
-    let mut power = 1;
-    while power < r {
-        power *= p;
-        exponent += 1;
+    // the power before that of the level is less than r
+    let mut level = Level::first(p);
+    while level.power < r {
+        level = level.next();
     }
-    Level { exponent, power }
+    level
 }
 
 // The largest power of p that divides n.
@@ -30,14 +23,12 @@ pub fn level_dividing(p: usize, n: usize) -> Level
     requires { Base p × (0 < n) × (n ≤ 4096) }
     ensures { Dividing p n result }
 {
-    // n = power·rest, and power = p^exponent
-    let mut exponent = 0;
-    let mut power = 1;
+    // n is the power of the level times the rest
+    let mut level = Level::first(p);
     let mut rest = n;
     while rest % p == 0 {
         rest /= p;
-        power *= p;
-        exponent += 1;
+        level = level.next();
     }
-    Level { exponent, power }
+    level
 }

@@ -1,3 +1,2 @@
 pub mod words
 pub mod result_line
-pub mod poly_line

@@ -1,1 +1,1 @@
-pub mod ResultLines
+pub mod Outcomes

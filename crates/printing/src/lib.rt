@@ -2,6 +2,7 @@
 // rating.
 #![tactic(auto)]
 
+pub mod buffer;
 pub mod lines;
 mod poly_line;
 mod result_line;

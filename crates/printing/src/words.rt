@@ -1,102 +1,83 @@
-// Words and numbers put into a lent buffer. Each function writes from the place `at` on, leaves all other
-// bytes as they were, and returns the place after what it wrote.
-ghost use Rattle.std.specs.Prelude.{◌≡◌, map, ◌+◌, ◌*◌, ◌≤◌, ◌<◌, length, get_or};
+// Numbers put after what is printed already.
+ghost use Rattle.std.specs.Prelude.{ℕ, ◌≡◌, [], ◌∷◌, ◌++◌, map, ◌+◌, ◌*◌, ◌≤◌, length};
 ghost use Rattle.meaning.specs.Print.{text, decimal, joined};
-ghost use Rattle.printing.specs.words.Words.{Put, PutWithin, led};
+ghost use Rattle.printing.specs.words.Words.{Pushed, led};
 
-// A word, byte by byte.
-pub fn put_word(word: &[u8], out: &mut [u8], at: usize) -> usize
-    requires { at + length word.now ≤ length out.old }
-    ensures { Put word.now at out.old result out.new }
-{
-    let mut next = at;
-    let mut i = 0;
-    // the first i bytes are put
-    while i < word.len() {
-        out[next] = word[i];
-        next += 1;
-        i += 1;
+use crate::buffer::{MOST_PRINTED, Printed};
+
+// A number with so many decimal digits at most.
+pub(crate) trait Figure: Copy {
+    ghost value: { Self → ℕ };
+
+    ghost most: { ℕ };
+
+    fn value(self) -> u64
+        ensures number { result ≡ value self }
+        ensures short { length (decimal result) ≤ most };
+}
+
+impl Figure for u8 {
+    ghost value = { λ n. n };
+
+    ghost most = { 3 };
+
+    fn value(self) -> u64 {
+        u64::from(self)
     }
-    next
 }
 
-// The decimal digits of a number: those of its tenth, then the last one.
-pub fn put_number(n: u64, out: &mut [u8], at: usize) -> usize
-    requires { at + length (decimal n) ≤ length out.old }
-    ensures { Put (decimal n) at out.old result out.new }
-{
-    if n < 10 {
-        out[at] = 48 + n as u8;
-        return at + 1;
+impl Figure for u64 {
+    ghost value = { λ n. n };
+
+    ghost most = { 20 };
+
+    fn value(self) -> u64 {
+        self
     }
-    let last = put_number(n / 10, out, at);
-    out[last] = 48 + (n % 10) as u8;
-    last + 1
 }
 
-// The powers with a comma before each.
-fn put_further_powers(powers: &[u64], out: &mut [u8], at: usize) -> usize
-    requires { at + 21 * length powers.now ≤ length out.old }
-    ensures { PutWithin (21 * length powers.now)
-        (led (text ",") (map decimal powers.now))
-        at out.old result out.new }
-{
-    let mut next = at;
-    let mut i = 0;
-    // the first i powers are put
-    while i < powers.len() {
-        out[next] = b',';
-        next = put_number(powers[i], out, next + 1);
-        i += 1;
+impl Printed {
+    // The decimal digits of a number: those of its tenth, then the last one.
+    fn push_digits(&mut self, n: u64)
+        requires { length self.old + length (decimal n) ≤ MOST_PRINTED }
+        ensures { self.new ≡ self.old ++ decimal n }
+    {
+        if 10 <= n {
+            self.push_digits(n / 10);
+        }
+        self.push(b'0' + (n % 10) as u8);
     }
-    next
-}
 
-// The powers with commas between them.
-pub fn put_powers(powers: &[u64], out: &mut [u8], at: usize) -> usize
-    requires { at + 21 * length powers.now ≤ length out.old }
-    ensures { PutWithin (21 * length powers.now)
-        (joined (text ",") (map decimal powers.now))
-        at out.old result out.new }
-{
-    if powers.len() == 0 {
-        return at;
+    // A number.
+    pub(crate) fn push_number<T: Figure>(&mut self, n: T)
+        requires { length self.old + T.most ≤ MOST_PRINTED }
+        ensures { Pushed T.most (decimal (T.value n)) self.old self.new }
+    {
+        self.push_digits(n.value());
     }
-    let next = put_number(powers[0], out, at);
-    put_further_powers(&powers[1..], out, next)
-}
 
-// A byte as a number.
-fn wide(x: u8) -> u64
-    ensures value { result ≡ x }
-    ensures upper_bound { result < 256 }
-{
-    x as u64
-}
-
-// The coefficient of degree i.
-fn coefficient(coefficients: &[u8], i: usize) -> u64
-    requires { i < length coefficients.now }
-    ensures value { result ≡ get_or coefficients.now i 0 }
-    ensures upper_bound { result < 256 }
-{
-    wide(coefficients[i])
-}
-
-// The coefficients, constant first, with a blank before each.
-pub fn put_coefficients(coefficients: &[u8], out: &mut [u8], at: usize) -> usize
-    requires { at + 4 * length coefficients.now ≤ length out.old }
-    ensures { PutWithin (4 * length coefficients.now)
-        (led (text " ") (map decimal coefficients.now))
-        at out.old result out.new }
-{
-    let mut next = at;
-    let mut i = 0;
-    // the first i coefficients are put
-    while i < coefficients.len() {
-        out[next] = b' ';
-        next = put_number(coefficient(coefficients, i), out, next + 1);
-        i += 1;
+    // Numbers with a separator before each.
+    pub(crate) fn push_led<T: Figure>(&mut self, separator: u8, numbers: &[T])
+        requires { length self.old + (1 + T.most) * length numbers.now ≤ MOST_PRINTED }
+        ensures { Pushed ((1 + T.most) * length numbers.now)
+            (led (separator ∷ []) (map (λ n. decimal (T.value n)) numbers.now)) self.old self.new }
+    {
+        // the first numbers are put
+        for number in numbers {
+            self.push(separator);
+            self.push_number(*number);
+        }
     }
-    next
+
+    // The powers with commas between them.
+    pub(crate) fn push_powers(&mut self, powers: &[u64])
+        requires { length self.old + 21 * length powers.now ≤ MOST_PRINTED }
+        ensures { Pushed (21 * length powers.now) (joined (text ",") (map decimal powers.now))
+            self.old self.new }
+    {
+        if let Some((first, others)) = powers.split_first() {
+            self.push_number(*first);
+            self.push_led(b',', others);
+        }
+    }
 }

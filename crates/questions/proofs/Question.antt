@@ -1,30 +1,27 @@
 -- The question whether a polynomial is irreducible, by its verdict and the answer for its monic multiple.
 --
 --   asked-…           == what the multiple and the test ask of a polynomial that 10 and 11 let pass
---   question-…        == the answer in the field
+--   question-…        == the call, by its ends
 -- Assumes nothing.
 use Prim.Native.Nat.{ℕ, ◌-◌, ◌≤◌, ◌<◌}
 use mathlib.Core.Path.{◌≡◌, sym, ap, subst, ◌∙◌}
-use mathlib.Core.Bool.{Bool, true, false}
+use mathlib.Core.Bool.{Bool}
 use mathlib.Core.List.{List, ◌++◌}
-use native.Mathlib.Nat.{sub-zero}
 use native.Mathlib.Omega.{arith}
 use lib.ListN.{length, get_or, take, drop, length-append}
 use lib.Seq.{take_at}
+use Rattle.std.specs.Prelude.{Ok, Err}
 use Rattle.meaning.specs.declared.FieldName.{FieldName}
 use Rattle.meaning.specs.declared.Refusal.{Refusal}
-use Rattle.meaning.specs.declared.Irreducibility.{Irreducibility}
 use Rattle.meaning.specs.Field.{Field}
 use Rattle.meaning.specs.Polynomial.{Polynomial, irreducible, monic_multiple}
 use Rattle.meaning.specs.Result.{answered, first_of, value_of}
 use Rattle.meaning.specs.Irreducibility.{irreducible_table, irreducible_in, ask_irreducible}
-use Rattle.meaning.specs.Answers.{told_irreducible}
+use Rattle.meaning.specs.Answers.{told_irreducible, told, Reply}
 use Rattle.meaning.specs.Calls.{IrreducibleCall}
 use Rattle.arith.specs.declared.field.GaloisField.{GaloisField}
-use Rattle.arith.specs.declared.field.FieldAnswer.{FieldAnswer}
-use Rattle.arith.specs.Represented.{field_of, FieldMade}
-use Rattle.arith.proofs.Door.{made-named, made_declined, behind_door, at_door}
-use Rattle.refusals.specs.declared.Verdict.{Verdict}
+use Rattle.arith.specs.Represented.{field_of, FieldNamed, Declined}
+use Rattle.arith.proofs.Door.{behind_door, at_door}
 use Rattle.refusals.specs.Verdicts.{number_in}
 use Rattle.refusals.proofs.Settled.{verdict_passes, settle_refused, settle-accepted}
 use Rattle.bridge.proofs.Basics.Interpretation.{IsField}
@@ -62,11 +59,10 @@ module _ {F : Field} (I : IsField F) {f : Polynomial} (x : Asked F f) where
 
   -- the multiple at the front of the room
   module _ (room : List ℕ) {w : List ℕ} (k : w ≡ monic_multiple F f ++ drop (length f) room) where
-    pub asked-front : take (length f - 0) w ≡ monic_multiple F f
+    pub asked-front : take (length f) w ≡ monic_multiple F f
     asked-front =
-        ap (take (length f - 0)) k
-        ∙ take_at (monic_multiple F f) (drop (length f) room) (length f - 0)
-        (multiple-length I asked-leads ∙ sym (sub-zero (length f)))
+        ap (take (length f)) k
+        ∙ take_at (monic_multiple F f) (drop (length f) room) (length f) (multiple-length I asked-leads)
 
     pub asked-room : length f ≤ length w
     asked-room =
@@ -77,52 +73,45 @@ module _ {F : Field} (I : IsField F) {f : Polynomial} (x : Asked F f) where
           multiple-length I asked-leads,
         ))
 
-module _ (F : Field) (f : Polynomial) {v : Verdict} (e : number_in v ≡ first_of (irreducible_table F f)) where
+-- the call in the field that is made, by its verdict
+module _ {name : FieldName} {field : GaloisField} (n : FieldNamed name field) (f : Polynomial)
+    {v : Reply (Unit {0})} (e : number_in v ≡ first_of (irreducible_table (field_of field) f)) where
   pub question_refused : {x : Refusal}
-      → v ≡ Verdict.Refused x
-      → told_irreducible (Irreducibility.Refused x) ≡ irreducible_in F f
-  unfolding told_irreducible irreducible_in
-  question_refused q = sym (settle_refused (irreducible_table F f) _ e q)
+      → v ≡ Err x
+      → IrreducibleCall name f (Err x)
+  unfolding told_irreducible told ask_irreducible irreducible_in
+  question_refused q =
+      record {
+        answer =
+            sym (behind_door (λ F. irreducible_in F f) n
+            ∙ settle_refused (irreducible_table (field_of field) f) _ e q);
+      }
 
-  pub question_accepted : v ≡ Verdict.Accepted → Asked F f
+  pub question_asked : v ≡ Ok tt → Asked (field_of field) f
   unfolding irreducible_table
-  question_accepted q =
-      let h = verdict_passes (irreducible_table F f) e q in
+  question_asked q =
+      let h = verdict_passes (irreducible_table (field_of field) f) e q in
       record {
         degree_in_range = h.degrees_in_range;
         coefficients_in_range = h.coefficients_in_range;
       }
 
-  asked : v ≡ Verdict.Accepted → {b : Bool} → b ≡ irreducible F (monic_multiple F f)
-      → irreducible_in F f ≡ answered b
-  unfolding irreducible_in value_of
-  asked q d = settle-accepted (irreducible_table F f) _ e q ∙ ap answered (sym d)
-
-  pub question_yes : v ≡ Verdict.Accepted
+  pub question_answered : v ≡ Ok tt
       → {b : Bool}
-      → b ≡ irreducible F (monic_multiple F f)
-      → b ≡ true
-      → told_irreducible Irreducibility.Irreducible ≡ irreducible_in F f
-  unfolding told_irreducible
-  question_yes q d t = sym (asked q (sym t ∙ d))
+      → b ≡ irreducible (field_of field) (monic_multiple (field_of field) f)
+      → IrreducibleCall name f (Ok b)
+  unfolding told_irreducible told ask_irreducible irreducible_in value_of
+  question_answered q d =
+      record {
+        answer =
+            ap answered d
+            ∙ sym (behind_door (λ F. irreducible_in F f) n
+            ∙ settle-accepted (irreducible_table (field_of field) f) _ e q);
+      }
 
-  pub question_no : v ≡ Verdict.Accepted
-      → {b : Bool}
-      → b ≡ irreducible F (monic_multiple F f)
-      → b ≡ false
-      → told_irreducible Irreducibility.HasFactors ≡ irreducible_in F f
-  unfolding told_irreducible
-  question_no q d t = sym (asked q (sym t ∙ d))
-
--- the call, by its field
-module _ {name : FieldName} {made : FieldAnswer} (h : FieldMade name made) (f : Polynomial) where
-  pub call_refused : {x : Refusal} → made ≡ FieldAnswer.Refused x
-      → IrreducibleCall name f (Irreducibility.Refused x)
-  unfolding ask_irreducible told_irreducible
-  call_refused e = record { answer = sym (at_door (λ F. irreducible_in F f) (made_declined h e)) }
-
-  pub call_made : {field : GaloisField} {r : Irreducibility} → made ≡ FieldAnswer.Made field
-      → told_irreducible r ≡ irreducible_in (field_of field) f
-      → IrreducibleCall name f r
-  unfolding ask_irreducible
-  call_made e k = record { answer = k ∙ sym (behind_door (λ F. irreducible_in F f) (made-named h e)) }
+-- the name is that of no field
+pub question_declined : {name : FieldName} {x : Refusal} (f : Polynomial)
+    → Declined name x
+    → IrreducibleCall name f (Err x)
+unfolding told_irreducible told ask_irreducible
+question_declined f d = record { answer = sym (at_door (λ F. irreducible_in F f) d) }

@@ -13,7 +13,7 @@ use Rattle.meaning.specs.Calls.{FileCall}
 use Rattle.route.specs.framing.Framing.{records_from}
 use Rattle.bridge.proofs.Files.Records.{records-suited}
 use Rattle.bridge.proofs.Files.FileRatings.{accepted-file, refused_file}
-use Rattle.rate_file.specs.outcomes.Outcomes.{RatedFile}
+use Rattle.rate_file.specs.modes.Outcomes.{RatedFile}
 use Rattle.rate_file.specs.records.Accepted.{AcceptedRecords}
 use Rattle.route.specs.walk.Walking.{verdict_of}
 use Rattle.route.proofs.acceptance.Accepting.{records-whole, records-known}
@@ -40,14 +40,7 @@ module _ (file : List ℕ) where
   file-number v = rw (records-known file v) at (records-whole file)
 
   -- the contract of the call
-  pub file_call : {sender : ℕ} {answer work : List ℕ} {r : FileRating} {answer' work' : List ℕ}
-      → sender ≡ box_of file
-      → RatedFile sender (rate_file file (length answer) (length work)) answer work r answer' work'
+  pub file_call : {answer work : List ℕ} {r : FileRating} {answer' work' : List ℕ} → r.sender ≡ box_of file
+      → RatedFile (rate_file file (length answer) (length work)) answer work r.outcome answer' work'
       → FileCall file answer work r answer' work'
-  file_call e h =
-      record {
-        sender = h.tells.box ∙ e;
-        rating = h.tells.rating;
-        powers = h.tells.powers;
-        lent = h.lent;
-      }
+  file_call e h = record { sender = e; rating = h.rating; powers = h.powers; lent = h.lent }

@@ -1,4 +1,4 @@
-pub mod Terms
-pub mod Modes
 pub mod Suited
+pub mod Modes
 pub mod Rates
+pub mod Terms

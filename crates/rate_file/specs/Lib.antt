@@ -1,4 +1,3 @@
 pub mod factors
 pub mod modes
-pub mod outcomes
 pub mod records

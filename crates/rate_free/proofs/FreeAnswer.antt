@@ -29,7 +29,8 @@ use Rattle.meaning.specs.Conditions.{lent_too_short}
 use Rattle.meaning.specs.Result.{Result, answered, map_result, Rated, figures_of, first_of, clearing, clears}
 use Rattle.meaning.specs.Result.{answer_after, work_after}
 use Rattle.meaning.specs.Free.{is_unique, FreeFigures, free_table, free_in, rate_free}
-use Rattle.meaning.specs.Answers.{told_free}
+use Rattle.std.specs.Prelude.{Ok, Err}
+use Rattle.meaning.specs.Answers.{told_free, told, free_figures_of, Reply}
 use Rattle.meaning.specs.Calls.{LentAfter, FreeCall}
 use Rattle.meaning.proofs.Passes.{first_of_passes}
 use Rattle.bridge.proofs.Basics.Searches.{false-T, or-false}
@@ -37,11 +38,9 @@ use Rattle.bridge.proofs.Basics.Interpretation.{IsField}
 use Rattle.bridge.proofs.Ways.Accepted.{count-accepted}
 use Rattle.bridge.proofs.Massey.First.{massey_first, massey_answer}
 use Rattle.arith.specs.declared.field.GaloisField.{GaloisField}
-use Rattle.arith.specs.declared.field.FieldAnswer.{FieldAnswer}
-use Rattle.arith.specs.Represented.{field_of, FieldMade}
-use Rattle.arith.proofs.Door.{made-named, made_declined, behind_door, at_door}
+use Rattle.arith.specs.Represented.{field_of, FieldNamed, Declined}
+use Rattle.arith.proofs.Door.{behind_door, at_door}
 use Rattle.arith.specs.Inverse.{inverse}
-use Rattle.refusals.specs.declared.Verdict.{Verdict}
 use Rattle.refusals.specs.Verdicts.{number_in, terms_table, lent_table}
 use Rattle.refusals.proofs.Order.{refused_before, accepted-before}
 use Rattle.refusals.proofs.Settled.{settle_refused}
@@ -58,7 +57,7 @@ module _ (F : Field) (ts : List ℕ) (answer work : ℕ) where
   free-parts = refl
 
   pub checked_verdict :
-      (v : Verdict)
+      (v : Reply (Unit {0}))
       → first_of (terms_table F ts) ≡ none
       → number_in v ≡ first_of (lent_table answer work)
       → number_in v ≡ first_of (free_table F ts answer work)
@@ -69,10 +68,10 @@ module _ (F : Field) (ts : List ℕ) (answer work : ℕ) where
       ∙ sym (ap first_of free-parts)
 
   terms_decide :
-      {v : Verdict} {x : Refusal}
+      {v : Reply (Unit {0})} {x : Refusal}
       → number_in v ≡ first_of (terms_table F ts)
-      → v ≡ Verdict.Refused x
-      → number_in (Verdict.Refused x) ≡ first_of (free_table F ts answer work)
+      → v ≡ Err x
+      → number_in (Err x) ≡ first_of (free_table F ts answer work)
   terms_decide e q =
       refused_before (terms_table F ts) (lent_table answer work) e q ∙ sym (ap first_of free-parts)
 
@@ -85,8 +84,8 @@ pub record FreeAccepted (F : Field) (ts : List ℕ) (answer work : ℕ) : Type 0
 ltb_false_le : (m n : ℕ) → ltb m n ≡ false → n ≤ m
 ltb_false_le m n e = elim (dec_lt m n) [ yes l ↦ absurd (false-T e (lt→ltb m n l)) | no l ↦ omega arith ]
 
-module _ (F : Field) (ts : List ℕ) (answer work : ℕ) {v : Verdict}
-    (e : number_in v ≡ first_of (free_table F ts answer work)) (q : v ≡ Verdict.Accepted) where
+module _ (F : Field) (ts : List ℕ) (answer work : ℕ) {v : Reply (Unit {0})}
+    (e : number_in v ≡ first_of (free_table F ts answer work)) (q : v ≡ Ok tt) where
   pub verdict_open : first_of (free_table F ts answer work) ≡ none
   unfolding number_in
   verdict_open = sym e ∙ ap number_in q
@@ -108,11 +107,11 @@ unfolding free_table holds_for_some clears clearing
 none-clears F ts answer work = refl
 
 pub rating_refused_lem :
-    (F : Field) (ts answer work : List ℕ) {v : Verdict} {x : Refusal}
+    (F : Field) (ts answer work : List ℕ) {v : Reply (Unit {0})} {x : Refusal}
     → number_in v ≡ first_of (free_table F ts (length answer) (length work))
-    → v ≡ Verdict.Refused x
-    → FreeRatedAs (free_in F ts (length answer) (length work)) answer work (FreeRating.Refused x) answer work
-unfolding told_free free_in figures_of map_result
+    → v ≡ Err x
+    → FreeRatedAs (free_in F ts (length answer) (length work)) answer work (Err x) answer work
+unfolding told_free told free_in figures_of map_result
 rating_refused_lem F ts answer work e q =
     let d = settle_refused (free_table F ts (length answer) (length work)) _ e q in
     record {
@@ -121,10 +120,10 @@ rating_refused_lem F ts answer work e q =
     }
 
 pub terms_refused :
-    (F : Field) (ts answer work : List ℕ) {v : Verdict} {x : Refusal}
+    (F : Field) (ts answer work : List ℕ) {v : Reply (Unit {0})} {x : Refusal}
     → number_in v ≡ first_of (terms_table F ts)
-    → v ≡ Verdict.Refused x
-    → FreeRatedAs (free_in F ts (length answer) (length work)) answer work (FreeRating.Refused x) answer work
+    → v ≡ Err x
+    → FreeRatedAs (free_in F ts (length answer) (length work)) answer work (Err x) answer work
 terms_refused F ts answer work e q =
     rating_refused_lem F ts answer work (terms_decide F ts (length answer) (length work) e q) refl
 
@@ -154,34 +153,31 @@ module _ {F : Field} (I : IsField F) {ts answer work : List ℕ} {L : ℕ} {answ
 
   pub rating_answered :
       {r : FreeRating}
-      → told_free r ≡ answered (record { degree = L; unique = leb (2 * L) (length ts) })
-      → FreeRatedAs (free_in F ts (length answer) (length work)) answer work r answer' work'
-  unfolding figures_of map_result is_unique
-  rating_answered t = record { rating = t ∙ sym (ap figures_of rating_model); lent = lent_answered }
+      → free_figures_of r ≡ record { degree = L; unique = leb (2 * L) (length ts) }
+      → FreeRatedAs (free_in F ts (length answer) (length work)) answer work (Ok r) answer' work'
+  unfolding figures_of map_result is_unique told_free told
+  rating_answered t =
+      record { rating = ap answered t ∙ sym (ap figures_of rating_model); lent = lent_answered }
 
 -- The call, by its field
 abbrev rated : List ℕ → List ℕ → List ℕ → Field → Result (Rated FreeFigures)
 rated ts answer work F = free_in F ts (length answer) (length work)
 
-module _ {name : FieldName} {made : FieldAnswer} (h : FieldMade name made) (ts answer work : List ℕ) where
-  pub call_refused : {x : Refusal} → made ≡ FieldAnswer.Refused x
-      → FreeCall name ts answer work (FreeRating.Refused x) answer work
-  unfolding rate_free told_free figures_of map_result
-  call_refused e =
-      let d = made_declined h e in
+module _ {name : FieldName} (ts answer work : List ℕ) where
+  pub call_refused : {x : Refusal} → Declined name x → FreeCall name ts answer work (Err x) answer work
+  unfolding rate_free told_free told figures_of map_result
+  call_refused d =
       record {
         rating = ap figures_of (sym (at_door (rated ts answer work) d));
-        lent = lent_declined
-            (rated ts answer work) d;
+        lent = lent_declined (rated ts answer work) d;
       }
 
-  pub call_made : {field : GaloisField} {r : FreeRating} {answer' work' : List ℕ}
-      → made ≡ FieldAnswer.Made field
+  pub call_made : {field : GaloisField} {r : Reply FreeRating} {answer' work' : List ℕ}
+      → FieldNamed name field
       → FreeRatedAs (rated ts answer work (field_of field)) answer work r answer' work'
       → FreeCall name ts answer work r answer' work'
   unfolding rate_free
-  call_made e k =
-      let o = made-named h e in
+  call_made o k =
       record {
         rating = k.rating ∙ ap figures_of (sym (behind_door (rated ts answer work) o));
         lent = lent_behind (rated ts answer work) o k.lent;

@@ -7,11 +7,14 @@
 --   settled-none, settled-some == the result where the verdict accepts: 17 is the last condition of the table
 --
 -- Assumes nothing.
+use Rattle.meaning.specs.Answers.{Reply, told as reply_told}
+use Rattle.std.specs.Prelude.{Ok, Err}
 use Prim.Native.Nat.{ℕ, ◌<◌}
 use mathlib.Core.Path.{◌≡◌, refl, sym, ap, subst, ◌∙◌}
 use mathlib.Core.Bool.{Bool, true, false}
 use mathlib.Core.List.{List, [], ◌∷◌, ◌++◌}
-use mathlib.Core.Option.{Option, none, some}
+use mathlib.Core.Option as maybe
+use mathlib.Core.Option.{none, some}
 use lib.ListN.{length}
 use Rattle.meaning.specs.declared.Refusal.{Refusal}
 use Rattle.meaning.specs.declared.PowerRating.{PowerRating}
@@ -30,14 +33,12 @@ use Rattle.bridge.proofs.Lists.Polynomials.{monic-nonempty}
 use Rattle.bridge.proofs.Lists.Products.{power-monic}
 use Rattle.bridge.proofs.Lists.Irreducibles.{accepted-degree}
 use Rattle.bridge.proofs.Sequences.Repeats.{shortest_exists}
-use Rattle.refusals.specs.declared.Verdict.{Verdict}
 use Rattle.refusals.specs.Verdicts.{number_in}
 use Rattle.refusals.proofs.Settled.{settle-last, settle_over}
 use Rattle.repeat.specs.shortest.Shortest.{Deciding}
 use Rattle.repeat.proofs.shortest.Deciding.{annihilated_decide}
 use Rattle.powers.specs.product.Writing.{PowerInput, PowerWritten}
-use Rattle.period_way.specs.declared.Found.{Found}
-use Rattle.period_way.specs.declared.Found.TheVariants.{Power, Nothing}
+use Rattle.std.specs.Prelude.{Option, Some, None}
 use Rattle.period_way.specs.Period.{told}
 use Rattle.rate_period.specs.Ratings.{rating_found, Answerable, FoundRated}
 
@@ -56,8 +57,8 @@ rating-found :
 unfolding rating_found power_rating value_of
 rating-found F f ts e = ap value_of (map_option-some _ e)
 
-module _ {F : Field} {f : Polynomial} {ts : List ℕ} {found : Found} where
-  module _ (x : Answerable F f ts (told found)) {r : ℕ} (q : found ≡ Power r) where
+module _ {F : Field} {f : Polynomial} {ts : List ℕ} {found : Option ℕ} where
+  module _ (x : Answerable F f ts (told found)) {r : ℕ} (q : found ≡ Some r) where
     pub power-input : PowerInput F f r
     unfolding told
     power-input =
@@ -79,18 +80,18 @@ module _ {F : Field} {f : Polynomial} {ts : List ℕ} {found : Found} where
 
   module _ {answer : List ℕ} where
     pub nothing-rated :
-        found ≡ Nothing
-        → FoundRated F f ts (told found) answer (PowerRating.Refused Refusal.NotAnnihilated) answer
-    unfolding told rating_found told_power number_of figures_of map_result answer_after
+        found ≡ None
+        → FoundRated F f ts (told found) answer (Err Refusal.NotAnnihilated) answer
+    unfolding told rating_found told_power reply_told number_of figures_of map_result answer_after
     nothing-rated q = rw q (record { rating = refl; answer_bytes = refl })
 
     pub power-rated :
         {r d n : ℕ} {answer' : List ℕ}
-        → found ≡ Power r
+        → found ≡ Some r
         → PowerWritten F f r answer answer' d
         → shortest_period ts ≡ some n
-        → FoundRated F f ts (told found) answer (PowerRating.Rated r d n) answer'
-    unfolding told told_power figures_of map_result answer_after
+        → FoundRated F f ts (told found) answer (Ok (record { power = r; degree = d; repeat = n })) answer'
+    unfolding told told_power reply_told figures_of map_result answer_after
     power-rated {r} {d} {n} q w e =
         let z : rating_found F f ts (told found) ≡ answered (rating F f r n)
         = ap (λ g. rating_found F f ts (told g)) q ∙ rating-found F f ts e in
@@ -105,7 +106,7 @@ module _ {F : Field} {f : Polynomial} {ts : List ℕ} {found : Found} where
 work-found :
     (F : Field) (f : Polynomial) (ts : List ℕ)
     → 0 < length ts
-    → (o : Option ℕ) (work : List ℕ)
+    → (o : maybe.Option ℕ) (work : List ℕ)
     → work_after (rating_found F f ts o) work ≡ cleared work
 unfolding work_after clears clearing holds_for_some rating_found
 work-found F f ts l none work = refl
@@ -114,8 +115,8 @@ work-found F f ts l (some r) work =
     ap (λ (a : Result (Rated PowerFigures)). work_after a work) (rating-found F f ts e)
 
 -- A call whose verdict has passed
-module _ (F : Field) (f : Polynomial) (ts : List ℕ) {o o' : Option ℕ} (k : o' ≡ o)
-    {answer answer' : List ℕ} {q : PowerRating} (x : FoundRated F f ts o' answer q answer')
+module _ (F : Field) (f : Polynomial) (ts : List ℕ) {o o' : maybe.Option ℕ} (k : o' ≡ o)
+    {answer answer' : List ℕ} {q : Reply PowerRating} (x : FoundRated F f ts o' answer q answer')
     {result : Result (Rated PowerFigures)} (e : result ≡ rating_found F f ts o) where
   same-result : rating_found F f ts o' ≡ result
   same-result = ap (rating_found F f ts) k ∙ sym e
@@ -140,7 +141,7 @@ module _ (F : Field) (f : Polynomial) (ts : List ℕ) {o o' : Option ℕ} (k : o
 
 -- 17 is the last condition of a table whose others the verdict has tried
 module _ (F : Field) (f : Polynomial) (ts : List ℕ) (table : List Check) (test : Unit {0} → Bool)
-    (o : Option ℕ) {v : Verdict} (e : number_in v ≡ first_of table) (q : v ≡ Verdict.Accepted) where
+    (o : maybe.Option ℕ) {v : Reply (Unit {0})} (e : number_in v ≡ first_of table) (q : v ≡ Ok tt) where
   pub settled-none :
       test tt ≡ true
       → settle (table ++ ((17, test) ∷ [])) (λ _. bind o (power_rating F f ts)) ≡ rating_found F f ts none

@@ -9,6 +9,8 @@
 --                        made
 --
 -- Assumes nothing.
+use Rattle.meaning.specs.Answers.{Reply, told}
+use Rattle.std.specs.Prelude.{Ok, Err}
 use Prim.Native.Nat.{ℕ, ◌-◌, ◌≤◌}
 use mathlib.Core.Path.{◌≡◌, refl, sym, ap, subst, ◌∙◌, ap₂}
 use mathlib.Core.Bool.{false}
@@ -33,11 +35,9 @@ use Rattle.bridge.proofs.Lists.Multiples.{Leads, coefficients_lead, multiple-ten
 use Rattle.bridge.proofs.Lists.Multiples.{multiple-length}
 use Rattle.meaning.proofs.Passes.{Passes}
 use Rattle.arith.specs.declared.field.GaloisField.{GaloisField}
-use Rattle.arith.specs.declared.field.FieldAnswer.{FieldAnswer}
-use Rattle.arith.specs.Represented.{field_of, FieldMade}
-use Rattle.arith.proofs.Door.{made-named, made_declined, behind_door, at_door}
+use Rattle.arith.specs.Represented.{field_of, FieldNamed, Declined}
+use Rattle.arith.proofs.Door.{behind_door, at_door}
 use Rattle.irreducible.proofs.Accepted.{accepted-short}
-use Rattle.refusals.specs.declared.Verdict.{Verdict}
 use Rattle.meaning.specs.Irreducibility.{irreducible_table}
 use Rattle.refusals.specs.Verdicts.{number_in, terms_table, given_table}
 use Rattle.refusals.proofs.Settled.{verdict_passes, settle-given}
@@ -48,8 +48,8 @@ use Rattle.refusals.proofs.Ways.{period-parts}
 use Rattle.rate_period.proofs.PeriodAnswer.{refused_as}
 
 -- what is given, where 7, 8, 10 and 11 let it pass
-module _ {F : Field} (I : IsField F) (f : Polynomial) (ts : List ℕ) {v : Verdict}
-    (e : number_in v ≡ first_of (given_table F f ts)) (q : v ≡ Verdict.Accepted) where
+module _ {F : Field} (I : IsField F) (f : Polynomial) (ts : List ℕ) {v : Reply (Unit {0})}
+    (e : number_in v ≡ first_of (given_table F f ts)) (q : v ≡ Ok tt) where
   given : Passes (given_table F f ts)
   given = verdict_passes (given_table F f ts) e q
 
@@ -101,12 +101,12 @@ module _ {F : Field} (I : IsField F) (f : Polynomial) (ts : List ℕ) {v : Verdi
         ))
 
 -- the rating in the field
-module _ {F : Field} (I : IsField F) (f ts answer work : List ℕ) {v : Verdict}
+module _ {F : Field} (I : IsField F) (f ts answer work : List ℕ) {v : Reply (Unit {0})}
     (e : number_in v ≡ first_of (given_table F f ts)) where
   pub given_refused :
       {x : Refusal}
-      → v ≡ Verdict.Refused x
-      → RatedAs (period_in F f ts (length answer) (length work)) answer work (PowerRating.Refused x) answer
+      → v ≡ Err x
+      → RatedAs (period_in F f ts (length answer) (length work)) answer work (Err x) answer
       work
   unfolding period_in period_answer given_table terms_table irreducible_table holds_for_some clears clearing
   given_refused q =
@@ -118,8 +118,8 @@ module _ {F : Field} (I : IsField F) (f ts answer work : List ℕ) {v : Verdict}
       refused_as z (never-clears (given_table F f ts) refl e q)
 
   pub given-rated :
-      {r : PowerRating} {answer' work' g : List ℕ}
-      → v ≡ Verdict.Accepted
+      {r : Reply PowerRating} {answer' work' g : List ℕ}
+      → v ≡ Ok tt
       → g ≡ monic_multiple F f
       → RatedAs (period_answer F false false g ts (length answer) (length work)) answer work r answer' work'
       → RatedAs (period_in F f ts (length answer) (length work)) answer work r answer' work'
@@ -137,24 +137,21 @@ module _ {F : Field} (I : IsField F) (f ts answer work : List ℕ) {v : Verdict}
 abbrev rated : List ℕ → List ℕ → List ℕ → List ℕ → Field → Result (Rated PowerFigures)
 rated f ts answer work F = period_in F f ts (length answer) (length work)
 
-module _ {name : FieldName} {made : FieldAnswer} (h : FieldMade name made) (f ts answer work : List ℕ) where
-  pub call_refused : {x : Refusal} → made ≡ FieldAnswer.Refused x
-      → PeriodCall name f ts answer work (PowerRating.Refused x) answer work
-  unfolding rate_period told_power figures_of map_result
-  call_refused e =
-      let d = made_declined h e in
+module _ {name : FieldName} (f ts answer work : List ℕ) where
+  pub call_refused : {x : Refusal} → Declined name x → PeriodCall name f ts answer work (Err x) answer work
+  unfolding rate_period told_power told figures_of map_result
+  call_refused d =
       record {
         rating = ap figures_of (sym (at_door (rated f ts answer work) d));
         lent = lent_declined (rated f ts answer work) d;
       }
 
-  pub call_made : {field : GaloisField} {r : PowerRating} {answer' work' : List ℕ}
-      → made ≡ FieldAnswer.Made field
+  pub call_made : {field : GaloisField} {r : Reply PowerRating} {answer' work' : List ℕ}
+      → FieldNamed name field
       → RatedAs (rated f ts answer work (field_of field)) answer work r answer' work'
       → PeriodCall name f ts answer work r answer' work'
   unfolding rate_period
-  call_made e k =
-      let o = made-named h e in
+  call_made o k =
       record {
         rating = k.rating ∙ ap figures_of (sym (behind_door (rated f ts answer work) o));
         lent = lent_behind (rated f ts answer work) o k.lent;

@@ -9,11 +9,15 @@
 --   period-rated      == the result where the verdict accepts
 --
 -- Assumes nothing.
+use Rattle.meaning.specs.Answers.{Reply, told as reply_told}
+use Rattle.std.specs.Prelude.{Ok, Err}
 use Prim.Native.Nat.{ℕ, ◌≤◌}
 use mathlib.Core.Path.{◌≡◌, refl, sym, ap, ◌∙◌}
 use mathlib.Core.Bool.{Bool, false}
 use mathlib.Core.List.{List, [], ◌∷◌, ◌++◌}
-use mathlib.Core.Option.{Option, none, some}
+use mathlib.Core.Option as maybe
+use Rattle.std.specs.Prelude.{Option}
+use mathlib.Core.Option.{none, some}
 use native.Mathlib.Omega.{arith}
 use lib.ListN.{length}
 use lib.Dec.{T}
@@ -34,11 +38,9 @@ use Rattle.bridge.proofs.Ways.Accepted.{count-accepted, terms-accepted, lent-eno
 use Rattle.meaning.proofs.Passes.{Passes}
 use Rattle.irreducible.specs.Accepted.{Accepted}
 use Rattle.irreducible.proofs.Accepted.{accepted-short}
-use Rattle.refusals.specs.declared.Verdict.{Verdict}
 use Rattle.refusals.specs.Verdicts.{number_in, lent_table, period_rest, period_checks}
 use Rattle.refusals.proofs.Settled.{verdict_passes, settle-early, period-last}
 use Rattle.refusals.proofs.Lent.{lent_refused, never-clears}
-use Rattle.period_way.specs.declared.Found.{Found}
 use Rattle.period_way.specs.Period.{told, PeriodInput, PeriodFound}
 use Rattle.rate_period.specs.Ratings.{rating_found, Answerable, FoundRated, Checked, RatedAs}
 use Rattle.meaning.specs.Period.{period_power, period_answer}
@@ -61,8 +63,8 @@ pub refused_as :
     {result : Result (Rated PowerFigures)} {answer work : List ℕ} {x : Refusal}
     → result ≡ refused (number_of x)
     → clears (number_of x) ≡ false
-    → RatedAs result answer work (PowerRating.Refused x) answer work
-unfolding told_power figures_of map_result
+    → RatedAs result answer work (Err x) answer work
+unfolding told_power reply_told figures_of map_result
 refused_as e other = record { rating = sym (ap figures_of e); lent = lent_refused e other }
 
 module _ (F : Field) (f : Polynomial) (ts : List ℕ) (answer work : ℕ) (x : Checked F f ts) where
@@ -87,11 +89,11 @@ module _ (F : Field) (f : Polynomial) (ts : List ℕ) (answer work : ℕ) (x : C
   rest_decides =
       sym (period-rest F ts answer work x.count_in_range x.terms_in_field f)
 
-  module _ {v : Verdict} (k : number_in v ≡ first_of (period_rest F f answer work)) where
-    period-early : {r : Refusal} → v ≡ Verdict.Refused r → result ≡ refused (number_of r)
+  module _ {v : Reply (Unit {0})} (k : number_in v ≡ first_of (period_rest F f answer work)) where
+    period-early : {r : Refusal} → v ≡ Err r → result ≡ refused (number_of r)
     period-early q = period-settled ∙ settle-early (period_checks F f ts answer work) _ _ (k ∙ rest_decides) q
 
-    module _ (q : v ≡ Verdict.Accepted) where
+    module _ (q : v ≡ Ok tt) where
       passes : Passes (period_rest F f answer work)
       passes = verdict_passes (period_rest F f answer work) k q
 
@@ -121,7 +123,7 @@ module _ (F : Field) (f : Polynomial) (ts : List ℕ) (answer work : ℕ) (x : C
       period-rating = go (period_power F f ts) refl
         where
           go :
-              (o : Option ℕ)
+              (o : maybe.Option ℕ)
               → period_power F f ts ≡ o
               → result ≡ rating_found F f ts (period_power F f ts)
           go none z =
@@ -135,7 +137,7 @@ module _ (F : Field) (f : Polynomial) (ts : List ℕ) (answer work : ℕ) (x : C
 
       pub period_answerable :
           IsField F
-          → {found : Found} {w w' : List ℕ}
+          → {found : Option ℕ} {w w' : List ℕ}
           → PeriodFound F f ts w w' found
           → Answerable F f ts (told found)
       period_answerable I y =
@@ -151,21 +153,21 @@ module _ (F : Field) (f : Polynomial) (ts : List ℕ) (answer work : ℕ) (x : C
           }
 
 -- the inner function
-module _ (F : Field) (f ts answer work : List ℕ) (m : Checked F f ts) {v : Verdict}
+module _ (F : Field) (f ts answer work : List ℕ) (m : Checked F f ts) {v : Reply (Unit {0})}
     (e : number_in v ≡ first_of (period_rest F f (length answer) (length work))) where
   pub period_refused :
       {x : Refusal}
-      → v ≡ Verdict.Refused x
+      → v ≡ Err x
       → RatedAs (period_answer F false false f ts (length answer) (length work)) answer work
-      (PowerRating.Refused x) answer work
+      (Err x) answer work
   unfolding period_rest lent_table holds_for_some clears clearing
   period_refused q =
       refused_as (period-early F f ts (length answer) (length work) m e q)
       (never-clears (period_rest F f (length answer) (length work)) refl e q)
 
   pub period-rated :
-      {found : Found} {r : PowerRating} {answer' work' : List ℕ}
-      → v ≡ Verdict.Accepted
+      {found : Option ℕ} {r : Reply PowerRating} {answer' work' : List ℕ}
+      → v ≡ Ok tt
       → PeriodFound F f ts work work' found
       → FoundRated F f ts (told found) answer r answer'
       → RatedAs (period_answer F false false f ts (length answer) (length work)) answer work r answer' work'

@@ -18,7 +18,7 @@ use Rattle.meaning.specs.Sequence.{periodic, AnnihilatesEndless}
 use Rattle.meaning.specs.Result.{Result, refused, value_of, Rated, figures_of, answer_after}
 use Rattle.meaning.specs.Conditions.{factor_degree_out_of_range, count_out_of_range, term_out_of_field}
 use Rattle.meaning.specs.Power.{PowerFigures, power_rating}
-use Rattle.meaning.specs.Answers.{told_power}
+use Rattle.meaning.specs.Answers.{told_power, Reply}
 use Rattle.meaning.specs.Calls.{LentAfter}
 use Rattle.irreducible.specs.Accepted.{Accepted}
 
@@ -36,7 +36,7 @@ pub record Answerable (F : Field) (f : Polynomial) (ts : List ℕ) (o : Option �
   pub small : (r : ℕ) → o ≡ some r → r * degree f ≤ 4096
 
 pub record FoundRated (F : Field) (f : Polynomial) (ts : List ℕ) (o : Option ℕ) (answer : List ℕ)
-    (r : PowerRating) (answer' : List ℕ) : Type 0 where
+    (r : Reply PowerRating) (answer' : List ℕ) : Type 0 where
   pub rating : told_power r ≡ figures_of (rating_found F f ts o)
   pub answer_bytes : answer' ≡ answer_after (rating_found F f ts o) answer
 
@@ -45,7 +45,7 @@ pub record Checked (F : Field) (g : Polynomial) (ts : List ℕ) : Type 0 where
   pub count_in_range : count_out_of_range (length ts) ≡ false
   pub terms_in_field : term_out_of_field F ts ≡ false
 
-pub record RatedAs (result : Result (Rated PowerFigures)) (answer work : List ℕ) (r : PowerRating)
+pub record RatedAs (result : Result (Rated PowerFigures)) (answer work : List ℕ) (r : Reply PowerRating)
     (answer' work' : List ℕ) : Type 0 where
   pub rating : told_power r ≡ figures_of result
   pub lent : LentAfter result answer work answer' work'

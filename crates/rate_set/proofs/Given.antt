@@ -7,17 +7,18 @@
 --   call_refused, call_made == the contract of the call, where the name is refused and where the field is
 --                        made
 -- Assumes nothing.
+use Rattle.std.specs.Prelude.{Ok, Err}
+use Rattle.meaning.specs.Answers.{Reply}
 use Prim.Native.Nat.{ℕ, ◌≤◌, ◌<◌}
 use native.Mathlib.Omega.{arith}
 use mathlib.Core.Path.{◌≡◌, refl, sym, ap, ap₂, subst, ◌∙◌}
 use mathlib.Core.Bool.{false}
 use mathlib.Core.List.{List, [], map}
-use lib.ListN.{length, get_or, replicate, length-map}
+use lib.ListN.{length, get_or, length-map}
 use lib.Dec.{eqb, ltb}
 use borrow.Author.Tests.{ltb-false}
 use Rattle.meaning.specs.declared.FieldName.{FieldName}
 use Rattle.meaning.specs.declared.Refusal.{Refusal}
-use Rattle.meaning.specs.declared.SetOutcome.{SetOutcome}
 use Rattle.meaning.specs.declared.SetRating.{SetRating}
 use Rattle.meaning.specs.Search.{holds_for_some, map_option}
 use Rattle.meaning.specs.Field.{Field}
@@ -34,14 +35,12 @@ use Rattle.bridge.proofs.Basics.Interpretation.{IsField}
 use Rattle.bridge.proofs.Lists.Multiples.{Leads, coefficients_lead, multiple-ten, multiple-eleven}
 use Rattle.bridge.proofs.Lists.Multiples.{multiples-ten, multiples-eleven}
 use Rattle.arith.specs.declared.field.GaloisField.{GaloisField}
-use Rattle.arith.specs.declared.field.FieldAnswer.{FieldAnswer}
-use Rattle.arith.specs.Represented.{field_of, FieldMade}
-use Rattle.arith.proofs.Door.{made-named, made_declined, behind_door, at_door}
+use Rattle.arith.specs.Represented.{field_of, FieldNamed, Declined}
+use Rattle.arith.proofs.Door.{behind_door, at_door}
 use Rattle.irreducible.proofs.Accepted.{accepted-short}
 use Rattle.poly.specs.multiples.Packable.{Packable}
 use Rattle.poly.proofs.parts.Packing.{flatten_short}
 use Rattle.bridge.proofs.Lists.Monics.{get_or_mapped}
-use Rattle.refusals.specs.declared.Verdict.{Verdict}
 use Rattle.refusals.specs.Verdicts.{number_in, terms_table, factors_table, given_set_table}
 use Rattle.refusals.proofs.Settled.{verdict_passes, settle-given}
 use Rattle.refusals.proofs.Ways.{set-parts}
@@ -49,8 +48,8 @@ use Rattle.refusals.proofs.Lent.{never-clears, lent_refused, lent_declined, lent
 use Rattle.rate_set.specs.Ratings.{Checked, SetRatedAs}
 use Rattle.rate_set.proofs.SetWay.{refused_call}
 
-module _ {F : Field} (I : IsField F) (fs : List Polynomial) (ts : List ℕ) {v : Verdict}
-    (e : number_in v ≡ first_of (given_set_table F fs ts)) (q : v ≡ Verdict.Accepted) where
+module _ {F : Field} (I : IsField F) (fs : List Polynomial) (ts : List ℕ) {v : Reply (Unit {0})}
+    (e : number_in v ≡ first_of (given_set_table F fs ts)) (q : v ≡ Ok tt) where
   given : Passes (given_set_table F fs ts)
   given = verdict_passes (given_set_table F fs ts) e q
 
@@ -104,15 +103,14 @@ module _ {F : Field} (I : IsField F) (fs : List Polynomial) (ts : List ℕ) {v :
       }
 
 -- the rating in the field
-module _ {F : Field} (I : IsField F) (fs : List Polynomial) (us ts answer work : List ℕ) {v : Verdict}
+module _ {F : Field} (I : IsField F) (fs : List Polynomial) (us ts answer work : List ℕ) {v : Reply (Unit {0})}
     (e : number_in v ≡ first_of (given_set_table F fs ts)) where
   pub given-set_refused :
-      {x : Refusal} {s : SetRating}
-      → v ≡ Verdict.Refused x
-      → (s.outcome ≡ SetOutcome.Refused x) × (s.powers ≡ replicate 8 0)
-      → SetRatedAs (set_in F fs us ts (length answer) (length work)) answer work s answer work
+      {x : Refusal}
+      → v ≡ Err x
+      → SetRatedAs (set_in F fs us ts (length answer) (length work)) answer work (Err x) answer work
   unfolding set_in set_answer given_set_table terms_table factors_table holds_for_some clears clearing
-  given-set_refused q o =
+  given-set_refused q =
       let gs = map (monic_multiple F) fs in
       let z =
       ap
@@ -120,11 +118,11 @@ module _ {F : Field} (I : IsField F) (fs : List Polynomial) (us ts answer work :
       (set_powers F (named gs us) ts)))
       (set-parts F ts (length answer) (length work) fs gs us (length-map fs (monic_multiple F)))
       ∙ settle-given (given_set_table F fs ts) _ _ e q in
-      refused_call o z (lent_refused z (never-clears (given_set_table F fs ts) refl e q))
+      refused_call z (lent_refused z (never-clears (given_set_table F fs ts) refl e q))
 
   pub given-set-rated :
-      {r : SetRating} {answer' work' : List ℕ}
-      → v ≡ Verdict.Accepted
+      {r : Reply SetRating} {answer' work' : List ℕ}
+      → v ≡ Ok tt
       → SetRatedAs
       (set_answer F false false (named (map (monic_multiple F) fs) us) ts (length answer) (length work))
       answer work r answer' work'
@@ -141,26 +139,21 @@ module _ {F : Field} (I : IsField F) (fs : List Polynomial) (us ts answer work :
 abbrev rated : List Polynomial → List ℕ → List ℕ → List ℕ → List ℕ → Field → Result (Rated SetFigures)
 rated fs us ts answer work F = set_in F fs us ts (length answer) (length work)
 
-module _ {name : FieldName} {made : FieldAnswer} (h : FieldMade name made) (fs : List Polynomial)
-    (us ts answer work : List ℕ) where
-  pub call_refused : {x : Refusal} {s : SetRating} → made ≡ FieldAnswer.Refused x
-      → (s.outcome ≡ SetOutcome.Refused x) × (s.powers ≡ replicate 8 0)
-      → SetCall name fs us ts answer work s answer work
+module _ {name : FieldName} (fs : List Polynomial) (us ts answer work : List ℕ) where
+  pub call_refused : {x : Refusal} → Declined name x → SetCall name fs us ts answer work (Err x) answer work
   unfolding rate_set
-  call_refused e o =
+  call_refused d =
       let k = rated fs us ts answer work in
-      let d = made_declined h e in
-      let y = refused_call o (at_door k d) (lent_declined k d) in
+      let y = refused_call (at_door k d) (lent_declined k d) in
       record { rating = y.rating; powers = y.powers; lent = y.lent }
 
-  pub call_made : {field : GaloisField} {r : SetRating} {answer' work' : List ℕ}
-      → made ≡ FieldAnswer.Made field
+  pub call_made : {field : GaloisField} {r : Reply SetRating} {answer' work' : List ℕ}
+      → FieldNamed name field
       → SetRatedAs (rated fs us ts answer work (field_of field)) answer work r answer' work'
       → SetCall name fs us ts answer work r answer' work'
   unfolding rate_set
-  call_made e x =
+  call_made o x =
       let k = rated fs us ts answer work in
-      let o = made-named h e in
       let same = sym (behind_door k o) in
       record {
         rating = x.rating ∙ ap (λ z. map_result set_figures_told (figures_of z)) same;

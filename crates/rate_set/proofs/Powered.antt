@@ -20,7 +20,7 @@ use Rattle.bridge.proofs.Lists.Irreducibles.{Factors}
 use Rattle.bridge.proofs.Basics.Searches.{or-false, none-at}
 use Rattle.bridge.proofs.Lists.Products.{factor_at, power_at, length-named, power_at-named, factor_at-named}
 use Rattle.arith.specs.declared.field.GaloisField.{GaloisField}
-use Rattle.arith.specs.Represented.{field_of, WellFormed}
+use Rattle.arith.specs.Represented.{field_of}
 use Rattle.irreducible.specs.Accepted.{Accepted}
 use Rattle.irreducible.proofs.Accepted.{accepted-short}
 use Rattle.powers.specs.product.Writing.{ProductInput}
@@ -68,11 +68,10 @@ module _ {F : Field} {fs : List Polynomial} {ts : List ℕ} (m : Checked F fs ts
   accepted-lengths i k = accepted-short (accepted-at i k)
 
 pub factors-suited :
-    {field : GaloisField} {fs : List Polynomial} {ts : List ℕ}
-    → WellFormed field
+    (field : GaloisField) {fs : List Polynomial} {ts : List ℕ}
     → Checked (field_of field) fs ts
     → Factors (field_of field) fs
     → (i : ℕ)
     → i < length fs
     → Suited (field_of field) (get_or fs i [])
-factors-suited w m x i k = accepted-suited w (accepted-at m i k) (x.irreducibles i k)
+factors-suited field m x i k = accepted-suited field (accepted-at m i k) (x.irreducibles i k)

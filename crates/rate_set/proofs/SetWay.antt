@@ -12,12 +12,12 @@ use Prim.Native.Nat.{ℕ, ◌≤◌}
 use mathlib.Core.Path.{◌≡◌, refl, sym, ap, subst, ◌∙◌}
 use mathlib.Core.Bool.{Bool, true, false, not}
 use mathlib.Core.List.{List}
-use mathlib.Core.Option.{some}
-use lib.ListN.{length, replicate}
+use mathlib.Core.Option as maybe
+use mathlib.Core.Option.{some, none, none-ne-some, some-injective}
+use Rattle.std.specs.Prelude.{Ok, Err, Option, Some, None}
+use lib.ListN.{length}
 use Rattle.meaning.specs.declared.Refusal.{Refusal}
-use Rattle.meaning.specs.declared.SetOutcome.{SetOutcome}
-use Rattle.meaning.specs.declared.SetRating.{SetRating}
-use Rattle.meaning.specs.Search.{holds_for_some}
+use Rattle.meaning.specs.Search.{holds_for_some, map_option}
 use Rattle.meaning.specs.Field.{Field}
 use Rattle.meaning.specs.Polynomial.{Polynomial, degree, product}
 use Rattle.meaning.specs.Sequence.{annihilates_known}
@@ -26,7 +26,8 @@ use Rattle.meaning.specs.Result.{Result, refused, answered, map_result, first_of
 use Rattle.meaning.specs.Result.{written, cleared, clearing, clears}
 use Rattle.meaning.specs.RepeatLength.{repeat_length}
 use Rattle.meaning.specs.Portion.{SetFigures, factors_of, set_powers, onward, set_rating, set_answer}
-use Rattle.meaning.specs.Answers.{number_of, told_set, set_figures_told, padded, set_padded}
+use Rattle.meaning.specs.Answers.{number_of, told, told_set, set_figures_told, padded, set_padded}
+use Rattle.meaning.specs.Answers.{set_places, Reply}
 use Rattle.meaning.specs.Calls.{LentAfter}
 use Rattle.meaning.proofs.Passes.{Passes}
 use Rattle.bridge.proofs.Basics.Searches.{map_option-some}
@@ -38,17 +39,15 @@ use Rattle.bridge.proofs.Ways.Portions.{set_powers_exists}
 use Rattle.bridge.proofs.Sequences.CommonOrders.{repeat_by_orders}
 use Rattle.bridge.proofs.Sequences.RepeatLengths.{set-repeat_length}
 use Rattle.arith.specs.declared.field.GaloisField.{GaloisField}
-use Rattle.arith.specs.Represented.{field_of, WellFormed}
-use Rattle.refusals.specs.declared.Verdict.{Verdict}
+use Rattle.arith.specs.Represented.{field_of}
 use Rattle.refusals.specs.Verdicts.{number_in, multiples_table, powers_table, lent_table, set_rest}
 use Rattle.refusals.specs.Verdicts.{set_checks}
 use Rattle.refusals.proofs.Settled.{verdict_passes, settle-early, settle-last, settle_over, set_last}
 use Rattle.refusals.proofs.Ways.{set_rest_lem}
 use Rattle.powers.specs.product.Writing.{ProductInput, ProductWritten}
 use Rattle.set_way.specs.actions.SetActions.{SetInput}
-use Rattle.set_way.specs.SetWay.{SetFound}
+use Rattle.set_way.specs.SetWay.{powers_found, told_powers}
 use Rattle.set_way.proofs.actions.Inputs.{input-monics}
-use Rattle.set_way.proofs.Answers.{answer-annihilated, answer-powers}
 use Rattle.set_way.proofs.Sizes.{set-count, set-eight, set-product, named-padded}
 use Rattle.refusals.proofs.Lent.{clearing_in, never-clears, lent_refused, lent-seventeen, lent-rated}
 use Rattle.repeat.specs.Factors.{PoweredFactors}
@@ -57,18 +56,15 @@ use Rattle.rate_set.proofs.Powered.{product-powered, checked_few, accepted-lengt
 
 -- A refusal tells its number and no powers.
 pub refused_call :
-    {result : Result (Rated SetFigures)} {answer work answer' work' : List ℕ} {x : Refusal} {s : SetRating}
-    → (s.outcome ≡ SetOutcome.Refused x) × (s.powers ≡ replicate 8 0)
+    {result : Result (Rated SetFigures)} {answer work answer' work' : List ℕ} {x : Refusal}
     → result ≡ refused (number_of x)
     → LentAfter result answer work answer' work'
-    → SetRatedAs result answer work s answer' work'
-unfolding told_set map_result figures_of set_padded padded
-refused_call (o, z) e l =
+    → SetRatedAs result answer work (Err x) answer' work'
+unfolding told_set told set_places map_result figures_of set_padded padded
+refused_call e l =
     record {
-      rating =
-          ap told_set o
-          ∙ ap (λ (r : Result (Rated SetFigures)). map_result set_figures_told (figures_of r)) (sym e);
-      powers = z ∙ ap (λ (r : Result (Rated SetFigures)). set_padded (figures_of r)) (sym e);
+      rating = ap (λ (r : Result (Rated SetFigures)). map_result set_figures_told (figures_of r)) (sym e);
+      powers = ap (λ (r : Result (Rated SetFigures)). set_padded (figures_of r)) (sym e);
       lent = l;
     }
 
@@ -85,8 +81,7 @@ rated_call :
     {result : Result (Rated SetFigures)} {fs : List Polynomial} (us ts : List ℕ) {answer work : List ℕ}
     {F : Field}
     (rs : List ℕ)
-    {powers answer' work' : List ℕ} {n b k : ℕ} {s : SetRating}
-    → (s.outcome ≡ SetOutcome.Rated n b k) × (s.powers ≡ powers)
+    {powers answer' work' : List ℕ} {n b k : ℕ}
     → length rs ≡ length fs
     → result ≡ answered (set_rating F (named fs us) ts rs)
     → b ≡ repeat_length (product F (named (factors_of (named fs us)) rs)) (onward F (named fs us) ts)
@@ -94,14 +89,14 @@ rated_call :
     → k ≡ length fs
     → ProductWritten F fs (padded rs) answer answer' n
     → work' ≡ cleared work
-    → SetRatedAs result answer work s answer' work'
-unfolding told_set set_figures_told map_result figures_of set_padded set_rating
-rated_call {fs = fs} us ts {answer = answer} {F = F} rs {n = n} {b = b} (o, z) size e j i k y w =
+    → SetRatedAs result answer work (Ok (record { degree = n; repeat = b; count = k; powers = powers })) answer'
+    work'
+unfolding told_set told set_places set_figures_told map_result figures_of set_padded set_rating
+rated_call {fs = fs} us ts {answer = answer} {F = F} rs {n = n} {b = b} size e j i k y w =
     let g = answer-polynomial F fs us rs size in
     record {
       rating =
-          ap told_set o
-          ∙ ap (λ c. answered (record { degree = n; repeat = b; count = c })) (k ∙ sym size)
+          ap (λ c. answered (record { degree = n; repeat = b; count = c })) (k ∙ sym size)
           ∙ ap (λ d. answered (record { degree = d; repeat = b; count = length rs }))
           (y.new_degree ∙ ap degree g)
           ∙ ap (λ m. answered (record {
@@ -110,9 +105,50 @@ rated_call {fs = fs} us ts {answer = answer} {F = F} rs {n = n} {b = b} (o, z) s
             count = length rs;
           })) j
           ∙ ap (λ (r : Result (Rated SetFigures)). map_result set_figures_told (figures_of r)) (sym e);
-      powers = z ∙ i ∙ ap (λ (r : Result (Rated SetFigures)). set_padded (figures_of r)) (sym e);
+      powers = i ∙ ap (λ (r : Result (Rated SetFigures)). set_padded (figures_of r)) (sym e);
       lent = lent-rated e (y.answer ∙ ap (λ h. written h answer) g) w;
     }
+
+-- what the search answers
+module _ (F : Field) (l : List (Polynomial × ℕ)) (ts : List ℕ) {found : Option (List ℕ)}
+    (y : told_powers found ≡ map_option padded (powers_found F l ts)) where
+  powers_told :
+      {powers : List ℕ}
+      → found ≡ Some powers
+      → (rs : List ℕ)
+      × (annihilates_known F (product F l) ts ≡ true)
+      × (set_powers F l ts ≡ some rs)
+      × (powers ≡ padded rs)
+  unfolding told_powers map_option powers_found
+  powers_told {powers} n = go (annihilates_known F (product F l) ts) refl (set_powers F l ts) refl
+    where
+      told : some powers ≡ map_option padded (powers_found F l ts)
+      told = sym (ap told_powers n) ∙ y
+
+      go : (b : Bool)
+          → annihilates_known F (product F l) ts ≡ b
+          → (o : maybe.Option (List ℕ))
+          → set_powers F l ts ≡ o
+          → (rs : List ℕ)
+          × (annihilates_known F (product F l) ts ≡ true)
+          × (set_powers F l ts ≡ some rs)
+          × (powers ≡ padded rs)
+      go false e o s = absurd (none-ne-some _ (sym (rw (e, powers_found, map_option) at told)))
+      go true e none s = absurd (none-ne-some _ (sym (rw (e, s, powers_found, map_option) at told)))
+      go true e (some rs) s =
+          (rs, e, s, some-injective powers (padded rs) (rw (e, s, powers_found, map_option) at told))
+
+  nothing_told : found ≡ None → {rs : List ℕ} → set_powers F l ts ≡ some rs
+      → annihilates_known F (product F l) ts ≡ false
+  unfolding told_powers map_option powers_found
+  nothing_told n {rs} s = go (annihilates_known F (product F l) ts) refl
+    where
+      told : none ≡ map_option padded (powers_found F l ts)
+      told = sym (ap told_powers n) ∙ y
+
+      go : (b : Bool) → annihilates_known F (product F l) ts ≡ b → annihilates_known F (product F l) ts ≡ false
+      go false e = e
+      go true e = absurd (none-ne-some _ (rw (e, s, powers_found, map_option) at told))
 
 none-clears :
     (F : Field) (fs : List Polynomial) (us ts : List ℕ) (answer work : ℕ)
@@ -130,12 +166,12 @@ module _ (F : Field) (fs : List Polynomial) (us ts : List ℕ) (answer work : �
       sym
       (set_rest_lem F ts answer work m.count_in_range m.terms_in_field fs us m.factor_count)
 
-  module _ {v : Verdict} (k : number_in v ≡ first_of (set_rest F fs us ts answer work)) where
-    set-early : {x : Refusal} → v ≡ Verdict.Refused x → result ≡ refused (number_of x)
+  module _ {v : Reply (Unit {0})} (k : number_in v ≡ first_of (set_rest F fs us ts answer work)) where
+    set-early : {x : Refusal} → v ≡ Err x → result ≡ refused (number_of x)
     unfolding set_answer
     set-early q = rw (set_last F ts answer work fs us) (settle-early _ _ _ (k ∙ rest_decides) q)
 
-    module _ (q : v ≡ Verdict.Accepted) where
+    module _ (q : v ≡ Ok tt) where
       passes : Passes (set_rest F fs us ts answer work)
       passes = verdict_passes _ k q
 
@@ -176,93 +212,83 @@ module _ (F : Field) (fs : List Polynomial) (us ts : List ℕ) (answer work : �
           (settle_over _ _ _ (k ∙ rest_decides) q (ap not h)
           ∙ ap value_of (map_option-some (set_rating F (named fs us) ts) i))
 
-      module _ (I : IsField F) {b : Bool} {w w' powers : List ℕ}
-          (y : SetFound F fs us ts w w' b powers) where
-        powers_exist : (rs : List ℕ) × (set_powers F (named fs us) ts ≡ some rs)
-        powers_exist =
-            set_powers_exists I (named fs us) (monics-nonempty F (named fs us) (input-monics set-input)) ts
+      powers_exist : IsField F → (rs : List ℕ) × (set_powers F (named fs us) ts ≡ some rs)
+      powers_exist I =
+          set_powers_exists I (named fs us) (monics-nonempty F (named fs us) (input-monics set-input)) ts
 
-        decided : annihilates_known F (product F (named fs us)) ts ≡ b
-        decided = sym (answer-annihilated I set-input y)
-
-        pub set-powers-eight : b ≡ true → 8 ≡ length powers
+      module _ (I : IsField F) {found : Option (List ℕ)}
+          (y : told_powers found ≡ map_option padded (powers_found F (named fs us) ts)) where
+        pub set-powers-eight : {powers : List ℕ} → found ≡ Some powers → 8 ≡ length powers
         set-powers-eight n =
-            let (rs, s) = powers_exist in
-            sym (ap length (answer-powers I set-input y n s) ∙ set-eight I set-input s)
+            let (rs, _, s, i) = powers_told F (named fs us) ts y n in
+            sym (ap length i ∙ set-eight I set-input s)
 
-        pub set-powers-input : b ≡ true → ProductInput F fs powers
+        pub set-powers-input : {powers : List ℕ} → found ≡ Some powers → ProductInput F fs powers
         set-powers-input n =
-            let (rs, s) = powers_exist in
-            subst (ProductInput F fs) (sym (answer-powers I set-input y n s)) (set-product I set-input s)
+            let (rs, _, s, i) = powers_told F (named fs us) ts y n in
+            subst (ProductInput F fs) (sym i) (set-product I set-input s)
 
 module _ (F : Field) (fs : List Polynomial) (us ts answer work : List ℕ) (m : Checked F fs ts)
-    {v : Verdict} (e : number_in v ≡ first_of (set_rest F fs us ts (length answer) (length work))) where
+    {v : Reply (Unit {0})} (e : number_in v ≡ first_of (set_rest F fs us ts (length answer) (length work))) where
   pub set_refused :
-      {x : Refusal} {s : SetRating}
-      → v ≡ Verdict.Refused x
-      → (s.outcome ≡ SetOutcome.Refused x) × (s.powers ≡ replicate 8 0)
-      → SetRatedAs (set_answer F false false (named fs us) ts (length answer) (length work)) answer work s
+      {x : Refusal}
+      → v ≡ Err x
+      → SetRatedAs (set_answer F false false (named fs us) ts (length answer) (length work)) answer work (Err x)
       answer work
-  set_refused q o =
+  set_refused q =
       let k = set-early F fs us ts (length answer) (length work) m e q in
-      refused_call o k
+      refused_call k
       (lent_refused k (never-clears _ (none-clears F fs us ts (length answer) (length work)) e q))
 
-  module _ (q : v ≡ Verdict.Accepted) (I : IsField F) {b : Bool}
-      {work' powers : List ℕ} (y : SetFound F fs us ts work work' b powers) where
-    input : SetInput F fs us ts
-    input = set-input F fs us ts (length answer) (length work) m e q
+  input : v ≡ Ok tt → SetInput F fs us ts
+  input q = set-input F fs us ts (length answer) (length work) m e q
 
-    tried : annihilates_known F (product F (named fs us)) ts ≡ b
-    tried = decided F fs us ts (length answer) (length work) m e q I y
-
+  module _ (q : v ≡ Ok tt) (I : IsField F) {found : Option (List ℕ)} {work' : List ℕ}
+      (y : told_powers found ≡ map_option padded (powers_found F (named fs us) ts))
+      (w : work' ≡ cleared work) where
     pub set-seventeen :
-        {s : SetRating}
-        → b ≡ false
-        → (s.outcome ≡ SetOutcome.Refused Refusal.NotAnnihilated) × (s.powers ≡ replicate 8 0)
-        → SetRatedAs (set_answer F false false (named fs us) ts (length answer) (length work)) answer work s
-        answer work'
+        found ≡ None
+        → SetRatedAs (set_answer F false false (named fs us) ts (length answer) (length work)) answer work
+        (Err Refusal.NotAnnihilated) answer work'
     unfolding number_of
-    set-seventeen n o =
-        let k = not-annihilated F fs us ts (length answer) (length work) m e q (tried ∙ n) in
-        refused_call o k (lent-seventeen k y.work)
+    set-seventeen n =
+        let (rs, s) = powers_exist F fs us ts (length answer) (length work) m e q I in
+        let tried = nothing_told F (named fs us) ts y n s in
+        let k = not-annihilated F fs us ts (length answer) (length work) m e q tried in
+        refused_call k (lent-seventeen k w)
 
     pub set-rated :
-        {answer' : List ℕ} {d r k : ℕ} {t : SetRating}
-        → b ≡ true
+        {powers answer' : List ℕ} {d r k : ℕ}
+        → found ≡ Some powers
         → k ≡ length fs
         → ProductWritten F fs powers answer answer' d
         → r ≡ repeat_by_orders F (named fs powers)
-        → (t.outcome ≡ SetOutcome.Rated d r k) × (t.powers ≡ powers)
-        → SetRatedAs (set_answer F false false (named fs us) ts (length answer) (length work)) answer work t
-        answer' work'
-    set-rated {answer'} {d} n k z j o =
-        let (rs, s) = powers_exist F fs us ts (length answer) (length work) m e q I y in
-        let i = answer-powers I input y n s in
-        let size = set-count I input s in
-        let factors = subst (Factors F) (sym (factors_of-named fs us)) input.factors in
+        → SetRatedAs (set_answer F false false (named fs us) ts (length answer) (length work)) answer work
+        (Ok (record { degree = d; repeat = r; count = k; powers = powers })) answer' work'
+    set-rated {powers} {answer'} {d} n k z j =
+        let (rs, tried, s, i) = powers_told F (named fs us) ts y n in
+        let size = set-count I (input q) s in
+        let factors = subst (Factors F) (sym (factors_of-named fs us)) (input q).factors in
         let repeat =
         j
         ∙ ap (λ l. repeat_by_orders F (named fs l)) i
         ∙ ap (repeat_by_orders F) (named-padded fs rs size)
         ∙ ap (λ (gs : List Polynomial). repeat_by_orders F (named gs rs)) (sym (factors_of-named fs us))
-        ∙ sym (set-repeat_length I (named fs us) factors ts input.in_field input.enough s) in
+        ∙ sym (set-repeat_length I (named fs us) factors ts (input q).in_field (input q).enough s) in
         rated_call us ts rs
-        o
         size
-        (annihilated F fs us ts (length answer) (length work) m e q rs (tried ∙ n) s)
+        (annihilated F fs us ts (length answer) (length work) m e q rs tried s)
         repeat
         i
         k
         (subst (λ l. ProductWritten F fs l answer answer' d) i z)
-        y.work
+        w
 
 -- over the field as the code has it, what the repeat length asks
 pub set-powered :
-    {field : GaloisField} {fs : List Polynomial} {us ts powers : List ℕ}
-    → WellFormed field
+    (field : GaloisField) {fs : List Polynomial} {us ts powers : List ℕ}
     → Checked (field_of field) fs ts
     → SetInput (field_of field) fs us ts
     → ProductInput (field_of field) fs powers
     → PoweredFactors (field_of field) fs powers
-set-powered w m x y = product-powered y (factors-suited w m x.factors)
+set-powered field m x y = product-powered y (factors-suited field m x.factors)

@@ -12,7 +12,7 @@ use Rattle.meaning.specs.Result.{Result, map_result, Rated, figures_of}
 use Rattle.meaning.specs.Conditions.{count_out_of_range, term_out_of_field, factor_count_out_of_range}
 use Rattle.meaning.specs.Conditions.{factor_degree_out_of_range, not_monic}
 use Rattle.meaning.specs.Portion.{SetFigures}
-use Rattle.meaning.specs.Answers.{told_set, set_figures_told, set_padded}
+use Rattle.meaning.specs.Answers.{told_set, set_figures_told, set_padded, set_places, Reply}
 use Rattle.meaning.specs.Calls.{LentAfter}
 
 pub record Checked (F : Field) (gs : List Polynomial) (ts : List ℕ) : Type 0 where
@@ -22,8 +22,8 @@ pub record Checked (F : Field) (gs : List Polynomial) (ts : List ℕ) : Type 0 w
   pub degrees_in_range : holds_for_some (factor_degree_out_of_range F) gs ≡ false
   pub monic : holds_for_some (not_monic F) gs ≡ false
 
-pub record SetRatedAs (result : Result (Rated SetFigures)) (answer work : List ℕ) (r : SetRating)
+pub record SetRatedAs (result : Result (Rated SetFigures)) (answer work : List ℕ) (r : Reply SetRating)
     (answer' work' : List ℕ) : Type 0 where
-  pub rating : told_set r.outcome ≡ map_result set_figures_told (figures_of result)
-  pub powers : r.powers ≡ set_padded (figures_of result)
+  pub rating : told_set r ≡ map_result set_figures_told (figures_of result)
+  pub powers : set_places r ≡ set_padded (figures_of result)
   pub lent : LentAfter result answer work answer' work'

@@ -29,7 +29,8 @@ use Rattle.bridge.proofs.Basics.Searches.{none_uncons}
 use Rattle.arith.specs.declared.field.GaloisField.{GaloisField}
 use Rattle.arith.specs.Represented.{field_of, FieldNamed, Declined}
 use Rattle.arith.proofs.Door.{behind_door, at_door}
-use Rattle.refusals.specs.declared.Verdict.{Verdict}
+use Rattle.std.specs.Prelude.{Err}
+use Rattle.meaning.specs.Answers.{Reply}
 use Rattle.refusals.specs.Verdicts.{number_in}
 
 abbrev pub clearing_in : List Check → Bool
@@ -47,10 +48,10 @@ first-clears m (c ∷ table) h e =
     go rest false j i = rest (sym (first_of_skip c table j) ∙ e)
 
 pub never-clears :
-    (table : List Check) {v : Verdict} {x : Refusal}
+    (table : List Check) {v : Reply (Unit {0})} {x : Refusal}
     → clearing_in table ≡ false
     → number_in v ≡ first_of table
-    → v ≡ Verdict.Refused x
+    → v ≡ Err x
     → clears (number_of x) ≡ false
 unfolding number_in
 never-clears table {x = x} h e q = first-clears (number_of x) table h (sym e ∙ ap number_in q)

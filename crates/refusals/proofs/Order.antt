@@ -12,7 +12,8 @@ use Rattle.meaning.specs.declared.Refusal.{Refusal}
 use Rattle.meaning.specs.Result.{Check, first_of}
 use Rattle.meaning.proofs.Tables.{first_of_skip, first_of_stop}
 use Rattle.meaning.proofs.Passes.{nothing}
-use Rattle.refusals.specs.declared.Verdict.{Verdict}
+use Rattle.std.specs.Prelude.{Ok, Err}
+use Rattle.meaning.specs.Answers.{Reply}
 use Rattle.refusals.specs.Verdicts.{number_in}
 
 abbrev pub Passed : ℕ → List Check → Type 0
@@ -47,24 +48,24 @@ first-append (c ∷ A) B = go (first-append A B) (c.1 tt) refl
     go rest false e = rw (first_of_skip c (A ++ B) e, first_of_skip c A e) rest
 
 -- A verdict v by the table A, before a table B.
-told-before : (A B : List Check) (v : Verdict) → number_in v ≡ first_of A
+told-before : (A B : List Check) (v : Reply (Unit {0})) → number_in v ≡ first_of A
     → first_of (A ++ B) ≡ otherwise (number_in v) (first_of B)
 told-before A B v e = first-append A B ∙ ap (λ (x : Option ℕ). otherwise x (first_of B)) (sym e)
 
-module _ (A B : List Check) {v : Verdict} (e : number_in v ≡ first_of A) where
-  pub refused_before : {r : Refusal} → v ≡ Verdict.Refused r → number_in (Verdict.Refused r) ≡ first_of
+module _ (A B : List Check) {v : Reply (Unit {0})} (e : number_in v ≡ first_of A) where
+  pub refused_before : {r : Refusal} → v ≡ Err r → number_in (Err r) ≡ first_of
       (A ++ B)
   unfolding number_in
   refused_before q =
-      sym (told-before A B v e ∙ ap (λ (x : Verdict). otherwise (number_in x) (first_of B)) q)
+      sym (told-before A B v e ∙ ap (λ (x : Reply (Unit {0})). otherwise (number_in x) (first_of B)) q)
 
-  pub accepted-before : v ≡ Verdict.Accepted → first_of (A ++ B) ≡ first_of B
+  pub accepted-before : v ≡ Ok tt → first_of (A ++ B) ≡ first_of B
   unfolding number_in
-  accepted-before q = told-before A B v e ∙ ap (λ (x : Verdict). otherwise (number_in x) (first_of B)) q
+  accepted-before q = told-before A B v e ∙ ap (λ (x : Reply (Unit {0})). otherwise (number_in x) (first_of B)) q
 
 -- Two verdicts, u by the table A and v by the table B, before a table C.
-module _ (A B C : List Check) {u v : Verdict} (eu : number_in u ≡ first_of A) (ev : number_in v ≡ first_of B)
-    (first : u ≡ Verdict.Accepted) where
-  pub refused_second : {r : Refusal} → v ≡ Verdict.Refused r
-      → number_in (Verdict.Refused r) ≡ first_of (A ++ (B ++ C))
+module _ (A B C : List Check) {u v : Reply (Unit {0})} (eu : number_in u ≡ first_of A) (ev : number_in v ≡ first_of B)
+    (first : u ≡ Ok tt) where
+  pub refused_second : {r : Refusal} → v ≡ Err r
+      → number_in (Err r) ≡ first_of (A ++ (B ++ C))
   refused_second q = refused_before B C ev q ∙ sym (accepted-before A (B ++ C) eu first)

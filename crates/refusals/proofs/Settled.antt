@@ -23,53 +23,54 @@ use Rattle.meaning.specs.Portion.{set_table}
 use Rattle.meaning.specs.Answers.{number_of}
 use Rattle.meaning.proofs.Tables.{settle-none}
 use Rattle.meaning.proofs.Passes.{Passes, first_of_passes}
-use Rattle.refusals.specs.declared.Verdict.{Verdict}
+use Rattle.std.specs.Prelude.{Ok, Err}
+use Rattle.meaning.specs.Answers.{Reply}
 use Rattle.refusals.specs.Verdicts.{number_in, all_but_last, period_checks, set_checks}
 use Rattle.refusals.proofs.Order.{refused_before, accepted-before, first_here, first_skip}
 use Rattle.refusals.proofs.Order.{first-nowhere}
 
 settle-some : {A : Type 0} (table : List Check) (v : Unit {0} → Option A) (r : Refusal)
-    → number_in (Verdict.Refused r) ≡ first_of table
+    → number_in (Err r) ≡ first_of table
     → settle table v ≡ refused (number_of r)
 unfolding settle number_in
 settle-some table v r e = rw (sym e, settle)
 
 -- what an accepted call has passed: no condition of the table holds
-pub verdict_passes : (table : List Check) {r : Verdict} → number_in r ≡ first_of table → r ≡ Verdict.Accepted
+pub verdict_passes : (table : List Check) {r : Reply (Unit {0})} → number_in r ≡ first_of table → r ≡ Ok tt
     → Passes table
 unfolding number_in
 verdict_passes table e q = first_of_passes table (sym e ∙ ap number_in q)
 
 -- a whole table
-module _ {A : Type 0} (table : List Check) (v : Unit {0} → Option A) {r : Verdict}
+module _ {A : Type 0} (table : List Check) (v : Unit {0} → Option A) {r : Reply (Unit {0})}
     (e : number_in r ≡ first_of table) where
-  pub settle_refused : {x : Refusal} → r ≡ Verdict.Refused x → settle table v ≡ refused (number_of x)
+  pub settle_refused : {x : Refusal} → r ≡ Err x → settle table v ≡ refused (number_of x)
   settle_refused {x} q = settle-some table v x (sym (ap number_in q) ∙ e)
 
-  pub settle-accepted : r ≡ Verdict.Accepted → settle table v ≡ value_of (v tt)
+  pub settle-accepted : r ≡ Ok tt → settle table v ≡ value_of (v tt)
   unfolding number_in
   settle-accepted q = settle-none table v (sym e ∙ ap number_in q)
 
 -- a table that begins with A, by the verdict on A
 pub settle-given : {A : Type 0} (first rest : List Check) (v : Unit {0} → Option A)
-    {r : Verdict} {x : Refusal}
+    {r : Reply (Unit {0})} {x : Refusal}
     → number_in r ≡ first_of first
-    → r ≡ Verdict.Refused x
+    → r ≡ Err x
     → settle (first ++ rest) v ≡ refused (number_of x)
 settle-given first rest v {x = x} e q = settle-some _ v x (refused_before first rest e q)
 
 -- all of a table but its last condition c
-module _ {A : Type 0} (table : List Check) (c : Check) (v : Unit {0} → Option A) {r : Verdict}
+module _ {A : Type 0} (table : List Check) (c : Check) (v : Unit {0} → Option A) {r : Reply (Unit {0})}
     (e : number_in r ≡ first_of table) where
-  pub settle-early : {x : Refusal} → r ≡ Verdict.Refused x
+  pub settle-early : {x : Refusal} → r ≡ Err x
       → settle (table ++ (c ∷ [])) v ≡ refused (number_of x)
   settle-early {x} q = settle-some _ v x (refused_before table (c ∷ []) e q)
 
-  pub settle-last : r ≡ Verdict.Accepted → c.1 tt ≡ true → settle (table ++ (c ∷ [])) v ≡ refused c.0
+  pub settle-last : r ≡ Ok tt → c.1 tt ≡ true → settle (table ++ (c ∷ [])) v ≡ refused c.0
   unfolding settle
   settle-last q h = rw (accepted-before table (c ∷ []) e q ∙ sym (first_here c [] refl h), settle)
 
-  pub settle_over : r ≡ Verdict.Accepted → c.1 tt ≡ false
+  pub settle_over : r ≡ Ok tt → c.1 tt ≡ false
       → settle (table ++ (c ∷ [])) v ≡ value_of (v tt)
   settle_over q h =
       settle-none _ v (accepted-before table (c ∷ []) e q ∙ first_skip c [] refl h ∙ sym first-nowhere)

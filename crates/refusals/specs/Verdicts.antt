@@ -30,11 +30,12 @@ use Rattle.meaning.specs.Irreducibility.{irreducible_table}
 use Rattle.meaning.specs.Period.{period_table}
 use Rattle.meaning.specs.Portion.{set_table}
 use Rattle.meaning.specs.Answers.{number_of}
-use Rattle.refusals.specs.declared.Verdict.{Verdict}
+use Rattle.std.specs.Prelude.{Ok, Err}
+use Rattle.meaning.specs.Answers.{Reply}
 
-unfoldable pub number_in : Verdict → Option ℕ
-number_in Verdict.Accepted = none
-number_in (Verdict.Refused r) = some (number_of r)
+unfoldable pub number_in : Reply (Unit {0}) → Option ℕ
+number_in (Ok u) = none
+number_in (Err r) = some (number_of r)
 
 unfoldable pub terms_table : Field → List ℕ → List Check
 terms_table F ts =

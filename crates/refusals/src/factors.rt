@@ -3,60 +3,58 @@
 ghost use Rattle.std.specs.Prelude.{◌≡◌};
 ghost use Rattle.meaning.specs.Result.{first_of};
 ghost use Rattle.meaning.specs.Slices.{lists_of};
-ghost use Rattle.arith.specs.Represented.{field_of, WellFormed};
+ghost use Rattle.arith.specs.Represented.{field_of};
 ghost use Rattle.refusals.specs.conditions.factors.Factors.{AllAccepted};
 ghost use Rattle.meaning.specs.Irreducibility.{irreducible_table};
 ghost use Rattle.refusals.specs.Verdicts.{number_in, factors_table, multiples_table};
 
-use crate::Verdict;
-use crate::conditions::factors::{FactorCondition, holds_for_some, some_reducible, two_equal};
+use crate::conditions::factors::{
+    some_coefficient_out_of_range, some_degree_out_of_range, some_reducible, two_equal,
+};
 use crate::conditions::lists::{coefficient_out_of_range, factor_degree_out_of_range};
 use crate::conditions::numbers::factor_count_out_of_range;
 use arith::GaloisField;
 use meaning::Refusal;
 
 // One factor, or a polynomial of which it is asked whether it is irreducible: 10, 11.
-pub fn factor_verdict(field: GaloisField, factor: &[u8]) -> Verdict
-    requires { WellFormed field }
+pub fn factor_verdict(field: GaloisField, factor: &[u8]) -> Result<(), Refusal>
     ensures { number_in result ≡ first_of (irreducible_table (field_of field) factor.now) }
 {
     if factor_degree_out_of_range(field, factor) {
-        return Verdict::Refused(Refusal::DegreeOutOfRange);
+        return Err(Refusal::DegreeOutOfRange);
     }
     if coefficient_out_of_range(field, factor) {
-        return Verdict::Refused(Refusal::CoefficientOutOfRange);
+        return Err(Refusal::CoefficientOutOfRange);
     }
-    Verdict::Accepted
+    Ok(())
 }
 
 // Several factors: 9, 10, 11.
-pub fn factors_verdict(field: GaloisField, factors: &[&[u8]]) -> Verdict
-    requires { WellFormed field }
+pub fn factors_verdict(field: GaloisField, factors: &[&[u8]]) -> Result<(), Refusal>
     ensures { number_in result ≡ first_of (factors_table (field_of field) (lists_of factors.now)) }
 {
     if factor_count_out_of_range(factors.len()) {
-        return Verdict::Refused(Refusal::FactorCount);
+        return Err(Refusal::FactorCount);
     }
-    if holds_for_some(FactorCondition::DegreeOutOfRange, field, factors) {
-        return Verdict::Refused(Refusal::DegreeOutOfRange);
+    if some_degree_out_of_range(field, factors) {
+        return Err(Refusal::DegreeOutOfRange);
     }
-    if holds_for_some(FactorCondition::CoefficientOutOfRange, field, factors) {
-        return Verdict::Refused(Refusal::CoefficientOutOfRange);
+    if some_coefficient_out_of_range(field, factors) {
+        return Err(Refusal::CoefficientOutOfRange);
     }
-    Verdict::Accepted
+    Ok(())
 }
 
 // The monic multiples of the factors of a set: 12, 13.
-pub fn multiples_verdict(field: GaloisField, multiples: &[&[u8]]) -> Verdict
-    requires well_formed { WellFormed field }
-    requires all_accepted { AllAccepted (field_of field) (lists_of multiples.now) }
+pub fn multiples_verdict(field: GaloisField, multiples: &[&[u8]]) -> Result<(), Refusal>
+    requires { AllAccepted (field_of field) (lists_of multiples.now) }
     ensures { number_in result ≡ first_of (multiples_table (field_of field) (lists_of multiples.now)) }
 {
     if some_reducible(field, multiples) {
-        return Verdict::Refused(Refusal::Reducible);
+        return Err(Refusal::Reducible);
     }
     if two_equal(multiples) {
-        return Verdict::Refused(Refusal::EqualFactors);
+        return Err(Refusal::EqualFactors);
     }
-    Verdict::Accepted
+    Ok(())
 }

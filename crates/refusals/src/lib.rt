@@ -6,7 +6,6 @@
 
 pub mod conditions;
 pub mod factors;
-pub mod numbering;
 pub mod ratings;
 
 ghost use Rattle.std.specs.Prelude.{◌≡◌};
@@ -14,7 +13,7 @@ ghost use Rattle.meaning.specs.Result.{first_of};
 ghost use Rattle.meaning.specs.Free.{free_table};
 ghost use Rattle.meaning.specs.Meter.{term_table};
 ghost use Rattle.meaning.specs.Continuation.{continue_table};
-ghost use Rattle.arith.specs.Represented.{field_of, WellFormed};
+ghost use Rattle.arith.specs.Represented.{field_of};
 ghost use Rattle.refusals.specs.Verdicts.{number_in, terms_table, lent_table};
 
 use crate::conditions::lists::{
@@ -27,61 +26,54 @@ use crate::conditions::numbers::{
 use arith::GaloisField;
 use meaning::Refusal;
 
-// Whether a call is turned down, and why.
-#[derive(Clone, Copy)]
-pub enum Verdict {
-    Accepted,
-    Refused(Refusal),
-}
-
 // 7, 8: what all ways of rating meet first in the field.
-pub fn terms_verdict(field: GaloisField, terms: &[u8]) -> Verdict
-    requires { WellFormed field }
+pub fn terms_verdict(field: GaloisField, terms: &[u8]) -> Result<(), Refusal>
     ensures { number_in result ≡ first_of (terms_table (field_of field) terms.now) }
 {
     if count_out_of_range(terms.len()) {
-        return Verdict::Refused(Refusal::CountOutOfRange);
+        return Err(Refusal::CountOutOfRange);
     }
     if term_out_of_field(field, terms) {
-        return Verdict::Refused(Refusal::TermOutOfField);
+        return Err(Refusal::TermOutOfField);
     }
-    Verdict::Accepted
+    Ok(())
 }
 
 // 16: what all ways of rating meet last, but for 17.
-pub fn lent_verdict(answer: usize, work: usize) -> Verdict
+pub fn lent_verdict(answer: usize, work: usize) -> Result<(), Refusal>
     ensures { number_in result ≡ first_of (lent_table answer work) }
 {
     if lent_too_short(answer, work) {
-        return Verdict::Refused(Refusal::LentTooShort);
+        return Err(Refusal::LentTooShort);
     }
-    Verdict::Accepted
+    Ok(())
 }
 
 // The free way: 7, 8, 16.
-pub fn free_verdict(field: GaloisField, terms: &[u8], answer: usize, work: usize) -> Verdict
-    requires { WellFormed field }
+pub fn free_verdict(
+    field: GaloisField,
+    terms: &[u8],
+    answer: usize,
+    work: usize,
+) -> Result<(), Refusal>
     ensures { number_in result ≡ first_of (free_table (field_of field) terms.now answer work) }
 {
-    match terms_verdict(field, terms) {
-        Verdict::Refused(r) => Verdict::Refused(r),
-        Verdict::Accepted => lent_verdict(answer, work),
-    }
+    terms_verdict(field, terms)?;
+    lent_verdict(answer, work)
 }
 
 // A term for a meter that holds so many: 8, 18.
-pub fn term_verdict(field: GaloisField, held: usize, term: u8) -> Verdict
-    requires { WellFormed field }
+pub fn term_verdict(field: GaloisField, held: usize, term: u8) -> Result<(), Refusal>
     ensures { number_in result ≡ first_of (term_table (field_of field) held term) }
 {
     let terms = [term];
     if term_out_of_field(field, &terms) {
-        return Verdict::Refused(Refusal::TermOutOfField);
+        return Err(Refusal::TermOutOfField);
     }
     if meter_full(held) {
-        return Verdict::Refused(Refusal::MeterFull);
+        return Err(Refusal::MeterFull);
     }
-    Verdict::Accepted
+    Ok(())
 }
 
 // The continuation: 7, 8, 10, 11, 15, for a buffer of `size` bytes.
@@ -91,26 +83,25 @@ pub fn continue_verdict(
     start: &[u8],
     place: usize,
     size: usize,
-) -> Verdict
-    requires { WellFormed field }
+) -> Result<(), Refusal>
     ensures { number_in result
         ≡ first_of (continue_table (field_of field) polynomial.now start.now place
         size) }
 {
     if place_out_of_range(size, place) {
-        return Verdict::Refused(Refusal::CountOutOfRange);
+        return Err(Refusal::CountOutOfRange);
     }
     if term_out_of_field(field, start) {
-        return Verdict::Refused(Refusal::TermOutOfField);
+        return Err(Refusal::TermOutOfField);
     }
     if continuation_degree_out_of_range(polynomial) {
-        return Verdict::Refused(Refusal::DegreeOutOfRange);
+        return Err(Refusal::DegreeOutOfRange);
     }
     if coefficient_out_of_range(field, polynomial) {
-        return Verdict::Refused(Refusal::CoefficientOutOfRange);
+        return Err(Refusal::CoefficientOutOfRange);
     }
     if start_unlike_degree(polynomial, start) {
-        return Verdict::Refused(Refusal::TooFewTerms);
+        return Err(Refusal::TooFewTerms);
     }
-    Verdict::Accepted
+    Ok(())
 }

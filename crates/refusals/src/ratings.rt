@@ -4,8 +4,7 @@ ghost use Rattle.std.specs.Prelude.{◌≡◌};
 ghost use Rattle.meaning.specs.Result.{first_of};
 ghost use Rattle.meaning.specs.Conditions.{named};
 ghost use Rattle.meaning.specs.Slices.{lists_of};
-ghost use Rattle.arith.specs.Represented.{field_of, WellFormed};
-ghost use Rattle.poly.specs.factors.Degrees.{capped_degree};
+ghost use Rattle.arith.specs.Represented.{field_of};
 ghost use Rattle.irreducible.specs.Accepted.{Accepted};
 ghost use Rattle.refusals.specs.conditions.factors.Factors.{AllAccepted};
 ghost use Rattle.refusals.specs.Verdicts.{number_in, powers_table, given_table, given_set_table, period_rest};
@@ -14,90 +13,75 @@ ghost use Rattle.refusals.specs.Verdicts.{set_rest};
 use crate::conditions::factors::upper_powers_out_of_range;
 use crate::conditions::lists::{fewer_terms_than, reducible};
 use crate::factors::{factor_verdict, factors_verdict, multiples_verdict};
-use crate::{Verdict, lent_verdict, terms_verdict};
+use crate::{lent_verdict, terms_verdict};
 use arith::GaloisField;
 use meaning::Refusal;
+use poly::powered::Powered;
 
 // What the upper powers, their total degree, the number of terms and the lent bytes decide: 14, 15, 16.
-fn powers_verdict(
-    factors: &[&[u8]],
-    uppers: &[u64],
-    degree: usize,
-    terms: &[u8],
-    answer: usize,
-    work: usize,
-) -> Verdict
-    requires { degree ≡ capped_degree (named (lists_of factors.now) uppers.now) }
+fn powers_verdict(set: Powered, terms: &[u8], answer: usize, work: usize) -> Result<(), Refusal>
     ensures { number_in result
-        ≡ first_of (powers_table (named (lists_of factors.now) uppers.now)
+        ≡ first_of (powers_table (named (lists_of set.entry.factors.now) set.entry.powers.now)
         terms.now answer work) }
 {
-    if upper_powers_out_of_range(factors, uppers, degree) {
-        return Verdict::Refused(Refusal::UpperPowers);
+    if upper_powers_out_of_range(set) {
+        return Err(Refusal::UpperPowers);
     }
-    if fewer_terms_than(degree, terms) {
-        return Verdict::Refused(Refusal::TooFewTerms);
+    if fewer_terms_than(set.total_degree(), terms) {
+        return Err(Refusal::TooFewTerms);
     }
     lent_verdict(answer, work)
 }
 
 // The terms and one factor as they are given: 7, 8, 10, 11.
-pub fn given_verdict(field: GaloisField, factor: &[u8], terms: &[u8]) -> Verdict
-    requires { WellFormed field }
+pub fn given_verdict(field: GaloisField, factor: &[u8], terms: &[u8]) -> Result<(), Refusal>
     ensures { number_in result ≡ first_of
         (given_table (field_of field) factor.now terms.now) }
 {
-    match terms_verdict(field, terms) {
-        Verdict::Refused(r) => Verdict::Refused(r),
-        Verdict::Accepted => factor_verdict(field, factor),
-    }
+    terms_verdict(field, terms)?;
+    factor_verdict(field, factor)
 }
 
 // The terms and the factors of a set as they are given: 7 to 11.
-pub fn given_set_verdict(field: GaloisField, factors: &[&[u8]], terms: &[u8]) -> Verdict
-    requires { WellFormed field }
+pub fn given_set_verdict(field: GaloisField, factors: &[&[u8]], terms: &[u8]) -> Result<(), Refusal>
     ensures { number_in result
         ≡ first_of (given_set_table (field_of field) (lists_of factors.now) terms.now) }
 {
-    match terms_verdict(field, terms) {
-        Verdict::Refused(r) => Verdict::Refused(r),
-        Verdict::Accepted => factors_verdict(field, factors),
-    }
+    terms_verdict(field, terms)?;
+    factors_verdict(field, factors)
 }
 
 // The period way after that: 12, 16.
-pub fn period_verdict(field: GaloisField, multiple: &[u8], answer: usize, work: usize) -> Verdict
-    requires well_formed { WellFormed field }
-    requires accepted { Accepted (field_of field) multiple.now }
+pub fn period_verdict(
+    field: GaloisField,
+    multiple: &[u8],
+    answer: usize,
+    work: usize,
+) -> Result<(), Refusal>
+    requires { Accepted (field_of field) multiple.now }
     ensures { number_in result ≡ first_of (period_rest (field_of field) multiple.now answer work) }
 {
     if reducible(field, multiple) {
-        return Verdict::Refused(Refusal::Reducible);
+        return Err(Refusal::Reducible);
     }
     lent_verdict(answer, work)
 }
 
-// The set way after that, with the total degree of the upper powers: 12 to 16.
+// The set way after that, with monic multiples and their upper powers: 12 to 16.
 pub fn set_verdict(
     field: GaloisField,
-    multiples: &[&[u8]],
-    uppers: &[u64],
-    degree: usize,
+    set: Powered,
     terms: &[u8],
     answer: usize,
     work: usize,
-) -> Verdict
-    requires well_formed { WellFormed field }
-    requires all_accepted { AllAccepted (field_of field) (lists_of multiples.now) }
-    requires degree_value { degree ≡ capped_degree (named (lists_of multiples.now) uppers.now) }
+) -> Result<(), Refusal>
+    requires { AllAccepted (field_of field) (lists_of set.factors.now) }
     ensures { number_in result
         ≡ first_of
-        (set_rest (field_of field) (lists_of multiples.now) uppers.now
+        (set_rest (field_of field) (lists_of set.entry.factors.now) set.entry.powers.now
         terms.now
         answer work) }
 {
-    match multiples_verdict(field, multiples) {
-        Verdict::Refused(r) => Verdict::Refused(r),
-        Verdict::Accepted => powers_verdict(multiples, uppers, degree, terms, answer, work),
-    }
+    multiples_verdict(field, set.factors)?;
+    powers_verdict(set, terms, answer, work)
 }

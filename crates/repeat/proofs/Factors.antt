@@ -1,7 +1,7 @@
 -- Factors with their powers in slices, one after another.
 --
---   Largest rs j m   == m is the largest of the first j powers; `largest-start`, `largest-more`,
---                       `largest-less` and `largest-end` lead from none to all
+--   Largest rs m     == m is the largest number of rs, 0 where there is none; `largest_of`: the library's
+--                       word; `largest_is`: so it is the largest power of the factors
 --   powers-enough, largest-small == each factor has a power, and the largest is at most 4,096
 --   factor-suited    == each factor is suited
 --   common_start, common_skip, common_more, common_stop, common_end == the common multiple of the orders of
@@ -11,14 +11,17 @@
 --   repeat_fits, repeat_is == the repeat length, by the level that reaches the largest power
 --
 -- Assumes nothing.
-use Prim.Native.Nat.{ℕ, ◌+◌, ◌*◌, ◌^◌, ◌/◌, ◌≤◌, ◌<◌}
-use mathlib.Core.Path.{◌≡◌, sym, ap, ap₂, subst, ◌∙◌}
-use mathlib.Core.Logic.{◌≢◌, inl, inr}
-use mathlib.Core.List.{List}
+use Prim.Native.Nat.{ℕ, zero, suc, ◌+◌, ◌*◌, ◌^◌, ◌/◌, ◌≤◌, ◌<◌, max}
+use mathlib.Core.Path.{◌≡◌, refl, sym, ap, ap₂, subst, ◌∙◌}
+use mathlib.Core.Logic.{◌≢◌}
+use mathlib.Core.List.{List, [], ◌∷◌}
 use native.Mathlib.Nat as ℕ
 use native.Mathlib.Numerals.{add-one}
 use native.Mathlib.Omega.{arith}
 use lib.ListN.{length, get_or, take}
+use lib.Seq.{get_or-take, length-take-le}
+use Rattle.std.specs.Prelude.{Option, Some, None, fold, unwrap_or, option_map}
+use Rattle.std.specs.List.{reduce}
 use lib.Dec.{T}
 use denote.Ref.{Bor}
 use Rattle.meaning.specs.Field.{Field}
@@ -37,41 +40,54 @@ use Rattle.bridge.proofs.Sequences.CommonOrders.{largest-below}
 use Rattle.bridge.proofs.Sequences.CommonOrders.{orders_within, repeat_by_orders, Moduli, orders-none}
 use Rattle.bridge.proofs.Sequences.CommonOrders.{orders_skip}
 use Rattle.bridge.proofs.Sequences.CommonOrders.{orders-more, orders-stop, orders-all}
-use Rattle.arith.specs.Represented.{field_of, WellFormed}
-use Rattle.arith.proofs.Represented.{field_characteristic, characteristic_least}
+use Rattle.arith.specs.Represented.{field_of}
+use Rattle.arith.proofs.Represented.{characteristic_least}
 use Rattle.arith.specs.declared.field.GaloisField.{GaloisField}
 use Rattle.repeat.specs.orders.Orders.{Suited}
 use Rattle.poly.proofs.factors.Totals.{factors-length, factor-at}
 use Rattle.repeat.specs.Factors.{PoweredFactors}
 
--- The largest power of the first factors
-module _ (rs : List ℕ) where
-  pub record Largest (j m : ℕ) : Type 0 where
-    pub upper : (i : ℕ) → i < j → get_or rs i 0 ≤ m
-    pub lowest : (b : ℕ) → ((i : ℕ) → i < j → get_or rs i 0 ≤ b) → m ≤ b
+-- The largest number of a list, 0 where there is none
+pub record Largest (rs : List ℕ) (m : ℕ) : Type 0 where
+  pub upper : (i : ℕ) → i < length rs → get_or rs i 0 ≤ m
+  pub lowest : (b : ℕ) → ((i : ℕ) → i < length rs → get_or rs i 0 ≤ b) → m ≤ b
 
-  pub largest-start : Largest 0 0
-  largest-start = record { upper = λ i k. absurd (omega arith); lowest = λ b h. omega arith }
+largest_of-more : (a : ℕ) (rs : List ℕ) → Largest (a ∷ rs) (fold max a rs)
+largest_of-more a [] = record {
+  upper = λ i k. let z : i ≡ 0 = omega arith in subst (λ j. get_or (a ∷ []) j 0 ≤ a) (sym z) (omega arith);
+  lowest = λ b h. h 0 (omega arith);
+}
+largest_of-more a (c ∷ rs) =
+    let x = largest_of-more (max a c) rs in
+    let top : max a c ≤ fold max (max a c) rs = x.upper 0 (omega arith) in record {
+      upper = λ i. elim i as (λ j. j < length (a ∷ c ∷ rs) →
+          get_or (a ∷ c ∷ rs) j 0 ≤ fold max (max a c) rs) [
+            | zero ↦ λ k. ℕ.le_trans (ℕ.le-max_left a c) top
+            | suc j ↦ λ k. elim j as (λ n. suc n < length (a ∷ c ∷ rs) →
+                get_or (a ∷ c ∷ rs) (suc n) 0 ≤ fold max (max a c) rs) [
+                  | zero ↦ λ l. ℕ.le_trans (ℕ.le-max_right a c) top
+                  | suc n ↦ λ l. x.upper (suc n) (omega arith)
+                ] k
+          ];
+      lowest = λ b h.
+          x.lowest b
+          (λ i. elim i as (λ j. j < length (max a c ∷ rs) → get_or (max a c ∷ rs) j 0 ≤ b) [
+            | zero ↦ λ k. ℕ.max-le (h 0 (omega arith)) (h 1 (omega arith))
+            | suc j ↦ λ k. h (suc (suc j)) (omega arith)
+          ]);
+    }
 
-  above : (j m n : ℕ) → m ≤ n → get_or rs j 0 ≤ n → Largest j m → (i : ℕ) → i < j + 1 → get_or rs i 0 ≤ n
-  above j m n a b x i k = elim (ℕ.eq-or-lt_of_le (ℕ.le_of_suc-le-suc (subst (λ c. i < c) (add-one j) k))) [
-    | inl e ↦ subst (λ i. get_or rs i 0 ≤ n) (sym e) b
-    | inr c ↦ ℕ.le_trans (x.upper i c) a
-  ]
+largest_reduced : (rs : List ℕ) → Largest rs (unwrap_or (reduce max rs) 0)
+largest_reduced [] = record { upper = λ i k. absurd (omega arith); lowest = λ b h. omega arith }
+largest_reduced (a ∷ rs) = largest_of-more a rs
 
-  pub largest-more : {j m : ℕ} → Largest j m → m < get_or rs j 0 → Largest (j + 1) (get_or rs j 0)
-  largest-more {j} {m} x k =
-      record {
-        upper = above j m (get_or rs j 0) (omega arith) (omega arith) x;
-        lowest = λ b h. h j (omega arith);
-      }
-
-  pub largest-less : {j m : ℕ} → Largest j m → get_or rs j 0 ≤ m → Largest (j + 1) m
-  largest-less {j} {m} x k =
-      record {
-        upper = above j m m (omega arith) k x;
-        lowest = λ b h. x.lowest b (λ i c. h i (omega arith));
-      }
+pub largest_of : (r : Option ℕ) (rs : List ℕ) → option_map (λ x. x) r ≡ reduce max rs
+    → Largest rs (unwrap_or r 0)
+largest_of r rs e = subst (λ o. Largest rs (unwrap_or o 0)) (sym (same r ∙ e)) (largest_reduced rs)
+  where
+    same : (o : Option ℕ) → o ≡ option_map (λ x. x) o
+    same None = refl
+    same (Some x) = refl
 
 module _ (fs : List (Bor (List ℕ))) (rs : List ℕ) where
   abbrev l : List (Polynomial × ℕ)
@@ -83,17 +99,20 @@ module _ (fs : List (Bor (List ℕ))) (rs : List ℕ) where
   power_at_lem : (i : ℕ) → i < length fs → power_at l i ≡ get_or rs i 0
   power_at_lem i k = ap (λ f. f.1) (factor-at fs rs i k)
 
-  pub largest-end : {j m : ℕ} → Largest rs j m → length fs ≡ j → m ≡ largest_power (named (lists_of fs) rs)
-  largest-end {j} {m} x e =
+  pub largest_is : {m : ℕ} → length fs ≤ length rs → Largest (take (length fs) rs) m
+      → m ≡ largest_power (named (lists_of fs) rs)
+  largest_is {m} few x =
       largest-is l m
       (λ i k.
       let c : i < length fs = omega (arith, size) in
-      subst (λ a. a ≤ m) (sym (power_at_lem i c)) (x.upper i (omega arith)))
+      subst (λ a. a ≤ m) (sym (power_at_lem i c ∙ sym (get_or-take (length fs) rs i 0 c)))
+      (x.upper i (omega (arith, length-take-le (length fs) rs few))))
       (λ b h.
       x.lowest b
       (λ i k.
-      let c : i < length fs = omega arith in
-      subst (λ a. a ≤ b) (power_at_lem i c) (h i (omega (arith, size)))))
+      let c : i < length fs = omega (arith, length-take-le (length fs) rs few) in
+      subst (λ a. a ≤ b) (power_at_lem i c ∙ sym (get_or-take (length fs) rs i 0 c))
+      (h i (omega (arith, size)))))
 
   module _ {F : Field} (x : PoweredFactors F (lists_of fs) rs) where
     pub powers-enough : length fs ≤ length rs
@@ -175,12 +194,12 @@ pub orders-zero : (F : Field) (l : List (Polynomial × ℕ)) {b : ℕ} → b ≡
 orders-zero F l {b} e = omega (arith, orders-small F l b)
 
 -- The repeat length
-module _ {field : GaloisField} (w : WellFormed field) {e q r : ℕ} (level : Level field.characteristic r e)
-    (power : q ≡ field.characteristic ^ e) where
+module _ (field : GaloisField) {e q r : ℕ} (level : Level (field_of field).characteristic r e)
+    (power : q ≡ (field_of field).characteristic ^ e) where
   pub level-positive : 0 < q
   level-positive =
       subst (λ n. 0 < n) (sym power)
-      (ℕ.one-le-pow e field.characteristic (omega (arith, characteristic_least w)))
+      (ℕ.one-le-pow e (field_of field).characteristic (omega (arith, characteristic_least field)))
 
   pub limit_small : (b : ℕ) → b ≤ 65536 → b / q ≤ 65536
   limit_small b l = ℕ.le_trans (ℕ.div-le_self b q) l
@@ -200,5 +219,5 @@ module _ {field : GaloisField} (w : WellFormed field) {e q r : ℕ} (level : Lev
         ap (◌*◌ q) found
         ∙ ap (λ n. n * orders_within (field_of field) l (65536 / n))
         (power
-        ∙ sym (reaching-level (characteristic_least w) level)
-        ∙ ap₂ reaching (sym (field_characteristic w)) k)
+        ∙ sym (reaching-level (characteristic_least field) level)
+        ∙ ap (reaching (field_of field).characteristic) k)

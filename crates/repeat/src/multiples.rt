@@ -7,13 +7,11 @@ fn first_multiple(m: usize, n: usize, limit: usize) -> usize
     requires { (0 < m) × (m ≤ 65536) × (0 < n) × (limit ≤ 65536) }
     ensures { result ≡ common_within limit m n }
 {
-    let mut k = m;
     // k: a multiple of m; n divides none of those before it
-    while k <= limit {
+    for k in (m..=limit).step_by(m) {
         if k % n == 0 {
             return k;
         }
-        k += m;
     }
     0
 }
@@ -23,15 +21,9 @@ pub fn common_within(m: usize, n: usize, limit: usize) -> usize
     requires { (m ≤ 65536) × (n ≤ 65536) × (limit ≤ 65536) }
     ensures { result ≡ common_within limit m n }
 {
-    if m == 0 {
-        return 0;
-    }
-    if n == 0 {
-        return 0;
-    }
-    if m < n {
-        first_multiple(n, m, limit)
+    if m == 0 || n == 0 {
+        0
     } else {
-        first_multiple(m, n, limit)
+        first_multiple(m.max(n), m.min(n), limit)
     }
 }

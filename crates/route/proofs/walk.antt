@@ -1,3 +1,2 @@
-pub mod Stages
+pub mod Judging
 pub mod Walks
-pub mod Steps

@@ -4,29 +4,23 @@ ghost use Rattle.std.specs.Prelude.{◌≡◌};
 ghost use Rattle.meaning.specs.Route.{records};
 ghost use Rattle.route.specs.walk.Walking.{verdict_of, told_verdict};
 
-use crate::payload::mode_unsuited;
+use crate::mode::mode_unsuited;
 use crate::walk::walk_file;
 use meaning::Refusal;
-use refusals::Verdict;
 
 // The longest file that is looked at.
-const MOST_BYTES: usize = 16384;
+pub const MOST_BYTES: usize = 16384;
 
 // Whether the file is accepted by 1 to 5.
-pub fn file_verdict(file: &[u8]) -> Verdict
+pub fn file_verdict(file: &[u8]) -> Result<(), Refusal>
     ensures { told_verdict result ≡ verdict_of (records file.now) }
 {
     if MOST_BYTES < file.len() {
-        return Verdict::Refused(Refusal::FileTooLong);
+        return Err(Refusal::FileTooLong);
     }
-    match walk_file(file) {
-        Verdict::Refused(r) => Verdict::Refused(r),
-        Verdict::Accepted => {
-            if mode_unsuited(file) {
-                Verdict::Refused(Refusal::ModeUnsuited)
-            } else {
-                Verdict::Accepted
-            }
-        }
+    walk_file(file)?;
+    if mode_unsuited(file) {
+        return Err(Refusal::ModeUnsuited);
     }
+    Ok(())
 }

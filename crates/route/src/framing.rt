@@ -1,122 +1,125 @@
-// The records of a file by their lengths alone, with nothing checked. A place is that of a record's kind
-// byte; from the end of the file on there is no record. No function here changes a byte, and each answers for
-// every file.
-ghost use Rattle.std.specs.Prelude.{◌≡◌, [], ◌<◌, length, get_or, take, drop};
-ghost use Rattle.meaning.specs.Route.{bodies, end_record};
-ghost use Rattle.route.specs.framing.Framing.{body_length, records_from, NextPlace, FoundKind};
+// The records of a file by their lengths alone, with nothing checked. A byte that is the kind of no record
+// counts as one all the same, so there is an answer for every file. No function here changes a byte.
+ghost use Rattle.std.specs.Prelude.{◌≡◌, [], MatchOption, length, get_or, take, drop};
+ghost use Rattle.std.proofs.Math.Option.{none, some};
+ghost use Rattle.meaning.specs.Route.{look_up, body_lengths, bodies};
+ghost use Rattle.route.specs.kind.Kinds.{code};
+ghost use Rattle.route.specs.framing.Framing.{records_from};
 
-// The length that stands for a kind that there is not.
-pub const NO_KIND: usize = 255;
+use crate::kind::Kind;
+use meaning::FoundRecord;
 
-// The lengths of the bodies by kind, 1 to 9.
-const LENGTHS: [usize; 10] = [NO_KIND, 4, 1, 1, 35, 64, 1, 8, 0, 2];
+// The length of the body of a record of no kind, more than any kind has.
+const UNKNOWN_LENGTH: usize = 255;
 
-// The length of the body of a record by its kind.
-pub fn body_length(kind: u8) -> usize
-    ensures { result ≡ body_length kind }
+// The records of a file one after another: the byte that begins each, and its body, cut where the file ends.
+#[derive(Clone, Copy)]
+pub struct Records<'a> {
+    rest: &'a [u8],
+}
+
+// The bodies of the records of one kind, one after another.
+#[derive(Clone, Copy)]
+pub struct Bodies<'a> {
+    records: Records<'a>,
+    kind: Kind,
+}
+
+// The length of the body of a record by the byte that begins it.
+pub fn body_length(kind: u8) -> Option<usize>
+    ensures { MatchOption result (look_up kind body_lengths ≡ none)
+        (λ n. look_up kind body_lengths ≡ some n) }
 {
-    let k = kind as usize;
-    if k <= 9 { LENGTHS[k] } else { NO_KIND }
+    Kind::try_from(kind).ok().map(Kind::body_length)
 }
 
 // The part of at most `count` bytes from the place `from` on, cut where the bytes end.
 pub fn part(s: &[u8], from: usize, count: usize) -> &[u8]
     ensures { result.now ≡ take count (drop from s.now) }
 {
-    if s.len() <= from {
-        return &s[0..0];
-    }
-    if s.len() - from <= count {
-        return &s[from..];
-    }
-    &s[from..from + count]
+    let rest = &s[from.min(s.len())..];
+    &rest[..count.min(rest.len())]
 }
 
-// The place after the record at a place inside the file.
-pub fn next_place(file: &[u8], at: usize) -> usize
-    requires { at < length file.now }
-    ensures { NextPlace file.now at result }
-{
-    at + 1 + body_length(file[at])
+impl<'a> Records<'a> {
+    ghost use Rattle.route.specs.framing.Iterating.{left, size_of};
+
+    // All records of a file.
+    pub fn of(file: &'a [u8]) -> Records<'a>
+        ensures { left result ≡ records_from file.now 0 }
+    {
+        Records { rest: file }
+    }
+
+    // How many bytes the records take that are left.
+    pub fn size(&self) -> usize
+        ensures { result ≡ size_of (left self.now) }
+    {
+        self.rest.len()
+    }
 }
 
-// The place of record n, counted from 0; a place from the end on beyond the last record.
-pub fn place_of(file: &[u8], n: usize) -> usize
-    ensures { records_from file.now result ≡ drop n (records_from file.now 0) }
-{
-    let mut at = 0;
-    let mut left = n;
-    // records_from at, less left = records_from 0, less n
-    while 0 < left {
-        if file.len() <= at {
-            return at;
+impl<'a> Iterator for Records<'a> {
+    ghost use Rattle.std.specs.Iterator.{YieldsFirstBy, item_count};
+    ghost use Rattle.route.specs.framing.Iterating.{read, left};
+
+    type Item = FoundRecord<'a>;
+
+    ghost next_gives = { YieldsFirstBy read left };
+
+    ghost remaining = { item_count left };
+
+    fn next(&mut self) -> Option<FoundRecord<'a>> {
+        let (first, after) = self.rest.split_first()?;
+        let kind = *first;
+        let length = body_length(kind).unwrap_or(UNKNOWN_LENGTH);
+        let (body, rest) = after.split_at(length.min(after.len()));
+        self.rest = rest;
+        Some(FoundRecord { kind, body })
+    }
+}
+
+impl<'a> Bodies<'a> {
+    ghost use Rattle.route.specs.framing.Iterating.{bodies_left};
+
+    // All bodies of a file with records of the kind.
+    pub fn of(file: &'a [u8], kind: Kind) -> Bodies<'a>
+        ensures { bodies_left result ≡ bodies (code kind) (records_from file.now 0) }
+    {
+        Bodies {
+            records: Records::of(file),
+            kind,
         }
-        at = next_place(file, at);
-        left -= 1;
-    }
-    at
-}
-
-// The kind of the record at a place; from the end on, that of the end record.
-pub fn kind_at(file: &[u8], at: usize) -> u8
-    ensures { result ≡ (get_or (records_from file.now at) 0 end_record).kind }
-{
-    if at < file.len() { file[at] } else { 8 }
-}
-
-// The body of the record at a place; from the end on, the empty part.
-pub fn body_at(file: &[u8], at: usize) -> &[u8]
-    ensures { result.now ≡ (get_or (records_from file.now at) 0 end_record).body }
-{
-    if at < file.len() {
-        part(file, at + 1, body_length(file[at]))
-    } else {
-        &file[0..0]
     }
 }
 
-// The first place from `at` on with a record of the kind; a place from the end on where there is none.
-fn seek(file: &[u8], kind: u8, at: usize) -> usize
-    ensures { FoundKind file.now kind at result }
-{
-    let mut here = at;
-    // the bodies of the kind from `here` on = those from `at` on
-    while here < file.len() {
-        if file[here] == kind {
-            return here;
-        }
-        here = next_place(file, here);
+impl<'a> Iterator for Bodies<'a> {
+    ghost use Rattle.std.specs.Iterator.{YieldsFirstRef, item_count};
+    ghost use Rattle.route.specs.framing.Iterating.{bodies_left};
+
+    type Item = &'a [u8];
+
+    ghost next_gives = { YieldsFirstRef bodies_left };
+
+    ghost remaining = { item_count bodies_left };
+
+    fn next(&mut self) -> Option<&'a [u8]> {
+        let kind = u8::from(self.kind);
+        let record = self.records.find(|record| record.kind == kind)?;
+        Some(record.body)
     }
-    here
 }
 
-// The body of record i of the kind, counted from 0; the empty part beyond the last.
-pub fn body_of(file: &[u8], kind: u8, i: usize) -> &[u8]
-    ensures { result.now ≡ get_or (bodies kind (records_from file.now 0)) i [] }
+// The first body of a record of the kind; the empty part where there is none.
+pub fn first_body(file: &[u8], kind: Kind) -> &[u8]
+    ensures { result.now ≡ get_or (bodies (code kind) (records_from file.now 0)) 0 [] }
 {
-    let mut at = seek(file, kind, 0);
-    let mut left = i;
-    // body `left` of the kind from `at` on = body i of the kind
-    while 0 < left {
-        if file.len() <= at {
-            return &file[0..0];
-        }
-        at = seek(file, kind, next_place(file, at));
-        left -= 1;
-    }
-    body_at(file, at)
+    Bodies::of(file, kind).next().unwrap_or(&[])
 }
 
 // The number of records of the kind.
-pub fn count_of(file: &[u8], kind: u8) -> usize
-    ensures { result ≡ length (bodies kind (records_from file.now 0)) }
+pub fn count_of(file: &[u8], kind: Kind) -> usize
+    ensures { result ≡ length (bodies (code kind) (records_from file.now 0)) }
 {
-    let mut at = seek(file, kind, 0);
-    let mut count = 0;
-    // count + the number of the kind from `at` on = the number of the kind
-    while at < file.len() {
-        count += 1;
-        at = seek(file, kind, next_place(file, at));
-    }
-    count
+    Bodies::of(file, kind).count()
 }

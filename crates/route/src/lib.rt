@@ -4,6 +4,8 @@
 
 pub mod acceptance;
 pub mod framing;
+pub mod kind;
+pub mod mode;
 pub mod payload;
 pub mod reader;
 pub mod walk;

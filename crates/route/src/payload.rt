@@ -1,25 +1,28 @@
 // What a file holds, by its records with nothing checked: the box that sent it, the bytes of its field and
 // mode, its factors and its terms. Each function answers for every file; only `gather_terms` and `lay_factor`
 // write, and only into the bytes lent for it.
-ghost use Rattle.std.specs.Prelude.{◌≡◌, ◌<◌, ◌≤◌, length, get_or};
+ghost use Rattle.std.specs.Prelude.{◌≡◌, ◌≤◌, length, get_or};
 ghost use Rattle.std.proofs.lemmas.List.Edits.{sets};
-ghost use Rattle.meaning.specs.Route.{number, byte_of, box_of, factor_upper, mode_unsuited};
+ghost use Rattle.meaning.specs.Route.{number, byte_of, box_of, factor_upper};
+ghost use Rattle.route.specs.kind.Kinds.{code};
 ghost use Rattle.route.specs.framing.Framing.{records_from};
-ghost use Rattle.route.specs.payload.Payload.{TermsAt, Gathered, LaidFactor};
+ghost use Rattle.route.specs.framing.Iterating.{read};
+ghost use Rattle.route.specs.payload.Payload.{HoldsTerms, Gathered, LaidFactor};
 
-use crate::framing::{body_at, body_of, count_of, next_place, part};
+use crate::acceptance::MOST_BYTES;
+use crate::framing::{Records, first_body, part};
+use crate::kind::Kind;
+use meaning::FoundRecord;
 
 // The number of up to four bytes, the most significant first.
 fn big_endian(bytes: &[u8]) -> u64
     requires { length bytes.now ≤ 4 }
     ensures { result ≡ number bytes.now }
 {
-    let mut n: u64 = 0;
-    let mut i = 0;
+    let mut n = 0;
     // n < 256^i, and n continued by the bytes from i on = the number of all bytes
-    while i < bytes.len() {
-        n = 256 * n + bytes[i] as u64;
-        i += 1;
+    for byte in bytes {
+        n = 256 * n + u64::from(*byte);
     }
     n
 }
@@ -28,30 +31,24 @@ fn big_endian(bytes: &[u8]) -> u64
 pub fn box_of(file: &[u8]) -> u64
     ensures { result ≡ box_of file.now }
 {
-    if file.len() < 5 {
+    if file.len() < 5 || MOST_BYTES < file.len() || file[0] != u8::from(Kind::Box) {
         return 0;
     }
-    if 16384 < file.len() {
-        return 0;
-    }
-    if file[0] != 1 {
-        return 0;
-    }
-    big_endian(part(file, 1, 4))
+    big_endian(&file[1..5])
 }
 
 // Byte i of a body; 0 beyond the last. Byte 0 of a factor is its degree.
 pub fn byte_at(bytes: &[u8], i: usize) -> u8
     ensures { result ≡ get_or bytes.now i 0 }
 {
-    if i < bytes.len() { bytes[i] } else { 0 }
+    bytes.get(i).copied().unwrap_or(0)
 }
 
 // The one byte of the first record of the kind; 0 where there is none.
-pub fn byte_of(file: &[u8], kind: u8) -> u8
-    ensures { result ≡ byte_of kind (records_from file.now 0) }
+pub fn byte_of(file: &[u8], kind: Kind) -> u8
+    ensures { result ≡ byte_of (code kind) (records_from file.now 0) }
 {
-    byte_at(body_of(file, kind, 0), 0)
+    byte_at(first_body(file, kind), 0)
 }
 
 // The upper power that the body of a factor names.
@@ -61,59 +58,24 @@ pub fn upper_power(body: &[u8]) -> u64
     big_endian(part(body, 1, 2))
 }
 
-// Whether the mode is unknown, or the factors do not suit it.
-pub fn mode_unsuited(file: &[u8]) -> bool
-    ensures { result ≡ mode_unsuited (records_from file.now 0) }
+// The terms that a record holds; none where it is of another kind.
+fn terms_in<'a>(next: FoundRecord<'a>) -> &'a [u8]
+    ensures { HoldsTerms (read next.entry) result.now }
 {
-    let mode = byte_of(file, 3);
-    let factors = count_of(file, 4);
-    if mode == 1 {
-        if factors != 1 {
-            return true;
-        }
-        return upper_power(body_of(file, 4, 0)) != 0;
+    if next.kind == u8::from(Kind::Terms) || next.kind == u8::from(Kind::Term) {
+        next.body
+    } else {
+        &[]
     }
-    if mode == 2 {
-        if factors < 1 {
-            return true;
-        }
-        return 8 < factors;
-    }
-    if mode == 3 {
-        return factors != 0;
-    }
-    true
-}
-
-// The terms of the record at a place inside the file; the empty part where it is of another kind.
-fn terms_at(file: &[u8], at: usize) -> &[u8]
-    requires { at < length file.now }
-    ensures { TermsAt file.now at result.now }
-{
-    let kind = file[at];
-    if kind == 5 {
-        return body_at(file, at);
-    }
-    if kind == 6 {
-        return body_at(file, at);
-    }
-    &file[0..0]
 }
 
 // Writes the bytes of `from` into `to` from the place `at` on, as far as they fit.
 fn lay(from: &[u8], to: &mut [u8], at: usize)
     ensures { to.new ≡ sets to.old at from.now }
 {
-    let mut i = 0;
-    let mut place = at;
-    // the stores of `from` from i on, at `place` = the stores of all of `from`, at `at`
-    while i < from.len() {
-        if to.len() <= place {
-            return;
-        }
-        to[place] = from[i];
-        i += 1;
-        place += 1;
+    if at < to.len() {
+        let count = from.len().min(to.len() - at);
+        to[at..at + count].copy_from_slice(&from[..count]);
     }
 }
 
@@ -122,14 +84,12 @@ fn lay(from: &[u8], to: &mut [u8], at: usize)
 pub fn gather_terms(file: &[u8], terms: &mut [u8]) -> usize
     ensures { Gathered file.now terms.old result terms.new }
 {
-    let mut at = 0;
     let mut count = 0;
-    // count + the number of the terms from `at` on = the number of all terms, and so for the stores
-    while at < file.len() {
-        let found = terms_at(file, at);
+    // count + the number of the terms that are left = the number of all terms, and so for the stores
+    for record in Records::of(file) {
+        let found = terms_in(record);
         lay(found, terms, count);
         count += found.len();
-        at = next_place(file, at);
     }
     count
 }
@@ -141,9 +101,8 @@ pub fn lay_factor(body: &[u8], to: &mut [u8], at: usize) -> usize
     ensures { LaidFactor body.now at to.old result to.new }
 {
     let degree = byte_at(body, 0);
-    let low = part(body, 3, degree as usize);
+    let low = part(body, 3, usize::from(degree));
     lay(low, to, at);
-    let one = [1u8; 1];
-    lay(&one, to, at + low.len());
+    lay(&[1], to, at + low.len());
     low.len() + 1
 }

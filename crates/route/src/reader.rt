@@ -1,39 +1,25 @@
 // The reader of a route file by record number. Every function answers for every file of any length and every
 // number, and changes no lent byte.
-ghost use Rattle.std.specs.Prelude.{◌≡◌};
-ghost use Rattle.meaning.specs.Answers.{told_record};
-ghost use Rattle.meaning.specs.Calls.{body_after, RecordCall};
-ghost use Rattle.meaning.specs.Result.{map_result};
-ghost use Rattle.meaning.specs.Route.{read_record};
-ghost use Rattle.route.specs.reader.Starting.{BodyStart};
+ghost use Rattle.std.specs.Prelude.{◌≡◌, get_or};
+ghost use Rattle.meaning.specs.Calls.{RecordCall};
+ghost use Rattle.meaning.specs.Route.{end_record};
+ghost use Rattle.route.specs.framing.Framing.{records_from};
+ghost use Rattle.route.specs.framing.Iterating.{read};
+ghost use Rattle.route.specs.reader.Reading.{kind_replied, body_replied, BodyStart};
 
 use crate::acceptance::file_verdict;
-use crate::framing::{body_at, kind_at, place_of};
-use meaning::{FoundRecord, RecordOutcome};
-use refusals::Verdict;
+use crate::framing::Records;
+use crate::kind::Kind;
+use meaning::{FoundRecord, Refusal};
 
-// The kind of record n, counted from 0, or the refusal of the file; beyond the last record that of the end
-// record.
-pub fn record_outcome(file: &[u8], n: usize) -> RecordOutcome
-    ensures { told_record result ≡ map_result (λ a. a.kind) (read_record file.now n) }
+// Record n of a file by the lengths alone, counted from 0; beyond the last the end record.
+fn record_at(file: &[u8], n: usize) -> FoundRecord<'_>
+    ensures { read result ≡ get_or (records_from file.now 0) n end_record }
 {
-    match file_verdict(file) {
-        Verdict::Refused(r) => RecordOutcome::Refused(r),
-        Verdict::Accepted => RecordOutcome::Found {
-            kind: kind_at(file, place_of(file, n)),
-        },
-    }
-}
-
-// The body of record n as a part of the file; the empty part where the file is refused, and beyond the last
-// record.
-pub fn record_body(file: &[u8], n: usize) -> &[u8]
-    ensures { result.now ≡ body_after (read_record file.now n) }
-{
-    match file_verdict(file) {
-        Verdict::Refused(_) => &file[0..0],
-        Verdict::Accepted => body_at(file, place_of(file, n)),
-    }
+    Records::of(file).nth(n).unwrap_or(FoundRecord {
+        kind: u8::from(Kind::End),
+        body: &[],
+    })
 }
 
 // The place in the file where the body of record n begins, if the file is accepted; beyond the last record
@@ -41,15 +27,18 @@ pub fn record_body(file: &[u8], n: usize) -> &[u8]
 pub fn body_start(file: &[u8], n: usize) -> usize
     ensures { BodyStart file.now n result }
 {
-    let at = place_of(file, n);
-    if at < file.len() { at + 1 } else { file.len() }
+    let mut records = Records::of(file);
+    match records.nth(n) {
+        Some(record) => file.len() - records.size() - record.body.len(),
+        None => file.len(),
+    }
 }
 
-// Record n, counted from 0: its kind or the refusal of the file, and its body as a part of the file.
-pub fn record<'a>(file: &'a [u8], n: usize) -> FoundRecord<'a>
-    ensures { RecordCall file.now n result.outcome result.body.now }
+// Record n, counted from 0, its body a part of the file, or the refusal of the file; beyond the last record
+// the end record.
+pub fn record(file: &[u8], n: usize) -> Result<FoundRecord<'_>, Refusal>
+    ensures { RecordCall file.now n (kind_replied result) (body_replied result) }
 {
-    let outcome = record_outcome(file, n);
-    let body = record_body(file, n);
-    FoundRecord { outcome, body }
+    file_verdict(file)?;
+    Ok(record_at(file, n))
 }

@@ -3,24 +3,25 @@
 --   front-input       == accepted terms are accepted when they are cut to their first D, D the total degree
 --   set_powers_front   == the powers are those of the first D terms
 --   found-powers, found_nothing == the answer of the set way where the product annihilates, and where not
---   answer-annihilated == an answer says whether the product annihilates the terms
+--   answer-none, answer-some == an answer says whether the product annihilates the terms
 --   answer-powers     == and then the eight places are the powers, and zeros after them
 --
 -- Assumes nothing.
-use Prim.Native.Nat.{ℕ, ◌-◌, ◌≤◌, min}
+use Prim.Native.Nat.{ℕ, ◌≤◌, min}
 use mathlib.Core.Path.{◌≡◌, refl, sym, ap, subst, fun_ext, ◌∙◌}
-use mathlib.Core.Bool.{Bool, true, false, true≢false}
+use mathlib.Core.Bool.{Bool, true, false}
 use mathlib.Core.List.{List, [], map}
-use mathlib.Core.Option.{Option, none, some, some-injective}
+use mathlib.Core.Option as maybe
+use mathlib.Core.Option.{none, some, some-injective}
 use native.Mathlib.Nat as ℕ
 use native.Mathlib.Omega.{arith}
-use lib.ListN.{length, get_or, take, drop, replicate}
+use lib.ListN.{length, get_or, take}
 use lib.Seq.{take-take, length-take-le}
+use Rattle.std.specs.Prelude.{Option, Some, None}
 use Rattle.meaning.specs.Search.{range, map_option, together, least}
 use Rattle.meaning.specs.Field.{Field}
 use Rattle.meaning.specs.Polynomial.{Polynomial, product}
 use Rattle.meaning.specs.Sequence.{annihilates_known}
-use Rattle.meaning.specs.Result.{cleared}
 use Rattle.meaning.specs.Conditions.{named, total_degree}
 use Rattle.meaning.specs.Portion.{with_power, least_at, set_powers}
 use Rattle.meaning.specs.Answers.{padded}
@@ -30,11 +31,9 @@ use Rattle.bridge.proofs.Lists.Products.{Nonempties, monics-nonempty}
 use Rattle.bridge.proofs.Sequences.Continuations.{take-elements}
 use Rattle.bridge.proofs.Ways.Portions.{set_powers_exists}
 use Rattle.poly.proofs.factors.Totals.{total-known}
-use Rattle.lent.proofs.halves.Bytes.{kept_trans, cleared-kept}
-use Rattle.set_way.specs.actions.SetActions.{SetInput, SetDecided}
+use Rattle.set_way.specs.actions.SetActions.{SetInput}
 use Rattle.set_way.proofs.actions.Inputs.{input-monics}
-use Rattle.set_way.specs.search.SetSearch.{PowersSearched}
-use Rattle.set_way.specs.SetWay.{powers_found, told_powers, SetSearched, SetFound}
+use Rattle.set_way.specs.SetWay.{powers_found, told_powers}
 
 -- The first D terms
 pub least_at_front :
@@ -52,7 +51,7 @@ pub set_powers_front :
     → set_powers F l (take (total_degree l) ts) ≡ set_powers F l ts
 unfolding set_powers
 set_powers_front F l ts =
-    ap (λ (t : ℕ → Option ℕ). together (map t (range 0 (length l)))) (fun_ext (least_at_front F l ts))
+    ap (λ (t : ℕ → maybe.Option ℕ). together (map t (range 0 (length l)))) (fun_ext (least_at_front F l ts))
 
 pub powers_found_some :
     (F : Field) (l : List (Polynomial × ℕ)) (ts : List ℕ)
@@ -95,112 +94,83 @@ module _ {F : Field} {fs : List Polynomial} {us ts : List ℕ} (x : SetInput F f
     pub front-end : d ≤ length ts
     front-end = omega (arith, total, x.enough)
 
-    pub lent-front : take (d - 0) (drop 0 ts) ≡ take (total_degree (named fs us)) ts
-    lent-front = ap (λ n. take n ts) (ℕ.sub-zero d ∙ total)
+    lent-front : take d ts ≡ take (total_degree (named fs us)) ts
+    lent-front = ap (λ n. take n ts) total
 
-    pub lent-input : SetInput F fs us (take (d - 0) (drop 0 ts))
+    pub lent-input : SetInput F fs us (take d ts)
     lent-input = subst (SetInput F fs us) (sym lent-front) front-input
 
-    pub lent_length : length (take (d - 0) (drop 0 ts)) ≡ total_degree (named fs us)
+    pub lent_length : length (take d ts) ≡ total_degree (named fs us)
     lent_length = ap length lent-front ∙ front_length
 
     pub found-powers :
-        {w w₁ w₂ powers : List ℕ} {b : Bool}
-        → SetDecided F fs us ts w w₁ b
+        {powers : List ℕ} {b : Bool}
+        → b ≡ annihilates_known F (product F (named fs us)) ts
         → b ≡ true
-        → PowersSearched F fs us (take (d - 0) (drop 0 ts)) w₁ w₂ powers
-        → SetSearched F fs us ts w w₂ true powers
+        → map_option padded (set_powers F (named fs us) (take d ts)) ≡ some powers
+        → told_powers (Some powers) ≡ map_option padded (powers_found F (named fs us) ts)
     unfolding told_powers
     found-powers decided h y =
-        record {
-          told =
-              record {
-                powers =
-                    sym (ap (map_option padded)
-                    (powers_found_some F (named fs us) ts (sym decided.annihilated ∙ h)
-                    ∙ sym (set_powers_front F (named fs us) ts)
-                    ∙ ap (set_powers F (named fs us)) (sym lent-front))
-                    ∙ y.powers);
-                untold = λ e. absurd (true≢false e);
-              };
-          kept = kept_trans decided.kept y.kept;
-        }
+        sym (ap (map_option padded)
+        (powers_found_some F (named fs us) ts (sym decided ∙ h)
+        ∙ sym (set_powers_front F (named fs us) ts)
+        ∙ ap (set_powers F (named fs us)) (sym lent-front))
+        ∙ y)
 
   pub found_nothing :
-      {w w₁ powers : List ℕ} {b : Bool}
-      → SetDecided F fs us ts w w₁ b
+      {b : Bool}
+      → b ≡ annihilates_known F (product F (named fs us)) ts
       → b ≡ false
-      → powers ≡ replicate 8 0
-      → SetSearched F fs us ts w w₁ false powers
+      → told_powers None ≡ map_option padded (powers_found F (named fs us) ts)
   unfolding told_powers map_option
-  found_nothing decided h zeros =
-      record {
-        told =
-            record {
-              powers =
-                  sym
-                  (ap (map_option padded)
-                  (powers_found_none F (named fs us) ts (sym decided.annihilated ∙ h)));
-              untold = λ _. zeros;
-            };
-        kept = decided.kept;
-      }
-
-pub cleared-set :
-    {F : Field} {fs : List Polynomial} {us ts w w₁ w₂ powers : List ℕ} {b : Bool}
-    → SetSearched F fs us ts w w₁ b powers
-    → w₂ ≡ cleared w₁
-    → SetFound F fs us ts w w₂ b powers
-cleared-set x e = record { told = x.told; work = e ∙ cleared-kept x.kept }
+  found_nothing decided h =
+      sym (ap (map_option padded) (powers_found_none F (named fs us) ts (sym decided ∙ h)))
 
 -- What an answer says
-told-some : (b : Bool) (powers : List ℕ) → b ≡ true → told_powers b powers ≡ some powers
-unfolding told_powers
-told-some b powers h = rw (h, told_powers)
-
-told_none : (b : Bool) (powers : List ℕ) → b ≡ false → told_powers b powers ≡ none
-unfolding told_powers
-told_none b powers h = rw (h, told_powers)
-
-some-none : {A : Type 0} {a : A} → ¬ (◌≡◌ {A = Option A} (some a) none)
+some-none : {A : Type 0} {a : A} → ¬ (◌≡◌ {A = maybe.Option A} (some a) none)
 some-none {A} {a} e = let z : ◌≡◌ {A = ℕ} 0 1 = cc in omega arith
 
-module _ {F : Field} (I : IsField F) {fs : List Polynomial} {us ts w w' powers : List ℕ} {b : Bool}
-    (x : SetInput F fs us ts) (y : SetFound F fs us ts w w' b powers) where
+module _ {F : Field} (I : IsField F) {fs : List Polynomial} {us ts : List ℕ} (r : Option (List ℕ))
+    (x : SetInput F fs us ts) (y : told_powers r ≡ map_option padded (powers_found F (named fs us) ts)) where
   nonempties : Nonempties (named fs us)
   nonempties = monics-nonempty F (named fs us) (input-monics x)
 
-  pub answer-annihilated : b ≡ annihilates_known F (product F (named fs us)) ts
-  answer-annihilated = go b (annihilates_known F (product F (named fs us)) ts) refl refl
+  pub answer-none : r ≡ None → annihilates_known F (product F (named fs us)) ts ≡ false
+  unfolding told_powers
+  answer-none e = go (annihilates_known F (product F (named fs us)) ts) refl
     where
-      go :
-          (a c : Bool)
-          → b ≡ a
-          → annihilates_known F (product F (named fs us)) ts ≡ c
-          → a ≡ c
-      go true true e h = refl
-      go false false e h = refl
-      go true false e h =
-          absurd (some-none
-          (sym (told-some b powers e)
-          ∙ y.told.powers
-          ∙ ap (map_option padded) (powers_found_none F (named fs us) ts h)
-          ∙ map_option-none padded))
-      go false true e h =
+      go : (c : Bool) → annihilates_known F (product F (named fs us)) ts ≡ c → c ≡ false
+      go false h = refl
+      go true h =
           absurd (some-none
           (sym (map_option-some padded (set_powers_exists I (named fs us) nonempties ts).1)
           ∙ ap (map_option padded) (sym (powers_found_some F (named fs us) ts h))
-          ∙ sym y.told.powers
-          ∙ told_none b powers e))
+          ∙ sym y
+          ∙ ap told_powers e))
+
+  pub answer-some : {powers : List ℕ} → r ≡ Some powers
+      → annihilates_known F (product F (named fs us)) ts ≡ true
+  unfolding told_powers
+  answer-some {powers} e = go (annihilates_known F (product F (named fs us)) ts) refl
+    where
+      go : (c : Bool) → annihilates_known F (product F (named fs us)) ts ≡ c → c ≡ true
+      go true h = refl
+      go false h =
+          absurd (some-none
+          (sym (ap told_powers e)
+          ∙ y
+          ∙ ap (map_option padded) (powers_found_none F (named fs us) ts h)
+          ∙ map_option-none padded))
 
   pub answer-powers :
-      {rs : List ℕ}
-      → b ≡ true
+      {powers rs : List ℕ}
+      → r ≡ Some powers
       → set_powers F (named fs us) ts ≡ some rs
       → powers ≡ padded rs
-  answer-powers {rs} e h =
+  unfolding told_powers
+  answer-powers {powers} {rs} e h =
       some-injective powers (padded rs)
-      (sym (told-some b powers e)
-      ∙ y.told.powers
-      ∙ ap (map_option padded) (powers_found_some F (named fs us) ts (sym answer-annihilated ∙ e))
+      (sym (ap told_powers e)
+      ∙ y
+      ∙ ap (map_option padded) (powers_found_some F (named fs us) ts (answer-some e))
       ∙ map_option-some padded h)

@@ -1,75 +1,58 @@
 // The set way on accepted input: from terms in lent bytes to the powers of the factors. The first 8,192 work
-// bytes are two halves of 4,096; they are 0 in the end, and all beyond them is as it was. What one half of
-// the factors leaves of the terms for the other is kept on the stack. Assumes a well-formed field and what
-// each function says of its input. `degree` is the total degree of the upper powers.
+// bytes are two halves of 4,096; they are 0 in the end, and all beyond them is as it was. What one half of the
+// factors leaves of the terms for the other is kept on the stack. Assumes what each function says of its input.
 #![tactic(auto)]
 
 pub mod actions;
 pub mod search;
 
-ghost use Rattle.std.specs.Prelude.{◌≡◌, ◌≤◌, length, replicate};
-ghost use Rattle.arith.specs.Represented.{field_of, WellFormed};
+ghost use Rattle.std.specs.Prelude.{◌≡◌, ◌≤◌, length};
+ghost use Rattle.meaning.specs.Search.{map_option};
 ghost use Rattle.meaning.specs.Conditions.{named};
+ghost use Rattle.meaning.specs.Answers.{padded};
 ghost use Rattle.meaning.specs.Slices.{lists_of};
-ghost use Rattle.poly.specs.factors.Degrees.{capped_degree};
+ghost use Rattle.arith.specs.Represented.{field_of};
 ghost use Rattle.set_way.specs.actions.SetActions.{SetInput};
-ghost use Rattle.set_way.specs.SetWay.{SetSearched, SetFound};
+ghost use Rattle.set_way.specs.SetWay.{powers_found, told_powers, SetFound};
 
 use crate::actions::annihilates;
 use crate::search::least_powers;
 use arith::GaloisField;
-use lent::clear;
+use poly::powered::Powered;
 
-// Whether the product to the upper powers annihilates the terms. If so, the powers are left in the order of
-// the factors in eight places that are 0 before, and zeros after them; if not, the eight places stay as they
-// were. Uses both halves of the work bytes, and leaves all beyond them as it was.
+// The powers of the factors in the minimal polynomial of the continuation of the first D terms, D the total
+// degree of the upper powers, in eight places with zeros after them; or nothing, if the product to the upper
+// powers does not annihilate all terms. Uses both halves of the work bytes.
 fn search_set(
     field: GaloisField,
-    work: &mut [u8],
-    factors: &[&[u8]],
-    uppers: &[u64],
-    degree: usize,
+    work: &mut [u8; 8192],
+    set: Powered,
     terms: &[u8],
-    powers: &mut [u64; 8],
-) -> bool
-    requires well_formed { WellFormed field }
-    requires in_bounds { 8192 ≤ length work.old }
-    requires set_input { SetInput (field_of field) (lists_of factors.now) uppers.now terms.now }
-    requires degree_value { degree ≡ capped_degree (named (lists_of factors.now) uppers.now) }
-    requires powers_value { powers.old ≡ replicate 8 0 }
-    ensures { SetSearched (field_of field) (lists_of factors.now) uppers.now
-        terms.now work.old work.new result powers.new }
+) -> Option<[u64; 8]>
+    requires { SetInput (field_of field) (lists_of set.factors.now) set.powers.now terms.now }
+    ensures { told_powers result ≡ map_option padded (powers_found (field_of field)
+        (named (lists_of set.entry.factors.now) set.entry.powers.now) terms.now) }
 {
-    if annihilates(field, work, factors, uppers, degree, terms) {
-        least_powers(field, work, factors, uppers, &terms[0..degree], powers);
-        true
-    } else {
-        false
+    if !annihilates(field, work, set, terms) {
+        return None;
     }
+    Some(least_powers(field, work, set, &terms[..set.total_degree()]))
 }
 
-// Whether the product to the upper powers annihilates all terms. If so, writes the powers of the factors in
-// the minimal polynomial of the continuation of the first `degree` terms to the front of eight places that
-// are 0 before; if not, they stay as they were. Leaves the first 8,192 work bytes 0, and the others as they
-// were.
+// The same, with the first 8,192 work bytes left 0, and the others as they were.
 pub fn set_powers(
     field: GaloisField,
     work: &mut [u8],
-    factors: &[&[u8]],
-    uppers: &[u64],
-    degree: usize,
+    set: Powered,
     terms: &[u8],
-    powers: &mut [u64; 8],
-) -> bool
-    requires well_formed { WellFormed field }
+) -> Option<[u64; 8]>
     requires in_bounds { 8192 ≤ length work.old }
-    requires set_input { SetInput (field_of field) (lists_of factors.now) uppers.now terms.now }
-    requires degree_value { degree ≡ capped_degree (named (lists_of factors.now) uppers.now) }
-    requires powers_value { powers.old ≡ replicate 8 0 }
-    ensures { SetFound (field_of field) (lists_of factors.now) uppers.now
-        terms.now work.old work.new result powers.new }
+    requires set_input { SetInput (field_of field) (lists_of set.factors.now) set.powers.now terms.now }
+    ensures { SetFound (field_of field) (lists_of set.entry.factors.now) set.entry.powers.now
+        terms.now work.old work.new result }
 {
-    let found = search_set(field, work, factors, uppers, degree, terms, powers);
-    clear(work);
+    let halves = work.first_chunk_mut::<8192>().unwrap();
+    let found = search_set(field, halves, set, terms);
+    halves.fill(0);
     found
 }

@@ -18,13 +18,12 @@ use lib.ListN.{length, take, length-append}
 use lib.Seq.{length-take-le}
 use lib.Dec.{ltb, T_not, not_T}
 use borrow.Author.Tests.{ltb-false}
+use Rattle.meaning.specs.Answers.{Reply, told, set_places, free_figures_of}
+use Rattle.std.specs.Prelude.{Ok, Err}
 use Rattle.meaning.specs.declared.FieldName.{FieldName}
 use Rattle.meaning.specs.declared.PowerRating.{PowerRating}
-use Rattle.meaning.specs.declared.SetOutcome.{SetOutcome}
 use Rattle.meaning.specs.declared.SetRating.{SetRating}
 use Rattle.meaning.specs.declared.FreeRating.{FreeRating}
-use Rattle.meaning.specs.declared.Filling.{Filling}
-use Rattle.meaning.specs.declared.Irreducibility.{Irreducibility}
 use Rattle.meaning.specs.Search.{holds_for_all, holds_for_some, is_none, bind, map_option}
 use Rattle.meaning.specs.Field.{Field, prime_in_range}
 use Rattle.meaning.specs.Polynomial.{Polynomial, monic_multiple, product}
@@ -106,10 +105,10 @@ power-meets :
     → Listed numbers
     → (x : Result (Rated PowerFigures))
     → Tells numbers x
-    → (r : PowerRating) × (told_power r ≡ figures_of x)
-unfolding told_power figures_of
+    → (r : Reply PowerRating) × (told_power r ≡ figures_of x)
+unfolding told_power told figures_of
 power-meets numbers numbered x t =
-    meets told_power (λ a. PowerRating.Rated a.power a.degree a.repeat) PowerRating.Refused
+    meets told_power (λ a. Ok (record { power = a.power; degree = a.degree; repeat = a.repeat })) Err
     (λ a. refl) (λ z. refl) numbers numbered (figures_of x) (map_tells numbers (λ a. a.figures) x refl t)
 
 -- THE PERIOD WAY
@@ -221,7 +220,7 @@ module _ (name : FieldName) (f : Polynomial) (ts answer work : List ℕ) where
   period_result = rate_period name f ts (length answer) (length work)
 
   period-some :
-      (r : PowerRating)
+      (r : Reply PowerRating)
       × (answer' : List ℕ)
       × (work' : List ℕ)
       × PeriodCall name f ts answer work r answer' work'
@@ -339,24 +338,45 @@ module _ (name : FieldName) (fs : List Polynomial) (vs ts answer work : List ℕ
   abbrev set_result : Result (Rated SetFigures)
   set_result = rate_set name fs vs ts (length answer) (length work)
 
+  -- what a set tells is told by some answer
+  set-meets :
+      (x : Result SetFigures)
+      → Tells (set_numbers name) x
+      → (r : Reply SetRating) × (told_set r ≡ map_result set_figures_told x) × (set_places r ≡ set_padded x)
+  unfolding told_set told map_result set_figures_told set_places set_padded
+  set-meets x (inl (a, e)) = (
+    Ok
+        (record {
+          degree = a.degree;
+          repeat = a.repeat;
+          count = length a.powers;
+          powers = padded a.powers;
+        }),
+    sym (ap (map_result set_figures_told) e),
+    sym (ap set_padded e),
+  )
+  set-meets x (inr (n, e, h)) =
+      let (z, q) = set-listed name n h in (
+        Err z,
+        ap refused q ∙ sym (ap (map_result set_figures_told) e),
+        sym (ap set_padded e),
+      )
+
   set-some :
-      (r : SetRating)
+      (r : Reply SetRating)
       × (answer' : List ℕ)
       × (work' : List ℕ)
       × SetCall name fs vs ts answer work r answer' work'
-  unfolding told_set figures_of set_figures_told
+  unfolding figures_of
   set-some =
-      let numbers = set_numbers name in
-      let (o, e) =
-      meets told_set (λ a. SetOutcome.Rated a.degree a.repeat a.count) SetOutcome.Refused (λ a. refl)
-      (λ z. refl) numbers (set-listed name) (map_result set_figures_told (figures_of set_result))
-      (map_tells numbers set_figures_told (figures_of set_result) refl
-      (map_tells numbers (λ a. a.figures) set_result refl
-      (set_told name fs vs ts (length answer) (length work)))) in (
-        record { outcome = o; powers = set_padded (figures_of set_result) },
+      let (r, e, f) =
+      set-meets (figures_of set_result)
+      (map_tells (set_numbers name) (λ a. a.figures) set_result refl
+      (set_told name fs vs ts (length answer) (length work))) in (
+        r,
         answer_after set_result answer,
         work_after set_result work,
-        record { rating = e; powers = refl; lent = lent-after set_result answer work },
+        record { rating = e; powers = f; lent = lent-after set_result answer work },
       )
 
   set_room : Sized (λ a. (set_figures_told a).degree) set_result (length answer) (length work)
@@ -372,7 +392,7 @@ set_answers name fs vs ts answer work =
       each =
           λ r answer' work' c.
           rating_answers (set_numbers name) (lists_conditions name fs vs ts (length answer) (length work))
-          (λ a. a.degree) set_figures_told (set_result name fs vs ts answer work) (told_set r.outcome) answer
+          (λ a. a.degree) set_figures_told (set_result name fs vs ts answer work) (told_set r) answer
           work answer' work' c.rating (set-keeping name)
           (set_told name fs vs ts (length answer) (length work))
           (set_decided name fs vs ts (length answer) (length work)) (set_room name fs vs ts answer work)
@@ -441,28 +461,28 @@ pub rating_free : FreeFigures → FreeRating
 rating_free x =
     elim x.unique [ true ↦ FreeRating.Unique x.degree | false ↦ FreeRating.Several x.degree ]
 
-pub rating_free-told : (x : FreeFigures) → told_free (rating_free x) ≡ answered x
-unfolding rating_free told_free
+pub rating_free-told : (x : FreeFigures) → told_free (Ok (rating_free x)) ≡ answered x
+unfolding rating_free told_free told free_figures_of
 rating_free-told x = go x.unique refl
   where
-    go : (u : Bool) → x.unique ≡ u → told_free (rating_free x) ≡ answered x
-    go true e = rw (e, rating_free, told_free)
-    go false e = rw (e, rating_free, told_free)
+    go : (u : Bool) → x.unique ≡ u → told_free (Ok (rating_free x)) ≡ answered x
+    go true e = rw (e, rating_free, told_free, told, free_figures_of)
+    go false e = rw (e, rating_free, told_free, told, free_figures_of)
 
 module _ (name : FieldName) (ts answer work : List ℕ) where
   abbrev free_result : Result (Rated FreeFigures)
   free_result = rate_free name ts (length answer) (length work)
 
   free-some :
-      (r : FreeRating)
+      (r : Reply FreeRating)
       × (answer' : List ℕ)
       × (work' : List ℕ)
       × FreeCall name ts answer work r answer' work'
-  unfolding told_free figures_of
+  unfolding told_free figures_of told
   free-some =
       let numbers = free_numbers name in
       let (r, e) =
-      meets told_free rating_free FreeRating.Refused rating_free-told (λ z. refl) numbers (free-listed name)
+      meets told_free (λ a. Ok (rating_free a)) Err rating_free-told (λ z. refl) numbers (free-listed name)
       (figures_of free_result)
       (map_tells numbers (λ a. a.figures) free_result refl
       (free-told name ts (length answer) (length work))) in (
@@ -560,7 +580,7 @@ module _ (name : FieldName) (g : Polynomial) (start buffer : List ℕ) (place : 
       (in_answered name (λ F. continue_in F g start place buffer) e).1
 
 pub continue_answers : ContinueAnswers
-unfolding told_filling buffer_after
+unfolding told_filling buffer_after told
 continue_answers name g start buffer place =
     let numbers = continue_numbers name in
     let result = continued name g start buffer place in
@@ -578,7 +598,7 @@ continue_answers name g start buffer place =
           λ r buffer' c. ap length c.buffer_bytes ∙ continue_kept name g start buffer place _ refl;
       some =
           let (r, e) =
-          meets told_filling (λ _. Filling.Filled) Filling.Refused (λ a. refl) (λ z. refl) numbers
+          meets told_filling Ok Err (λ a. refl) (λ z. refl) numbers
           (continue_listed name) (map_result (λ _. tt) result)
           (map_tells numbers (λ _. tt) result refl told) in
           (r, buffer_after result buffer, record { filling = e; buffer_bytes = refl });
@@ -593,15 +613,6 @@ irreducible-listed name = name-listed name _ (listed _ tt)
 pub irreducible-keeping : (name : FieldName) → Keeping (irreducible_numbers name)
 unfolding holds_for_all
 irreducible-keeping name = name-keeping name _ (keeping _ tt)
-
-said : Bool → Irreducibility
-said true = Irreducibility.Irreducible
-said false = Irreducibility.HasFactors
-
-said-told : (b : Bool) → told_irreducible (said b) ≡ answered b
-unfolding said told_irreducible
-said-told true = refl
-said-told false = refl
 
 module _ (F : Field) (f : Polynomial) where
   irreducible_tells : Tells (numbers_of (irreducible_table F f)) (irreducible_in F f)
@@ -626,14 +637,14 @@ irreducible-decided name f =
     name-decided name (λ F. irreducible_in F f) _ (λ _. irreducible_decides (GF name) f)
 
 pub irreducible_answers : IrreducibleAnswers
-unfolding told_irreducible
+unfolding told_irreducible told
 irreducible_answers name f =
     record {
       tells = λ r c. subst (Tells (irreducible_numbers name)) (sym c.answer) (irreducible-told name f);
       decided = λ r c. subst (Decided _) (sym c.answer) (irreducible-decided name f);
       some =
           let (r, e) =
-          meets told_irreducible said Irreducibility.Refused said-told (λ z. refl) (irreducible_numbers name)
+          meets told_irreducible Ok Err (λ b. refl) (λ z. refl) (irreducible_numbers name)
           (irreducible-listed name) (ask_irreducible name f) (irreducible-told name f) in
           (r, record { answer = e });
       one = λ r s c d. irreducible_call_determined c d;

@@ -10,7 +10,8 @@ use mathlib.Core.Option.{Option, none, some}
 use lib.ListN.{length, get_or, take, drop, get_or-eq_default}
 use borrow.Author.Tests.{ltb-true, lt-ltb}
 use lib.Dec.{T, eqb, eqb→eq, eqb_refl}
-use Rattle.meaning.specs.declared.EntryRating.{EntryRating}
+use Rattle.meaning.specs.Answers.{told}
+use Rattle.std.specs.Prelude.{Ok, Err}
 use Rattle.meaning.specs.Search.{holds_for_all, holds_for_some, is_none}
 use Rattle.meaning.specs.Polynomial.{degree, NotAProduct}
 use Rattle.meaning.specs.Sequence.{periodic, LeastPower}
@@ -245,13 +246,13 @@ search-each ts work told work' e w =
     (search-decided ts (length work)) (search-lent ts (length work)))
 
 pub search_answers : SearchAnswers
-unfolding told_entry
+unfolding told_entry told
 search_answers ts work =
     record {
       each = λ r work' c. search-each ts work (told_entry r) work' c.finding c.work_bytes;
       some =
           let (r, e) =
-          meets told_entry (λ a. EntryRating.Found a.entry a.power) EntryRating.Refused (λ a. refl)
+          meets told_entry (λ a. Ok (record { entry = a.entry; power = a.power })) Err (λ a. refl)
           (λ z. refl) search_numbers search-listed (find_entry ts (length work))
           (search_tells ts (length work)) in
           (r, work_after (find_entry ts (length work)) work, record { finding = e; work_bytes = refl });

@@ -10,6 +10,7 @@ use mathlib.Core.List.{List, [], ◌∷◌, map}
 use mathlib.Core.Option.{some}
 use lib.ListN.{length, get_or}
 use lib.Dec.{T, eqb, ltb}
+use Rattle.meaning.specs.Answers.{Reply, told}
 use Rattle.meaning.specs.declared.FieldName.{FieldName}
 use Rattle.meaning.specs.declared.PowerRating.{PowerRating}
 use Rattle.meaning.specs.Search.{holds_for_some}
@@ -192,7 +193,7 @@ module _
         → MinimalPolynomial F (power F f r) (shifted s k)
         → (result : Result (Rated PowerFigures))
         → result ≡ answered (rating_of F f r n)
-        → (told : PowerRating) (answer work answer' work' : List ℕ)
+        → (told : Reply PowerRating) (answer work answer' work' : List ℕ)
         → told_power told ≡ figures_of result
         → LentAfter result answer work answer' work'
         → (a : PowerFigures) × (told_power told ≡ answered a) × Returns g a.degree answer'

@@ -18,6 +18,7 @@ use mathlib.Core.List.{[], ◌∷◌}
 use mathlib.Core.Option.{some}
 use lib.ListN.{length, get_or}
 use lib.Dec.{lit≤, T}
+use Rattle.meaning.specs.Answers.{told}
 use Rattle.meaning.specs.declared.FieldName.{FieldName}
 use Rattle.meaning.specs.Polynomial.{Polynomial, degree, product}
 use Rattle.meaning.specs.Sequence.{InField, AnnihilatesEndless, MinimalPolynomial, cut}
@@ -48,7 +49,7 @@ pub record FactorX : Type 0 where
   pub refuted : CutAnywhere two x (1 ∷ []) one_then_zeros → ⊥
 
 x_refuted : CutAnywhere two x (1 ∷ []) one_then_zeros → ⊥
-unfolding total_degree named degree told_set degree_in
+unfolding total_degree named degree told_set degree_in told
 x_refuted c =
     let a = c.set-way 0 1 (lit≤ tt) (lit≤ tt) answer work lent _ _ _ one_then_zeros-set-0 in
     let b = c.set-way 1 1 (lit≤ tt) (lit≤ tt) answer work lent _ _ _ one_then_zeros-set-1 in
@@ -82,7 +83,7 @@ which (refused n) = 0
 which (answered a) = 1
 
 pub one_term_short : OneTermShort
-unfolding told_set which total_degree named degree
+unfolding told_set which total_degree named degree told
 one_term_short =
     record {
       over2 = no_shorter_promise two factors (2 ∷ []) accepted-2;

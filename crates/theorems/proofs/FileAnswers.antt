@@ -12,10 +12,11 @@ use mathlib.Core.Bool.{Bool, true, false, true≢false}
 use mathlib.Core.List.{List, [], map}
 use mathlib.Core.Option.{Option, none, some}
 use lib.ListN.{length, get_or}
+use Rattle.meaning.specs.Answers.{Reply, told, file_places, file_told_of, label_powers, padded}
+use Rattle.std.specs.Prelude.{Ok, Err}
 use Rattle.meaning.specs.declared.FieldName.{FieldName}
 use Rattle.meaning.specs.declared.FileOutcome.{FileOutcome}
 use Rattle.meaning.specs.declared.FileRating.{FileRating}
-use Rattle.meaning.specs.declared.RecordOutcome.{RecordOutcome}
 use Rattle.meaning.specs.Search.{holds_for_all, holds_for_some, is_none}
 use Rattle.meaning.specs.Field.{Field}
 use Rattle.meaning.specs.Result.{Result, Rated, refused, answered, map_result, figures_of, answer_after}
@@ -30,7 +31,6 @@ use Rattle.meaning.specs.File.{file_factor, terms_of, Label, powers, unique, sev
 use Rattle.meaning.specs.File.{field_in, rate_file}
 use Rattle.meaning.specs.Answers.{told_file, file_figures_told, label_told, told_record, FileTold}
 use Rattle.meaning.specs.Answers.{file_padded}
-use Rattle.meaning.specs.Answers.{with_powers, with_one, with_some}
 use Rattle.meaning.specs.Calls.{FileCall, body_after}
 use Rattle.meaning.specs.Print.{printed}
 use Rattle.meaning.proofs.Determined.{refusals, refusal_of, file_call_determined, record_call_determined}
@@ -103,7 +103,7 @@ unfolding is_listed refusal_of refusals look_up holds_for_all is_none
 reader_listed = listed _ tt
 
 pub record_answers : RecordAnswers
-unfolding told_record
+unfolding told_record told
 record_answers file n =
     record {
       tells =
@@ -113,7 +113,7 @@ record_answers file n =
           λ r body c. map-decided _ (λ a. a.kind) (read_record file n) c.found (read_decided file n);
       some =
           let (r, e) =
-          meets told_record RecordOutcome.Found RecordOutcome.Refused (λ a. refl) (λ z. refl) reader_numbers
+          meets told_record Ok Err (λ a. refl) (λ z. refl) reader_numbers
           reader_listed (map_result (λ a. a.kind) (read_record file n))
           (map_tells reader_numbers (λ a. a.kind) (read_record file n) refl (read_tells file n)) in
           (r, body_after (read_record file n), record { found = e; part = refl });
@@ -239,16 +239,42 @@ numbers-listed (answered rs) = go (mode_of (byte_of 3 rs))
     go none = none-listed
     go (some m) = mode-listed m (field_in rs)
 
-outcome_of : FileTold → FileOutcome
-outcome_of (with_powers d m n) = FileOutcome.Powers d m n
-outcome_of (with_one d m) = FileOutcome.Unique d m
-outcome_of (with_some d m) = FileOutcome.Several d m
+outcome_of : Label → ℕ → ℕ → FileOutcome
+outcome_of (powers rs) d m = FileOutcome.Powers d m (length rs) (padded rs)
+outcome_of unique d m = FileOutcome.Unique d m
+outcome_of several d m = FileOutcome.Several d m
 
-outcome_of-told : (a : FileTold) → told_file (outcome_of a) ≡ answered a
-unfolding outcome_of told_file
-outcome_of-told (with_powers d m n) = refl
-outcome_of-told (with_one d m) = refl
-outcome_of-told (with_some d m) = refl
+outcome_of-told : (l : Label) (d m : ℕ) → file_told_of (outcome_of l d m) ≡ label_told l d m
+unfolding outcome_of file_told_of label_told
+outcome_of-told (powers rs) d m = refl
+outcome_of-told unique d m = refl
+outcome_of-told several d m = refl
+
+outcome_of-places : (l : Label) (d m : ℕ) → file_places (Ok (outcome_of l d m)) ≡ padded (label_powers l)
+unfolding outcome_of file_places label_powers
+outcome_of-places (powers rs) d m = refl
+outcome_of-places unique d m = refl
+outcome_of-places several d m = refl
+
+-- what a file tells is told by some answer
+file-meets :
+    (numbers : List ℕ)
+    → Listed numbers
+    → (x : Result FileFigures)
+    → Tells numbers x
+    → (r : Reply FileOutcome) × (told_file r ≡ map_result file_figures_told x) × (file_places r ≡ file_padded x)
+unfolding told_file told map_result file_figures_told file_places file_padded
+file-meets numbers numbered x (inl (a, e)) = (
+  Ok (outcome_of a.label a.degree a.denominator),
+  ap answered (outcome_of-told a.label a.degree a.denominator) ∙ sym (ap (map_result file_figures_told) e),
+  outcome_of-places a.label a.degree a.denominator ∙ sym (ap file_padded e),
+)
+file-meets numbers numbered x (inr (n, e, h)) =
+    let (z, q) = numbered n h in (
+      Err z,
+      ap refused q ∙ sym (ap (map_result file_figures_told) e),
+      sym (ap file_padded e),
+    )
 
 free-degree : (x : FreeFigures) (m : ℕ) → file_degree (free_told x m) ≡ x.degree
 free-degree x m = go x.unique refl
@@ -279,22 +305,20 @@ module _ (file answer work : List ℕ) where
       × (answer' : List ℕ)
       × (work' : List ℕ)
       × FileCall file answer work r answer' work'
-  unfolding told_file figures_of
+  unfolding figures_of
   file-some =
       let numbers = file_numbers (records file) in
-      let (o, e) =
-      meets told_file outcome_of FileOutcome.Refused outcome_of-told (λ z. refl) numbers
-      (numbers-listed (records file)) (map_result file_figures_told (figures_of result))
-      (map_tells numbers file_figures_told (figures_of result) refl
+      let (o, e, f) =
+      file-meets numbers (numbers-listed (records file)) (figures_of result)
       (map_tells numbers (λ a. a.figures) result refl
-      (file_tells file (length answer) (length work)))) in (
-        record { sender = box_of file; outcome = o; powers = file_padded (figures_of result) },
+      (file_tells file (length answer) (length work))) in (
+        record { sender = box_of file; outcome = o },
         answer_after result answer,
         work_after result work,
         record {
           sender = refl;
           rating = e;
-          powers = refl;
+          powers = f;
           lent = lent-after result answer work;
         },
       )
@@ -313,7 +337,7 @@ module _ (file answer work : List ℕ) where
             let (rs, m, _, x) =
             (file_promise file answer work r answer' work' c).rated (file_figures_told a.figures)
             (c.rating ∙ ap (λ x. map_result file_figures_told (figures_of x)) e) in
-            rated-small m rs (file_figures_told a.figures) r.powers answer' x;
+            rated-small m rs (file_figures_told a.figures) (file_places r.outcome) answer' x;
         lent = file-lent file (length answer) (length work);
       }
 

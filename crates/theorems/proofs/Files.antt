@@ -11,6 +11,7 @@ use mathlib.Core.Bool.{Bool, true, false, true≢false}
 use mathlib.Core.List.{List, [], ◌∷◌, map}
 use mathlib.Core.Option.{Option, none, some}
 use lib.ListN.{length, get_or, length-map}
+use Rattle.meaning.specs.Answers.{file_places}
 use Rattle.meaning.specs.declared.FileRating.{FileRating}
 use Rattle.meaning.specs.Search.{holds_for_some}
 use Rattle.meaning.specs.Field.{Field}
@@ -280,7 +281,7 @@ module _ (file answer work : List ℕ) (r : FileRating) (answer' work' : List �
       map_refused (λ z. z.figures) result
       (map_refused file_figures_told (figures_of result) (sym c.rating ∙ e))
 
-  eight_of : {b : Rated FileFigures} → result ≡ answered b → r.powers ≡ places_in b
+  eight_of : {b : Rated FileFigures} → result ≡ answered b → (file_places r.outcome) ≡ places_in b
   unfolding figures_of map_result file_padded
   eight_of e = c.powers ∙ ap (λ x. file_padded (figures_of x)) e
 
@@ -300,12 +301,12 @@ module _ (file answer work : List ℕ) (r : FileRating) (answer' work' : List �
           accepted-file file (length answer) (length work) its
           ∙ known-mode rs (length answer) (length work) mode
 
-      mode-rated : (a : FileTold) → told_file r.outcome ≡ answered a → RatedBy m rs a r.powers answer'
+      mode-rated : (a : FileTold) → told_file r.outcome ≡ answered a → RatedBy m rs a (file_places r.outcome) answer'
       mode-rated a e =
           let (b, q, u) = told_answered a e in
           let (exists, w) = in_answered (field_in rs) way (sym by_mode ∙ q) in
           rated-by file rs its (named-is_field (field_in rs) exists) (length answer) (length work) m mode a b
-          r.powers answer answer' w u (eight_of q) (bytes_of q)
+          (file_places r.outcome) answer answer' w u (eight_of q) (bytes_of q)
 
       mode-seventeen : told_file r.outcome ≡ refused 17 → SeventeenBy m rs
       mode-seventeen e =
@@ -351,7 +352,7 @@ file_promise file answer work r answer' work' c =
       rated =
           λ a e.
           let (b, q, _) = told_answered file answer work r answer' work' c a e in
-          file-way file answer work r answer' work' c {B = λ rs m. RatedBy m rs a r.powers answer'}
+          file-way file answer work r answer' work' c {B = λ rs m. RatedBy m rs a (file_places r.outcome) answer'}
           (λ n z l. never_answered (sym z ∙ q))
           (λ rs m its mode. mode-rated file answer work r answer' work' c rs m its mode a e);
       seventeen =

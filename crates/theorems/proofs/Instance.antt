@@ -14,6 +14,7 @@ use mathlib.Core.Path.{◌≡◌, sym, ◌∙◌, ap}
 use mathlib.Core.List.{[], ◌∷◌}
 use lib.ListN.{take}
 use lib.Dec.{lit≤}
+use Rattle.meaning.specs.Answers.{told}
 use Rattle.meaning.specs.declared.FieldName.{FieldName}
 use Rattle.meaning.specs.Polynomial.{degree}
 use Rattle.meaning.specs.Conditions.{named, total_degree}
@@ -43,7 +44,7 @@ instance =
 
 -- so the polynomial of the theorem is the one in the answer bytes
 pub polynomial : instance.g ≡ 1 ∷ 0 ∷ 1 ∷ []
-unfolding total_degree named degree told_set degree_in
+unfolding total_degree named degree told_set degree_in told
 polynomial =
     let x = instance.set-way 1 3 (lit≤ tt) (lit≤ tt) answer work lent _ _ _ alternating-set in
     sym (ap (λ (n : ℕ). take (suc n) after-x²+1) (ap degree_in x.1) ∙ x.2.coefficients)
@@ -56,7 +57,7 @@ short-instance =
     alternating-annihilated-2
 
 pub short-polynomial : short-instance.g ≡ 1 ∷ 0 ∷ 1 ∷ []
-unfolding total_degree named degree told_set degree_in
+unfolding total_degree named degree told_set degree_in told
 short-polynomial =
     let x = short-instance.set-way 0 2 (lit≤ tt) (lit≤ tt) answer work lent _ _ _ alternating-short in
     sym (ap (λ (n : ℕ). take (suc n) after-x²+1) (ap degree_in x.1) ∙ x.2.coefficients)

@@ -15,10 +15,11 @@ use lib.ListN.{length, take, drop, set, length-set, length-append, length-take, 
 use lib.Seq.{drop-drop, take-take, drop-append-le, take-append-le}
 use lib.Dec.{T, leb, leb→le}
 use borrow.Author.Tests.{leb-true, le-leb}
+use Rattle.meaning.specs.Answers.{Reply, told}
+use Rattle.std.specs.Prelude.{Ok, Err}
 use Rattle.meaning.specs.declared.FieldName.{FieldName}
 use Rattle.meaning.specs.declared.FreeRating.{FreeRating}
 use Rattle.meaning.specs.declared.Meter.{Meter}
-use Rattle.meaning.specs.declared.MeterStart.{MeterStart}
 use Rattle.meaning.specs.declared.MeterStep.{MeterStep}
 use Rattle.meaning.specs.Search.{holds_for_all, holds_for_some, is_none, map_option}
 use Rattle.meaning.specs.Conditions.{term_out_of_field, accepted_lent}
@@ -173,7 +174,7 @@ module _ (model : MeterModel) (name : FieldName) where
 
   pub run_holds : {ts : List ℕ} {m : Meter} {terms work : List ℕ} → Run model name ts m terms work
       → Held ts m terms work
-  unfolding told_start
+  unfolding told_start told
   run_holds (begun {m} {terms} {work} {work'} size c) =
       let (e, f) = started c.starting in
       same-holding (record { size = size; holding = holding-none model name terms e }) f refl
@@ -203,7 +204,7 @@ module _ (model : MeterModel) (name : FieldName) where
     I : IsField F
     I = named-is_field name h.field_exists
 
-    reading_figures : (r : FreeRating) → ReadingCall model m r → told_free r ≡ value_of (free_figures F ts)
+    reading_figures : (r : Reply FreeRating) → ReadingCall model m r → told_free r ≡ value_of (free_figures F ts)
     unfolding meter_reading first_of
     reading_figures r c = c.reading name ts terms work h ∙ settle-none [] _ refl
 
@@ -211,13 +212,13 @@ module _ (model : MeterModel) (name : FieldName) where
     accepted l =
         record { at_least_one = l; not_many = h.count; in_field = terms-accepted F ts h.terms_in_field }
 
-    pub holding_shows : (r : FreeRating) → ReadingCall model m r → (a : FreeFigures)
+    pub holding_shows : (r : Reply FreeRating) → ReadingCall model m r → (a : FreeFigures)
         × (told_free r ≡ answered a)
     unfolding value_of
     holding_shows r c =
         let (a, e) = figures_exist I ts in (a, reading_figures r c ∙ ap value_of e)
 
-    pub holding-free : 1 ≤ length ts → (r : FreeRating) (a : FreeFigures) → ReadingCall model m r
+    pub holding-free : 1 ≤ length ts → (r : Reply FreeRating) (a : FreeFigures) → ReadingCall model m r
         → told_free r ≡ answered a
         → FreeGives name ts a
     unfolding value_of
@@ -226,7 +227,7 @@ module _ (model : MeterModel) (name : FieldName) where
         let same = answered_same (sym (reading_figures r c ∙ ap value_of f) ∙ e) in
         free_gives name ts a h.field_exists (accepted l) (f ∙ ap {B = Option FreeFigures} some same)
 
-    pub holding-first : ts ≡ [] → (r : FreeRating) → ReadingCall model m r
+    pub holding-first : ts ≡ [] → (r : Reply FreeRating) → ReadingCall model m r
         → told_free r ≡ answered (record { degree = 0; unique = true })
     holding-first e r c = c.reading name ts terms work h ∙ ap (meter_reading F) e ∙ reading_first F
 
@@ -271,10 +272,11 @@ term-listed : Listed term_numbers
 unfolding is_listed refusal_of refusals look_up holds_for_all is_none
 term-listed = listed _ tt
 
-reading_some : (model : MeterModel) (m : Meter) → Remembers model → (r : FreeRating) × ReadingCall model m r
+reading_some : (model : MeterModel) (m : Meter) → Remembers model
+    → (r : Reply FreeRating) × ReadingCall model m r
 reading_some model m memory =
     let shown : FreeFigures = record { degree = m.degree; unique = leb (2 * m.degree) m.held } in (
-      rating_free shown,
+      Ok (rating_free shown),
       record { reading = λ q us terms work h. rating_free-told shown ∙ sym (reading_in model memory h) },
     )
 
@@ -283,11 +285,11 @@ term-some : (model : MeterModel) {name : FieldName} {ts : List ℕ} {m : Meter} 
     → Remembers model
     → (t : ℕ)
     → (r : MeterStep) × (terms' : List ℕ) × (work' : List ℕ) × TermCall model m t terms work r terms' work'
-unfolding told_free
+unfolding told_free told
 term-some model {name} {ts} {m} {terms} {work} h memory t =
     let x = take_term (GF name) ts t in
     let (shown, e) =
-    meets told_free rating_free FreeRating.Refused rating_free-told (λ z. refl) term_numbers term-listed x
+    meets told_free (λ a. Ok (rating_free a)) Err rating_free-told (λ z. refl) term_numbers term-listed x
     (holding_tells model name h t) in
     let r : MeterStep =
     record { reading = shown; meter = unless_refused x m (model.meter name (ts ++ (t ∷ []))) } in
@@ -368,7 +370,7 @@ start-decided name =
     name-decided name (λ F. answered tt) [] (λ _. answered_decided [] (tt, refl) tt)
 
 pub start_answers : StartAnswers
-unfolding told_start map_result
+unfolding told_start map_result told
 start_answers model name work =
     record {
       tells = λ r work' c. map_tells (start_numbers name) _ (start_meter name) c.starting (start-told name);
@@ -379,7 +381,7 @@ start_answers model name work =
           ∙ refused_old work _ (map_refused _ (start_meter name) (sym c.starting ∙ e));
       some =
           let (r, e) =
-          meets told_start MeterStart.Started MeterStart.Refused (λ a. refl) (λ z. refl)
+          meets told_start Ok Err (λ a. refl) (λ z. refl)
           (start_numbers name) (start-listed name)
           (map_result (λ _. model.meter name []) (start_meter name))
           (map_tells (start_numbers name) (λ _. model.meter name []) (start_meter name) refl

@@ -17,6 +17,8 @@ use mathlib.Core.Bool.{Bool, not, ◌&&◌}
 use mathlib.Core.List.{List, [], ◌∷◌}
 use lib.ListN.{length}
 use lib.Dec.{T, T_not}
+use Rattle.meaning.specs.Answers.{Reply, told}
+use Rattle.std.specs.Prelude.{Err}
 use Rattle.meaning.specs.declared.EntryRating.{EntryRating}
 use Rattle.meaning.specs.declared.Refusal.TheVariants.{NoEntry}
 use Rattle.meaning.specs.Search.{range, holds_for_all}
@@ -124,14 +126,14 @@ all-elements : T (term_out_of_field GF2 period) → ⊥
 unfolding computed
 all-elements h = h
 
-pub nineteen_instance : (work : List ℕ) → 8192 ≤ length work → (r : EntryRating) (work' : List ℕ)
+pub nineteen_instance : (work : List ℕ) → 8192 ≤ length work → (r : Reply EntryRating) (work' : List ℕ)
     → EntryCall period work r work'
-    → r ≡ EntryRating.Refused NoEntry
-unfolding told_entry number_of
+    → r ≡ Err NoEntry
+unfolding told_entry number_of told
 nineteen_instance work room r work' c =
     let first : FirstThatHolds 19 (search_conditions period (length work)) =
     inr (counted, inr (all-elements, inr (λ l. absurd (omega arith), inl (refl, no_entry)))) in
     let answers = search_answers period work in
     let told = ((answers.each r work' c).decided.refuses 19).1 first in
-    (answers.one r (EntryRating.Refused NoEntry) work' work' c
+    (answers.one r (Err NoEntry) work' work' c
     (record { finding = sym told ∙ c.finding; work_bytes = c.work_bytes })).0

@@ -11,6 +11,7 @@ use mathlib.Core.Bool.{Bool, true, false}
 use mathlib.Core.List.{List, [], ◌∷◌, ◌++◌, map}
 use lib.ListN.{length, get_or, take, drop, length-append}
 use lib.Seq.{take_at, drop_at, drop-drop}
+use Rattle.meaning.specs.Answers.{told}
 use Rattle.meaning.specs.declared.Rating.{Rating}
 use Rattle.meaning.specs.declared.Found.{Found}
 use Rattle.meaning.specs.Result.{Result, refused, answered, Rated, figures_of, map_result}

@@ -8,6 +8,7 @@ use mathlib.Core.Option.{some}
 use native.Mathlib.Omega.{arith}
 use lib.ListN.{length, get_or, take, replicate, length-replicate, get_or-eq_default}
 use lib.Seq.{take_at}
+use Rattle.meaning.specs.Answers.{file_places}
 use Rattle.meaning.specs.declared.FileRating.{FileRating}
 use Rattle.meaning.specs.Polynomial.{Polynomial}
 use Rattle.meaning.specs.Result.{Result, Rated, refused, answered, map_result, figures_of, answer_after}
@@ -114,7 +115,7 @@ module _ (input answer work : List ℕ) (r : FileRating) (answer' work' : List �
   result = rate_file input (length answer) (length work)
 
   abbrev lines : List ℕ
-  lines = header ++ lines_told r.sender (told_file r.outcome) r.powers answer'
+  lines = header ++ lines_told r.sender (told_file r.outcome) (file_places r.outcome) answer'
 
   -- what the rating tells, from its result
   told : {x : Result (Rated FileFigures)} → result ≡ x
@@ -126,15 +127,15 @@ module _ (input answer work : List ℕ) (r : FileRating) (answer' work' : List �
       answer_after
   report-told (refused n) e =
       ap (λ l. header ++ l) (append-nil _)
-      ∙ sym (λ i. header ++ lines_told (c.sender i) (told e i) r.powers answer')
+      ∙ sym (λ i. header ++ lines_told (c.sender i) (told e i) (file_places r.outcome) answer')
   report-told (answered a) e =
       ap (λ l. header ++ l)
       (told-lines (box_of input) a.figures.label a.figures.degree a.figures.denominator
-      a.polynomial r.powers answer answer'
+      a.polynomial (file_places r.outcome) answer answer'
       (file-size input (length answer) (length work) e)
       (c.powers ∙ ap (λ x. file_padded (figures_of x)) e)
       (c.lent.answer_bytes ∙ ap (λ x. answer_after x answer) e))
-      ∙ sym (λ i. header ++ lines_told (c.sender i) (told e i) r.powers answer')
+      ∙ sym (λ i. header ++ lines_told (c.sender i) (told e i) (file_places r.outcome) answer')
 
 pub program_as_call : ProgramAsCall
 unfolding printed
@@ -155,11 +156,11 @@ printed-right input output answer work call la lw =
     let (r, answer', work', c) = answers.some in
     record {
       told = told_file r.outcome;
-      eight = r.powers;
+      eight = file_places r.outcome;
       left = answer';
       lines =
           program_as_call input output call answer work la lw r answer' work' c
-          ∙ ap (λ box. header ++ lines_told box (told_file r.outcome) r.powers answer') c.sender;
+          ∙ ap (λ box. header ++ lines_told box (told_file r.outcome) (file_places r.outcome) answer') c.sender;
       tells = (answers.each r answer' work' c).tells;
       decided =
           subst₂ (λ a w. Decided (file_conditions input a w) (told_file r.outcome)) la lw

@@ -20,6 +20,7 @@ use mathlib.Core.Option.{Option, none, some, some-injective, none-ne-some}
 use lib.ListN.{length, take, drop, replicate, length-append, length-drop, length-replicate}
 use lib.Seq.{take_at, drop_at}
 use lib.Dec.{T, T_not, eqb, eqb_refl, eqb→eq, leb, leb→le}
+use Rattle.meaning.specs.Answers.{told}
 use Rattle.meaning.specs.declared.Refusal.{Refusal}
 use Rattle.meaning.specs.Search.{holds_for_all, holds_for_some, is_none}
 use Rattle.meaning.specs.Result.{Check, Result, Rated, answered, refused, first_of, settle, figures_of}

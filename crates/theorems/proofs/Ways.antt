@@ -15,6 +15,7 @@ use mathlib.Core.Option.{some, some-injective}
 use lib.ListN.{length, get_or, take}
 use lib.Seq.{take_at}
 use lib.Dec.{T, T_not}
+use Rattle.meaning.specs.Answers.{set_places}
 use Rattle.meaning.specs.declared.FieldName.{FieldName}
 use Rattle.meaning.specs.Search.{holds_for_some}
 use Rattle.meaning.specs.Field.{Field, are_elements}
@@ -425,9 +426,9 @@ set_promise name fs vs ts answer work r answer' work' c =
           let (b', q', u') = map_answered set_figures_told (figures_of result) (sym c.rating ∙ e) in
           let (b, q, u) = map_answered (λ x. x.figures) result q' in
           let (exists, w) = in_answered name way q in
-          subst (λ a. SetAnswered (GF name) (map (monic_multiple (GF name)) fs) vs ts a r.powers answer')
+          subst (λ a. SetAnswered (GF name) (map (monic_multiple (GF name)) fs) vs ts a (set_places r) answer')
           (ap set_figures_told u ∙ u')
-          (set_answered (named-is_field name exists) fs vs ts (length answer) (length work) b r.powers
+          (set_answered (named-is_field name exists) fs vs ts (length answer) (length work) b (set_places r)
           answer answer' w (c.lent.answer_bytes ∙ ap (λ x. answer_after x answer) q)
           (c.powers ∙ ap (λ x. set_padded (figures_of x)) q));
       seventeen =
@@ -446,7 +447,7 @@ set_promise name fs vs ts answer work r answer' work' c =
     result : Result (Rated SetFigures)
     result = rate_set name fs vs ts (length answer) (length work)
 
-    refused_by-17 : told_set r.outcome ≡ refused 17 → result ≡ refused 17
+    refused_by-17 : told_set r ≡ refused 17 → result ≡ refused 17
     refused_by-17 e =
         map_refused (λ x. x.figures) result
         (map_refused set_figures_told (figures_of result) (sym c.rating ∙ e))

@@ -19,13 +19,11 @@
 --
 -- `tell` is what a result tells, `degree_from` the degree in what is told, and `Call` the contract on one
 -- input, of a result and the lent bytes that it leaves.
+use Rattle.meaning.specs.Answers.{Reply, told}
 use Rattle.std.specs.Prelude.{ℕ, suc, ◌≤◌, ◌<◌, ◌≡◌, ◌⊎◌, ◌↔◌, ◌≢◌, Bool, List, [], ◌∷◌, ◌++◌, map, length}
 use Rattle.std.specs.Prelude.{get_or, take, drop, replicate, T, eqb}
 use Rattle.std.proofs.Math.Option.{none, some}
 use Rattle.meaning.specs.declared.FieldName.{FieldName}
-use Rattle.meaning.specs.declared.Filling.{Filling}
-use Rattle.meaning.specs.declared.Irreducibility.{Irreducibility}
-use Rattle.meaning.specs.declared.RecordOutcome.{RecordOutcome}
 use Rattle.meaning.specs.Search.{holds_for_some}
 use Rattle.meaning.specs.Field.{Field}
 use Rattle.meaning.specs.Polynomial.{Polynomial, product, monic_multiple}
@@ -324,7 +322,7 @@ abbrev pub SetAnswers : Type 0
 SetAnswers =
     (name : FieldName) (fs : List Polynomial) (vs ts answer work : List ℕ)
     → Answering (set_numbers name) (lists_conditions name fs vs ts (length answer) (length work))
-    (λ r. told_set r.outcome) (λ a. a.degree) answer work (SetCall name fs vs ts answer work)
+    (λ r. told_set r) (λ a. a.degree) answer work (SetCall name fs vs ts answer work)
 
 abbrev pub FreeAnswers : Type 0
 FreeAnswers =
@@ -346,22 +344,22 @@ FileAnswers =
 -- THE CONTINUATION
 
 pub record Continuing (name : FieldName) (g : Polynomial) (start buffer : List ℕ) (place : ℕ) : Type 0 where
-  pub tells : (r : Filling) (buffer' : List ℕ)
+  pub tells : (r : Reply (Unit {0})) (buffer' : List ℕ)
       → ContinueCall name g start buffer place r buffer'
       → Tells (continue_numbers name) (told_filling r)
-  pub decided : (r : Filling) (buffer' : List ℕ)
+  pub decided : (r : Reply (Unit {0})) (buffer' : List ℕ)
       → ContinueCall name g start buffer place r buffer'
       → Decided (under_name name (λ F. continue_conditions F g start place (length buffer))) (told_filling r)
-  pub buffer_kept : (r : Filling) (buffer' : List ℕ)
+  pub buffer_kept : (r : Reply (Unit {0})) (buffer' : List ℕ)
       → ContinueCall name g start buffer place r buffer'
       → (n : ℕ)
       → told_filling r ≡ refused n
       → buffer' ≡ buffer
-  pub buffer_length : (r : Filling) (buffer' : List ℕ)
+  pub buffer_length : (r : Reply (Unit {0})) (buffer' : List ℕ)
       → ContinueCall name g start buffer place r buffer'
       → length buffer' ≡ length buffer
-  pub some : (r : Filling) × (buffer' : List ℕ) × ContinueCall name g start buffer place r buffer'
-  pub one : (r s : Filling) (buffer' buffer'' : List ℕ)
+  pub some : (r : Reply (Unit {0})) × (buffer' : List ℕ) × ContinueCall name g start buffer place r buffer'
+  pub one : (r s : Reply (Unit {0})) (buffer' buffer'' : List ℕ)
       → ContinueCall name g start buffer place r buffer'
       → ContinueCall name g start buffer place s buffer''
       → (r ≡ s) × (buffer' ≡ buffer'')
@@ -374,14 +372,14 @@ ContinueAnswers =
 -- THE TWO QUESTIONS, THE READER, THE PROGRAM
 
 pub record Asking (name : FieldName) (f : Polynomial) : Type 0 where
-  pub tells : (r : Irreducibility)
+  pub tells : (r : Reply Bool)
       → IrreducibleCall name f r
       → Tells (irreducible_numbers name) (told_irreducible r)
-  pub decided : (r : Irreducibility)
+  pub decided : (r : Reply Bool)
       → IrreducibleCall name f r
       → Decided (under_name name (λ F. irreducible_conditions F f)) (told_irreducible r)
-  pub some : (r : Irreducibility) × IrreducibleCall name f r
-  pub one : (r s : Irreducibility) → IrreducibleCall name f r → IrreducibleCall name f s → r ≡ s
+  pub some : (r : Reply Bool) × IrreducibleCall name f r
+  pub one : (r s : Reply Bool) → IrreducibleCall name f r → IrreducibleCall name f s → r ≡ s
 
 abbrev pub IrreducibleAnswers : Type 0
 IrreducibleAnswers = (name : FieldName) (f : Polynomial) → Asking name f
@@ -395,14 +393,14 @@ abbrev pub PrimeAnswers : Type 0
 PrimeAnswers = (n : ℕ) → AskingPrime n
 
 pub record ReadingFile (file : List ℕ) (n : ℕ) : Type 0 where
-  pub tells : (r : RecordOutcome) (body : List ℕ)
+  pub tells : (r : Reply ℕ) (body : List ℕ)
       → RecordCall file n r body
       → Tells reader_numbers (told_record r)
-  pub decided : (r : RecordOutcome) (body : List ℕ)
+  pub decided : (r : Reply ℕ) (body : List ℕ)
       → RecordCall file n r body
       → Decided (reader_conditions file) (told_record r)
-  pub some : (r : RecordOutcome) × (body : List ℕ) × RecordCall file n r body
-  pub one : (r s : RecordOutcome) (body body' : List ℕ)
+  pub some : (r : Reply ℕ) × (body : List ℕ) × RecordCall file n r body
+  pub one : (r s : Reply ℕ) (body body' : List ℕ)
       → RecordCall file n r body
       → RecordCall file n s body'
       → (r ≡ s) × (body ≡ body')

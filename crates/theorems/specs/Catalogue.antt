@@ -13,6 +13,7 @@
 --   SearchExport     == the same of the search for other languages, and SearchExportAnswers == its demand 1.
 --                       (The exported question for entry i has the contract `CatalogueCall`, and so its
 --                       promises and its demand 1, EntryAnswers.)
+use Rattle.meaning.specs.Answers.{Reply}
 use Rattle.std.specs.Prelude.{ℕ, suc, ◌≤◌, ◌<◌, ◌≡◌, ◌⊎◌, ◌↔◌, List, [], ◌∷◌, length, get_or, take, drop}
 use Rattle.std.specs.Prelude.{replicate, T}
 use Rattle.meaning.specs.declared.Entry as struct
@@ -60,11 +61,11 @@ pub record SearchLeaves (ts : List ℕ) (told : Result EntryFigures) (work work'
   pub work_length : length work' ≡ length work
 
 pub record Searching (ts work : List ℕ) : Type 0 where
-  pub each : (r : EntryRating) (work' : List ℕ)
+  pub each : (r : Reply EntryRating) (work' : List ℕ)
       → EntryCall ts work r work'
       → SearchLeaves ts (told_entry r) work work'
-  pub some : (r : EntryRating) × (work' : List ℕ) × EntryCall ts work r work'
-  pub one : (r s : EntryRating) (work' work'' : List ℕ)
+  pub some : (r : Reply EntryRating) × (work' : List ℕ) × EntryCall ts work r work'
+  pub one : (r s : Reply EntryRating) (work' work'' : List ℕ)
       → EntryCall ts work r work'
       → EntryCall ts work s work''
       → (r ≡ s) × (work' ≡ work'')
@@ -121,7 +122,7 @@ pub record EntryRight (ts : List ℕ) (work : ℕ) (told : Result EntryFigures) 
 
 abbrev pub EntryPromise : Type 0
 EntryPromise =
-    (ts work : List ℕ) (r : EntryRating) (work' : List ℕ)
+    (ts work : List ℕ) (r : Reply EntryRating) (work' : List ℕ)
     → EntryCall ts work r work'
     → EntryRight ts (length work) (told_entry r)
 

@@ -6,6 +6,7 @@
 --   CutAnywhere      == one polynomial, the minimal polynomial of the sequence: every way returns it on
 --                       every cut
 --   CutAnywherePromise == so it is of every sequence that the product of accepted factors annihilates
+use Rattle.meaning.specs.Answers.{Reply}
 use Rattle.std.specs.Prelude.{ℕ, ◌*◌, ◌≤◌, ◌≡◌, false, List, [], ◌∷◌, map, length, T}
 use Rattle.meaning.specs.declared.FieldName.{FieldName}
 use Rattle.meaning.specs.declared.PowerRating.{PowerRating}
@@ -28,15 +29,15 @@ abbrev pub SetReturns : FieldName → List Polynomial → List ℕ → List ℕ 
 SetReturns name fs vs ts g =
     (answer work : List ℕ)
     → T (accepted_lent (length answer) (length work))
-    → (r : SetRating) (answer' work' : List ℕ)
+    → (r : Reply SetRating) (answer' work' : List ℕ)
     → SetCall name fs vs ts answer work r answer' work'
-    → (a : SetTold) × (told_set r.outcome ≡ answered a) × Returns g a.degree answer'
+    → (a : SetTold) × (told_set r ≡ answered a) × Returns g a.degree answer'
 
 abbrev pub PeriodReturns : FieldName → Polynomial → List ℕ → Polynomial → Type 0
 PeriodReturns name f ts g =
     (answer work : List ℕ)
     → T (accepted_lent (length answer) (length work))
-    → (r : PowerRating) (answer' work' : List ℕ)
+    → (r : Reply PowerRating) (answer' work' : List ℕ)
     → PeriodCall name f ts answer work r answer' work'
     → (a : PowerFigures) × (told_power r ≡ answered a) × Returns g a.degree answer'
 
@@ -44,7 +45,7 @@ abbrev pub FreeReturns : FieldName → List ℕ → Polynomial → Type 0
 FreeReturns name ts g =
     (answer work : List ℕ)
     → T (accepted_lent (length answer) (length work))
-    → (r : FreeRating) (answer' work' : List ℕ)
+    → (r : Reply FreeRating) (answer' work' : List ℕ)
     → FreeCall name ts answer work r answer' work'
     → (a : FreeFigures) × (told_free r ≡ answered a) × Returns g a.degree answer'
 

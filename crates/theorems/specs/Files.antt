@@ -12,11 +12,11 @@
 --   rated_lines, lines_told == the result line and the poly line, from what a rating tells and leaves
 --   ProgramAsCall    == the program prints the lines of what the rating of the file tells and leaves
 --   ProgramPromise   == what it prints is right
+use Rattle.meaning.specs.Answers.{Reply, file_places}
 use Rattle.std.specs.Prelude.{ℕ, zero, suc, ◌≤◌, ◌<◌, ◌≡◌, true, false, List, [], ◌∷◌, ◌++◌, map, length}
 use Rattle.std.specs.Prelude.{take}
 use Rattle.std.proofs.Math.Option.{some}
 use Rattle.meaning.specs.declared.FileRating.{FileRating}
-use Rattle.meaning.specs.declared.RecordOutcome.{RecordOutcome}
 use Rattle.meaning.specs.Polynomial.{Polynomial, product}
 use Rattle.meaning.specs.Result.{Result, refused, answered}
 use Rattle.meaning.specs.Conditions.{named}
@@ -103,13 +103,13 @@ abbrev pub FilePromise : Type 0
 FilePromise =
     (file answer work : List ℕ) (r : FileRating) (answer' work' : List ℕ)
     → FileCall file answer work r answer' work'
-    → FileRight file (told_file r.outcome) r.powers answer'
+    → FileRight file (told_file r.outcome) (file_places r.outcome) answer'
 
 -- THE READER: what it hands back under the numbers 0, 1, 2, …
 
 abbrev pub HandsBack : List ℕ → ℕ → ℕ → List ℕ → Type 0
 HandsBack file n kind body =
-    (r : RecordOutcome) × RecordCall file n r body × (told_record r ≡ answered kind)
+    (r : Reply ℕ) × RecordCall file n r body × (told_record r ≡ answered kind)
 
 -- the first n of them, each kind before its body
 abbrev pub one_after_another : (ℕ → ℕ) → (ℕ → List ℕ) → ℕ → List ℕ
@@ -156,7 +156,7 @@ ProgramAsCall =
     → length work ≡ 8192
     → (r : FileRating) (answer' work' : List ℕ)
     → FileCall input answer work r answer' work'
-    → output ≡ header ++ lines_told r.sender (told_file r.outcome) r.powers answer'
+    → output ≡ header ++ lines_told r.sender (told_file r.outcome) (file_places r.outcome) answer'
 
 -- So it prints the line of a refusal by one of the file's numbers, or the lines of figures and a polynomial
 -- that have the promise of the file's mode, each exactly if the conditions of the file say so. (`left` are

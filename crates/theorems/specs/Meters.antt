@@ -12,12 +12,13 @@
 --   MeterPromise     == so it is after every run
 --   ProfileExport    == the same of the whole profile, as the call for other languages leaves it
 --   ProfileAnswers   == demand 1 of that call: some result meets the contract, and one only
+use Rattle.meaning.specs.Answers.{Reply}
+use Rattle.std.specs.Prelude.{Ok}
 use Rattle.std.specs.Prelude.{ℕ, suc, ◌*◌, ◌≤◌, ◌<◌, ◌≡◌, true, List, [], ◌∷◌, ◌++◌, length, take, drop, T}
 use Rattle.meaning.specs.declared.FieldName.{FieldName}
 use Rattle.meaning.specs.declared.FieldNumbers.{FieldNumbers}
 use Rattle.meaning.specs.declared.FreeRating.{FreeRating}
 use Rattle.meaning.specs.declared.Meter.{Meter}
-use Rattle.meaning.specs.declared.MeterStart.{MeterStart}
 use Rattle.meaning.specs.declared.MeterStep.{MeterStep}
 use Rattle.meaning.specs.Field.{Field, are_elements}
 use Rattle.meaning.specs.Result.{refused, answered}
@@ -49,17 +50,17 @@ term_conditions F n t = (8, T (term_out_of_field F (t ∷ []))) ∷ (18, (4096 �
 -- A START
 
 pub record Starting (model : MeterModel) (name : FieldName) (work : List ℕ) : Type 0 where
-  pub tells : (r : MeterStart) (work' : List ℕ) → StartCall model name work r work'
+  pub tells : (r : Reply Meter) (work' : List ℕ) → StartCall model name work r work'
       → Tells (start_numbers name) (told_start r)
-  pub decided : (r : MeterStart) (work' : List ℕ) → StartCall model name work r work'
+  pub decided : (r : Reply Meter) (work' : List ℕ) → StartCall model name work r work'
       → Decided (start_conditions name) (told_start r)
-  pub work-kept : (r : MeterStart) (work' : List ℕ)
+  pub work-kept : (r : Reply Meter) (work' : List ℕ)
       → StartCall model name work r work'
       → (n : ℕ)
       → told_start r ≡ refused n
       → work' ≡ work
-  pub some : (r : MeterStart) × (work' : List ℕ) × StartCall model name work r work'
-  pub one : (r s : MeterStart) (work' work'' : List ℕ)
+  pub some : (r : Reply Meter) × (work' : List ℕ) × StartCall model name work r work'
+  pub one : (r s : Reply Meter) (work' work'' : List ℕ)
       → StartCall model name work r work'
       → StartCall model name work s work''
       → (r ≡ s) × (work' ≡ work'')
@@ -73,7 +74,7 @@ StartAnswers = (model : MeterModel) (name : FieldName) (work : List ℕ) → Sta
 pub data Run (model : MeterModel) (name : FieldName) : List ℕ → Meter → List ℕ → List ℕ → Type 0 where
   begun : {m : Meter} {terms work work' : List ℕ}
       → length terms ≡ 4096
-      → StartCall model name work (MeterStart.Started m) work'
+      → StartCall model name work (Ok m) work'
       → Run model name [] m terms work'
   taken : {ts : List ℕ} {m : Meter} {t : ℕ} {terms work : List ℕ} {r : MeterStep} {terms' work' : List ℕ}
       → Run model name ts m terms work
@@ -92,7 +93,7 @@ pub data Run (model : MeterModel) (name : FieldName) : List ℕ → Meter → Li
 
 abbrev pub FreeGives : FieldName → List ℕ → FreeFigures → Type 0
 FreeGives name ts a =
-    (answer work : List ℕ) (r : FreeRating) (answer' work' : List ℕ)
+    (answer work : List ℕ) (r : Reply FreeRating) (answer' work' : List ℕ)
     → T (accepted_lent (length answer) (length work))
     → FreeCall name ts answer work r answer' work'
     → told_free r ≡ answered a
@@ -107,10 +108,10 @@ FreeGives name ts a =
 -- program does: `meter_remembers` of crates/meter.
 pub record MeterRight (model : MeterModel) (name : FieldName) (ts : List ℕ) (m : Meter) (terms work : List ℕ)
     : Type 0 where
-  pub shows : (r : FreeRating) → ReadingCall model m r → (a : FreeFigures) × (told_free r ≡ answered a)
-  pub at_first : ts ≡ [] → (r : FreeRating) → ReadingCall model m r
+  pub shows : (r : Reply FreeRating) → ReadingCall model m r → (a : FreeFigures) × (told_free r ≡ answered a)
+  pub at_first : ts ≡ [] → (r : Reply FreeRating) → ReadingCall model m r
       → told_free r ≡ answered (record { degree = 0; unique = true })
-  pub free-way : 1 ≤ length ts → (r : FreeRating) (a : FreeFigures) → ReadingCall model m r
+  pub free-way : 1 ≤ length ts → (r : Reply FreeRating) (a : FreeFigures) → ReadingCall model m r
       → told_free r ≡ answered a
       → FreeGives name ts a
   pub tells : (t : ℕ) (r : MeterStep) (terms' work' : List ℕ) → TermCall model m t terms work r terms' work'
@@ -128,14 +129,14 @@ pub record MeterRight (model : MeterModel) (name : FieldName) (ts : List ℕ) (m
       → (n : ℕ)
       → told_free r.reading ≡ refused n
       → (r.meter ≡ m) × (terms' ≡ terms) × (work' ≡ work)
-  pub some_reading : Remembers model → (r : FreeRating) × ReadingCall model m r
+  pub some_reading : Remembers model → (r : Reply FreeRating) × ReadingCall model m r
   pub some : Remembers model
       → (t : ℕ)
       → (r : MeterStep)
       × (terms' : List ℕ)
       × (work' : List ℕ)
       × TermCall model m t terms work r terms' work'
-  pub one_reading : (r s : FreeRating) → ReadingCall model m r → ReadingCall model m s → r ≡ s
+  pub one_reading : (r s : Reply FreeRating) → ReadingCall model m r → ReadingCall model m s → r ≡ s
   pub one : (t : ℕ) (r s : MeterStep) (terms' terms'' work' work'' : List ℕ)
       → TermCall model m t terms work r terms' work'
       → TermCall model m t terms work s terms'' work''

@@ -20,6 +20,7 @@
 --   PrimeWords, IrreducibleWords == the tests for primes and irreducible polynomials are the words of the
 --                                   request
 --   ConditionWords   == the tests of the conditions are the words of the numbered list
+use Rattle.meaning.specs.Answers.{Reply, told, set_places}
 use Rattle.std.specs.Prelude.{ℕ, suc, ◌*◌, ◌-◌, ◌/◌, ◌^◌, ◌≤◌, ◌<◌, ◌≡◌, ◌↔◌, ◌⊎◌, ◌≢◌, Bool, true, false}
 use Rattle.std.specs.Prelude.{List, [], ◌∷◌, ◌++◌, map, length, get_or, take, T}
 use Rattle.meaning.specs.declared.FieldName.{FieldName}
@@ -27,8 +28,6 @@ use Rattle.meaning.specs.declared.FieldNumbers.{FieldNumbers}
 use Rattle.meaning.specs.declared.PowerRating.{PowerRating}
 use Rattle.meaning.specs.declared.SetRating.{SetRating}
 use Rattle.meaning.specs.declared.FreeRating.{FreeRating}
-use Rattle.meaning.specs.declared.Filling.{Filling}
-use Rattle.meaning.specs.declared.Irreducibility.{Irreducibility}
 use Rattle.meaning.specs.Field.{Field, prime, PrimeNumber, is_prime, are_elements}
 use Rattle.meaning.specs.Extension.{reducing, binary}
 use Rattle.meaning.specs.Polynomial.{Polynomial, degree, leading, is_monic_over, scale, power, product}
@@ -100,7 +99,7 @@ pub record PeriodRight (F : Field) (f : Polynomial) (ts : List ℕ) (told : Resu
 
 abbrev pub PeriodPromise : Type 0
 PeriodPromise =
-    (name : FieldName) (f : Polynomial) (ts answer work : List ℕ) (r : PowerRating) (answer' work' : List ℕ)
+    (name : FieldName) (f : Polynomial) (ts answer work : List ℕ) (r : Reply PowerRating) (answer' work' : List ℕ)
     → PeriodCall name f ts answer work r answer' work'
     → PeriodRight (GF name) (monic_multiple (GF name) f) ts (told_power r) answer'
 
@@ -162,10 +161,10 @@ pub record SetRight (F : Field) (fs : List Polynomial) (vs ts : List ℕ) (told 
 
 abbrev pub SetPromise : Type 0
 SetPromise =
-    (name : FieldName) (fs : List Polynomial) (vs ts answer work : List ℕ) (r : SetRating)
+    (name : FieldName) (fs : List Polynomial) (vs ts answer work : List ℕ) (r : Reply SetRating)
     (answer' work' : List ℕ)
     → SetCall name fs vs ts answer work r answer' work'
-    → SetRight (GF name) (map (monic_multiple (GF name)) fs) vs ts (told_set r.outcome) r.powers answer'
+    → SetRight (GF name) (map (monic_multiple (GF name)) fs) vs ts (told_set r) (set_places r) answer'
 
 -- The free way: the degree is the least of a polynomial that annihilates the terms, and the polynomial
 -- returned is the first of that degree: every other one that annihilates them comes later, which means that
@@ -187,7 +186,7 @@ pub record FreeAnswered (F : Field) (ts : List ℕ) (a : FreeFigures) (answer' :
 
 abbrev pub FreePromise : Type 0
 FreePromise =
-    (name : FieldName) (ts answer work : List ℕ) (r : FreeRating) (answer' work' : List ℕ)
+    (name : FieldName) (ts answer work : List ℕ) (r : Reply FreeRating) (answer' work' : List ℕ)
     → FreeCall name ts answer work r answer' work'
     → (a : FreeFigures)
     → told_free r ≡ answered a
@@ -209,14 +208,14 @@ pub record ContinueRight (F : Field) (g : Polynomial) (start buffer : List ℕ) 
 
 abbrev pub ContinuePromise : Type 0
 ContinuePromise =
-    (name : FieldName) (g : Polynomial) (start buffer : List ℕ) (place : ℕ) (r : Filling) (buffer' : List ℕ)
+    (name : FieldName) (g : Polynomial) (start buffer : List ℕ) (place : ℕ) (r : Reply (Unit {0})) (buffer' : List ℕ)
     → ContinueCall name g start buffer place r buffer'
     → ContinueRight (GF name) (monic_multiple (GF name) g) start buffer place (told_filling r) buffer'
 
 -- The two questions
 abbrev pub IrreduciblePromise : Type 0
 IrreduciblePromise =
-    (name : FieldName) (f : Polynomial) (r : Irreducibility)
+    (name : FieldName) (f : Polynomial) (r : Reply Bool)
     → IrreducibleCall name f r
     → (said : Bool)
     → told_irreducible r ≡ answered said

@@ -11,7 +11,7 @@ use Rattle.meaning.specs.Polynomial.{Polynomial, degree, power}
 use Rattle.meaning.specs.Sequence.{act_on_known}
 use Rattle.arith.specs.declared.field.GaloisField.{GaloisField}
 use Rattle.arith.specs.Represented.{field_of}
-use Rattle.action.specs.declared.power_action.Place.{Place}
+use Rattle.lent.specs.declared.halves.Place.{Place}
 use Rattle.lent.specs.halves.Halves.{half}
 use Rattle.lent.specs.halves.Kept.{Kept}
 

@@ -16,7 +16,7 @@ use lib.Bits.{bit_xor, bit_and, differ, xor_step, xor_zero_l, xor_zero_r}
 use Rattle.meaning.specs.Sequence.{known}
 use Rattle.bridge.proofs.Binary.Bits.{differ-bits}
 use Rattle.bridge.proofs.Binary.BinaryNumbers.{picked}
-use Rattle.arith.specs.extension.Extension.{plane_of, Collecting}
+use Rattle.arith.specs.extension.Planes.{plane_of, Collecting}
 
 bit-differ : (x y : ℕ) → differ (x % 2) (y % 2) ≡ (x % 2 + y % 2) % 2
 bit-differ x y = differ-bits (x % 2) (y % 2) (omega arith) (omega arith)

@@ -1,15 +1,17 @@
 -- Sums of products by the bits of the coefficients, from the highest down.
 --
 --   upper n j a       == the number of the bits of a from j on, among its n lowest
---   Summing f c s total bit == what the loop over the bits keeps: bit = 2^j, and total is the sum of the
---                        products of these numbers with the terms
+--   Summing f c s total j == what the loop over the bits keeps: total is the sum of the products of these
+--                        numbers with the terms
 --   summing_start, summing_more, summing_end == the turns of the loop
+--   bit_shifted       == a bit of a byte, as it is shifted
 --
 -- Assumes nothing.
 use Prim.Native.Nat.{ℕ, zero, suc, ◌+◌, ◌*◌, ◌-◌, ◌/◌, ◌%◌, ◌^◌, ◌≤◌, ◌<◌}
 use mathlib.Core.Path.{◌≡◌, refl, sym, ap, ap₂, subst, ◌∙◌}
 use mathlib.Core.List.{List, [], ◌∷◌, map}
-use native.Mathlib.Nat.{mod-lt, mod-mod, div-eq_of_lt, div-div-eq-div-mul, div-one, pow-zero, pow-suc}
+use native.Mathlib.Nat.{mod-lt, mod-mod, mod-eq_of_lt, div-eq_of_lt, div-div-eq-div-mul, div-one}
+use native.Mathlib.Nat.{pow-zero, pow-suc}
 use native.Mathlib.Nat.{zero-mul, one-mul, zero-mod, div-le_self}
 use native.Mathlib.Omega.{arith}
 use lib.Bits.{bit_and, bit_xor, and_high}
@@ -23,8 +25,9 @@ use Rattle.bridge.proofs.Basics.Interpretation.{number-mul_assoc, size-positive}
 use Rattle.bridge.proofs.Basics.Interpretation.{number-one-mul, add-below}
 use Rattle.bridge.proofs.Binary.BinaryNumbers.{binary-add, binary-digits, picked, bit-low}
 use Rattle.arith.specs.declared.extension.ExtensionField.{ExtensionField}
-use Rattle.arith.specs.extension.Extension.{extension_of, WellFormedExtension, plane_of}
-use Rattle.arith.proofs.extension.Elements.{extension_of-is_field, extension_size, sum-element}
+use Rattle.arith.specs.extension.Extension.{extension_of}
+use Rattle.arith.specs.extension.Planes.{plane_of}
+use Rattle.arith.proofs.extension.Elements.{name, extension_of-is_field, extension_size, sum-element}
 use Rattle.arith.proofs.extension.Elements.{mul-element}
 use Rattle.arith.proofs.extension.Elements.{picked_none, picked-some, size_low, element_byte}
 use Rattle.arith.proofs.extension.Elements.{mul-element-right}
@@ -47,12 +50,19 @@ bit-and a j =
     one : 1 + j ≡ suc j
     one = omega arith
 
-module _ {f : ExtensionField} (w : WellFormedExtension f) where
+-- a bit of a byte, as it is shifted
+pub bit_shifted : (j : ℕ) → j < 8 → 1 * 2 ^ j % 256 ≡ 2 ^ j
+bit_shifted j l =
+    let k : j ≤ 7 = omega arith in
+    let h : 2 ^ j ≤ 2 ^ 7 = pow_mono k in
+    ap (λ (n : ℕ). n % 256) (one-mul (2 ^ j)) ∙ mod-eq_of_lt (omega arith)
+
+module _ (f : ExtensionField) where
   abbrev F : Field
   F = extension_of f
 
   abbrev I : IsField F
-  I = extension_of-is_field w
+  I = extension_of-is_field f
 
   abbrev n : ℕ
   n = f.degree
@@ -66,7 +76,7 @@ module _ {f : ExtensionField} (w : WellFormedExtension f) where
       ∙ sym (binary-add n f.low y z)
 
   add_xor : (y p r : ℕ) → F.add y (bit_xor p r) ≡ F.add y (F.add p r)
-  add_xor y p r = sym (add_low y (bit_xor p r)) ∙ ap (F.add y) (sum-element w p r)
+  add_xor y p r = sym (add_low y (bit_xor p r)) ∙ ap (F.add y) (sum-element f p r)
 
   rearranged : (p q a r : ℕ) → F.add (F.add p q) (F.add a r) ≡ F.add (F.add q a) (F.add p r)
   rearranged p q a r =
@@ -107,8 +117,8 @@ module _ {f : ExtensionField} (w : WellFormedExtension f) where
             ap (λ (k : ℕ). k % 2 ^ n)
             (sym (picked-some x
             (λ z. omega (arith, position, bit-and a j ∙ ap (λ (k : ℕ). k * 2 ^ j) e ∙ one-mul (2 ^ j)))))
-            ∙ sym (number-one-mul I (subst (λ s. x % 2 ^ n < s) (sym (extension_size w)) (element_byte w x)))
-            ∙ mul-element-right w 1 x
+            ∙ sym (number-one-mul I (subst (λ s. x % 2 ^ n < s) (sym (extension_size f)) (element_byte f x)))
+            ∙ mul-element-right f 1 x
             ∙ sym (ap (λ k. F.mul k x) (bit-same a ∙ e))
         go (suc (suc t)) e h = absurd (omega arith)
 
@@ -130,7 +140,7 @@ module _ {f : ExtensionField} (w : WellFormedExtension f) where
         whole : F.add (upper n j a % 2) (F.mul 2 (upper n j a / 2)) ≡ upper n j a
         whole =
             unfold extension_of in
-            binary-digits n f.low w.name.least w.name.is_irreducible (upper n j a) small
+            binary-digits n f.low (name f).least (name f).is_irreducible (upper n j a) small
 
     -- all coefficients
     pub planes :
@@ -152,9 +162,9 @@ module _ {f : ExtensionField} (w : WellFormedExtension f) where
 
   act_at-below : (c : List ℕ) (s : Sequence) (k : ℕ) → act_at F c s k < 2 ^ n
   unfolding act_at
-  act_at-below [] s k = omega (arith, size_low w)
+  act_at-below [] s k = omega (arith, size_low f)
   act_at-below (a ∷ c) s k =
-      subst (λ q. F.add (F.mul a (s k)) (act_at F c s (suc k)) < q) (extension_size w) (add-below I _ _)
+      subst (λ q. F.add (F.mul a (s k)) (act_at F c s (suc k)) < q) (extension_size f) (add-below I _ _)
 
   -- no bits, and all of them
   none_left : (c : List ℕ) (s : Sequence) (k : ℕ) → act_at F (map (upper n n) c) s k ≡ 0
@@ -172,79 +182,47 @@ module _ {f : ExtensionField} (w : WellFormedExtension f) where
   unfolding act_at
   all_left [] s k = refl
   all_left (a ∷ c) s k =
-      ap₂ F.add (ap (λ x. F.mul x (s k)) (upper-all a) ∙ mul-element w a (s k)) (all_left c s (suc k))
+      ap₂ F.add (ap (λ x. F.mul x (s k)) (upper-all a) ∙ mul-element f a (s k)) (all_left c s (suc k))
     where
       upper-all : (a : ℕ) → upper n 0 a ≡ a % 2 ^ n
       upper-all a = unfold upper in ap (◌/◌ (a % 2 ^ n)) (pow-zero 2) ∙ div-one (a % 2 ^ n)
 
-pub record Summing (f : ExtensionField) (c s : List ℕ) (total bit : ℕ) : Type 0 where
-  pub exponent : ℕ
-  pub is_power : bit ≡ 2 ^ exponent
-  pub within : exponent ≤ f.degree
-  pub is_sum : total ≡ act_at (extension_of f) (map (upper f.degree exponent) c) (known s) 0
+-- The sum of the products with the bits from j on of the coefficients
+pub record Summing (f : ExtensionField) (c s : List ℕ) (total j : ℕ) : Type 0 where
+  pub within : j ≤ f.degree
+  pub is_sum : total ≡ act_at (extension_of f) (map (upper f.degree j) c) (known s) 0
 
-module _ {f : ExtensionField} (w : WellFormedExtension f) (c s : List ℕ) where
-  pub summing_start : Summing f c s 0 f.size
-  summing_start =
-      record {
-        exponent = f.degree;
-        is_power = w.size_is_right;
-        within = omega arith;
-        is_sum = sym (none_left w c (known s) 0);
-      }
+module _ (f : ExtensionField) (c s : List ℕ) where
+  pub summing_start : Summing f c s 0 f.degree
+  summing_start = record { within = omega arith; is_sum = sym (none_left f c (known s) 0) }
 
-  module _ {total bit : ℕ} (r : Summing f c s total bit) where
+  module _ {total j : ℕ} (r : Summing f c s total j) where
     pub summing_below : total < 2 ^ f.degree
-    summing_below = subst (λ x. x < 2 ^ f.degree) (sym r.is_sum) (act_at-below w _ (known s) 0)
-
-    pub summing_most : bit ≤ f.size
-    summing_most =
-        let h : 2 ^ r.exponent ≤ 2 ^ f.degree = pow_mono r.within in
-        omega (arith, r.is_power, w.size_is_right)
-
-    -- 2^(j + 1) / 2 is 2^j
-    less : 1 < bit → suc (r.exponent - 1) ≡ r.exponent
-    less l = go r.exponent refl
-      where
-        go : (e : ℕ) → r.exponent ≡ e → suc (r.exponent - 1) ≡ r.exponent
-        go zero e = absurd (omega (arith, r.is_power ∙ ap (λ k. 2 ^ k) e, pow-zero 2))
-        go (suc k) e = omega arith
-
-    pub halved : 1 < bit → bit / 2 ≡ 2 ^ (r.exponent - 1)
-    halved l =
-        let e : bit ≡ 2 ^ (r.exponent - 1) * 2 =
-        r.is_power ∙ ap (λ k. 2 ^ k) (sym (less l)) ∙ pow-suc 2 (r.exponent - 1) in
-        omega arith
+    summing_below = subst (λ x. x < 2 ^ f.degree) (sym r.is_sum) (act_at-below f _ (known s) 0)
 
     pub summing_more :
-        {d p t : ℕ} → 1 < bit
+        {d bit p t : ℕ} → 0 < j
         → d ≡ (extension_of f).mul 2 total
-        → p ≡ plane_of (bit / 2) c (known s) 0
+        → bit ≡ 2 ^ (j - 1)
+        → p ≡ plane_of bit c (known s) 0
         → t ≡ (extension_of f).add d p
-        → Summing f c s t (bit / 2)
-    summing_more l e g h =
+        → Summing f c s t (j - 1)
+    summing_more l e b g h =
+        let less : suc (j - 1) ≡ j = omega arith in
         record {
-          exponent = r.exponent - 1;
-          is_power = halved l;
           within = omega (arith, r.within);
           is_sum =
               h
               ∙ ap₂ (extension_of f).add
               (e
               ∙ ap ((extension_of f).mul 2)
-              (r.is_sum
-              ∙ ap (λ k. act_at (extension_of f) (map (upper f.degree k) c) (known s) 0) (sym (less l))))
-              (g ∙ ap (λ k. plane_of k c (known s) 0) (halved l))
-              ∙ sym (planes w (r.exponent - 1) (omega (arith, less l, r.within)) c (known s) 0);
+              (r.is_sum ∙ ap (λ k. act_at (extension_of f) (map (upper f.degree k) c) (known s) 0) (sym less)))
+              (g ∙ ap (λ k. plane_of k c (known s) 0) b)
+              ∙ sym (planes f (j - 1) (omega (arith, r.within)) c (known s) 0);
         }
 
-    pub summing_end : bit ≤ 1 → total ≡ act_at (extension_of f) c (known s) 0
-    summing_end l =
+    pub summing_end : j ≡ 0 → total ≡ act_at (extension_of f) c (known s) 0
+    summing_end e =
         r.is_sum
-        ∙ ap (λ k. act_at (extension_of f) (map (upper f.degree k) c) (known s) 0) (last r.exponent refl)
-        ∙ all_left w c (known s) 0
-      where
-        last : (e : ℕ) → r.exponent ≡ e → r.exponent ≡ 0
-        last zero e = e
-        last (suc k) e =
-            absurd (omega (arith, r.is_power ∙ ap (λ m. 2 ^ m) e, pow-suc 2 k, pow_pos k))
+        ∙ ap (λ k. act_at (extension_of f) (map (upper f.degree k) c) (known s) 0) e
+        ∙ all_left f c (known s) 0

@@ -1,62 +1,70 @@
 -- In characteristic 2 a sum is an exclusive or, of which the bits below the size count.
 --
 --   sum-bits          == so is a + 1·b for any numbers a and b
+--   product-bits      == and 1·b has the bits of b below the size
 --
 -- Assumes nothing.
-use Prim.Native.Nat.{ℕ, ◌-◌, ◌%◌, ◌^◌}
-use mathlib.Core.Path.{◌≡◌, refl, sym, ap, ◌∙◌}
+use Prim.Native.Nat.{ℕ, ◌+◌, ◌-◌, ◌%◌, ◌^◌}
+use mathlib.Core.Path.{◌≡◌, sym, ap, ◌∙◌}
 use native.Mathlib.Nat.{add-mod}
-use lib.Bits.{bit_and, bit_xor, and_mask}
+use lib.Bits.{bit_and, bit_xor, and_mask, xor_zero_l}
+use native.Mathlib.Omega.{arith}
 use Rattle.meaning.specs.Field.{prime}
-use Rattle.bridge.proofs.Basics.Interpretation.{prime-add, number-add-one-mul}
+use Rattle.bridge.proofs.Basics.Interpretation.{prime-add, number-add-one-mul, prime-size}
+use Rattle.bridge.proofs.Basics.Interpretation.{number-zero-add, mul-below}
 use Rattle.bridge.proofs.Binary.WordLists.{xor_low}
 use Rattle.arith.specs.declared.field.GaloisField.{GaloisField}
-use Rattle.arith.specs.Represented.{field_of, WellFormed}
-use Rattle.arith.proofs.extension.Elements.{sum-element}
-use Rattle.arith.proofs.field.Sorts.{sort, prime-field, prime_characteristic, extension_formed}
-use Rattle.arith.proofs.field.Sorts.{well_is_field}
+use Rattle.arith.specs.prime_field.PrimeForm.{prime_field_of}
+use Rattle.arith.specs.Represented.{field_of}
+use Rattle.arith.proofs.Represented.{field-is_field}
+use Rattle.arith.proofs.extension.Elements.{sum-element, extension_size}
+use Rattle.arith.proofs.Sorts.{prime_characteristic}
 
-module _ {f : GaloisField} (w : WellFormed f) (two : f.characteristic ≡ 2) where
-  -- the size is 2^n, and the n lowest bits count
-  record Bits (n : ℕ) : Type 0 where
-    size : f.size ≡ 2 ^ n
-    sum : (a b : ℕ) → bit_xor a b % 2 ^ n ≡ (field_of f).add a b
+-- the size is 2^n, and the n lowest bits count
+record Bits (f : GaloisField) (n : ℕ) : Type 0 where
+  size : (field_of f).size ≡ 2 ^ n
+  sum : (a b : ℕ) → bit_xor a b % 2 ^ n ≡ (field_of f).add a b
 
-  by-sort : (n : ℕ) × Bits n
-  by-sort = go (sort f)
-    where
-      go : Dec (f.multiplier ≡ 0) → (n : ℕ) × Bits n
-      go (yes e) =
-          let (x, same) =
-          extension_formed w e (record { size = f.size; degree = f.degree; low = f.low }) refl refl refl
-          in (
-            f.degree,
-            record {
-              size = x.size_is_right;
-              sum = λ a b. sum-element x a b ∙ ap (λ F. F.add a b) same;
-            },
-          )
-      go (no h) = (
-        1,
-        record {
-          size = size;
-          sum = λ a b.
-              xor_low a b
-              ∙ sym (add-mod a b 2)
-              ∙ sym (prime-add 2 a b)
-              ∙ ap (λ p. (prime p).add a b) (sym size)
-              ∙ ap (λ F. F.add a b) (prime-field f h);
-        },
-      )
-        where
-          size : f.size ≡ 2
-          size = sym (prime_characteristic w h) ∙ sym w.characteristic_is_right ∙ two
+by-sort : (f : GaloisField) → (field_of f).characteristic ≡ 2 → (n : ℕ) × Bits f n
+unfolding field_of prime_field_of
+by-sort (GaloisField.Extension f) h = (
+  f.degree,
+  record { size = extension_size f; sum = sum-element f },
+)
+by-sort (GaloisField.Prime f) h = (
+  1,
+  record {
+    size = prime-size f.size ∙ is_two;
+    sum = λ a b.
+        xor_low a b
+        ∙ sym (add-mod a b 2)
+        ∙ sym (prime-add 2 a b)
+        ∙ ap (λ p. (prime p).add a b) (sym is_two);
+  },
+)
+  where
+    is_two : f.size ≡ 2
+    is_two = sym (prime_characteristic f) ∙ h
 
-  pub sum-bits :
-      (a b : ℕ) → bit_and (bit_xor a b) (f.size - 1) ≡ (field_of f).add a ((field_of f).mul 1 b)
-  sum-bits a b =
-      let (n, s) = by-sort in
-      ap (λ (k : ℕ). bit_and (bit_xor a b) (k - 1)) s.size
-      ∙ and_mask (bit_xor a b) n
-      ∙ s.sum a b
-      ∙ sym (number-add-one-mul (well_is_field w) a b)
+module _
+    (f : GaloisField) (two : (field_of f).characteristic ≡ 2)
+    (mask : ℕ) (masks : mask + 1 ≡ (field_of f).size)
+  where
+    masked : (n : ℕ) → (field_of f).size ≡ 2 ^ n → (x : ℕ) → bit_and x mask ≡ x % 2 ^ n
+    masked n e x =
+        let m : mask ≡ 2 ^ n - 1 = omega (arith, masks, e) in ap (bit_and x) m ∙ and_mask x n
+
+    pub sum-bits :
+        (a b : ℕ) → bit_and (bit_xor a b) mask ≡ (field_of f).add a ((field_of f).mul 1 b)
+    sum-bits a b =
+        let (n, s) = by-sort f two in
+        masked n s.size (bit_xor a b) ∙ s.sum a b ∙ sym (number-add-one-mul (field-is_field f) a b)
+
+    pub product-bits : (b : ℕ) → bit_and b mask ≡ (field_of f).mul 1 b
+    product-bits b =
+        let (n, s) = by-sort f two in
+        masked n s.size b
+        ∙ ap (λ (x : ℕ). x % 2 ^ n) (sym (xor_zero_l b))
+        ∙ s.sum 0 b
+        ∙ sym (number-add-one-mul (field-is_field f) 0 b)
+        ∙ number-zero-add (field-is_field f) (mul-below (field-is_field f) 1 b)

@@ -1,17 +1,15 @@
 -- One term of a profile: the status, the entry, and the meter afterwards.
 --
---   number_byte      == the number of a refusal fits a byte
---   status_unique, status_several, status_refused == the status of a reading
---   four_bytes       == four bytes are written one after another
---   entry-unique, entry_several, entry-missing == the entry of what a meter shows
+--   status_byte      == the status of a reply fits a byte
+--   entry-unique, entry_several == the entry of what a meter shows
 --   term_entered     == the term is handed in and its entry written
 -- Assumes nothing.
 use Prim.Native.Nat.{ℕ, ◌/◌, ◌%◌, ◌<◌}
-use mathlib.Core.Path.{◌≡◌, refl, sym, ap, subst, ◌∙◌}
-use mathlib.Core.Bool.{true, false}
+use mathlib.Core.Path.{◌≡◌, refl, ap, ◌∙◌}
 use mathlib.Core.List.{List, [], ◌∷◌, ◌++◌}
 use native.Mathlib.Omega.{arith}
 use lib.ListN.{length, take, set, length-set}
+use Rattle.std.specs.Prelude.{Ok, Err}
 use Rattle.meaning.specs.declared.FieldName.{FieldName}
 use Rattle.meaning.specs.declared.Refusal.{Refusal}
 use Rattle.meaning.specs.declared.FreeRating.{FreeRating}
@@ -23,13 +21,15 @@ use Rattle.meaning.specs.FieldNames.{named_field}
 use Rattle.meaning.specs.Free.{FreeFigures}
 use Rattle.meaning.specs.Meter.{term_table, take_term, meter_reading, unless_refused, profile_entry}
 use Rattle.meaning.specs.Meter.{reading_entry}
-use Rattle.meaning.specs.Answers.{number_of, told_free}
+use Rattle.meaning.specs.Answers.{number_of, told_free, free_figures_of, told, Reply}
 use Rattle.meaning.specs.Calls.{TermCall, TermTaken, ReadingCall}
 use Rattle.meaning.specs.Exports.{status_of}
-use Rattle.bridge.proofs.Basics.Searches.{settle_answered, answered_same, never_answered}
+use Rattle.bridge.proofs.Basics.Searches.{settle_answered, answered_same}
 use Rattle.bridge.proofs.Massey.Meters.{holding-more}
 use Rattle.meter.specs.Model.{meter_model}
 use Rattle.meter.proofs.Keeping.{holding_reading, holding-numbers}
+use Rattle.exports.specs.status.Replies.{status_in}
+use Rattle.exports.proofs.Exported.{status_in_told}
 use Rattle.exports.specs.profile.Entries.{held_with, entry_of, Ready, EntryWritten, TermEntered}
 
 -- A meter and lent bytes that are those of another are ready for the same
@@ -54,7 +54,7 @@ ready_same {held = held} x a b c =
     }
 
 -- The status
-pub number_byte : (x : Refusal) → number_of x < 256
+number_byte : (x : Refusal) → number_of x < 256
 unfolding number_of
 number_byte Refusal.FileTooLong = omega arith
 number_byte Refusal.UnknownKind = omega arith
@@ -77,71 +77,30 @@ number_byte Refusal.MeterFull = omega arith
 number_byte Refusal.NoEntry = omega arith
 number_byte Refusal.NotBinaryField = omega arith
 
-module _ {a : FreeRating} where
-  pub status_unique : {d : ℕ} → a ≡ FreeRating.Unique d → 0 ≡ status_of (told_free a)
-  unfolding told_free status_of
-  status_unique q = rw q
-
-  pub status_several : {d : ℕ} → a ≡ FreeRating.Several d → 0 ≡ status_of (told_free a)
-  unfolding told_free status_of
-  status_several q = rw q
-
-  pub status_refused : {x : Refusal} {k : ℕ} → a ≡ FreeRating.Refused x → k ≡ number_of x
-      → k ≡ status_of (told_free a)
-  unfolding told_free status_of
-  status_refused q e = rw q e
+pub status_byte : {A : Type 0} (r : Reply A) → status_in r < 256
+unfolding status_in
+status_byte (Ok a) = omega arith
+status_byte (Err x) = number_byte x
 
 -- The four bytes
-pub four_bytes : (l : List ℕ) (a b c d : ℕ) → length l ≡ 4
-    → set (set (set (set l 0 a) 1 b) 2 c) 3 d ≡ a ∷ b ∷ c ∷ d ∷ []
-four_bytes (x ∷ y ∷ z ∷ w ∷ []) a b c d e = refl
-four_bytes [] a b c d e = absurd (omega arith)
-four_bytes (x ∷ []) a b c d e = absurd (omega arith)
-four_bytes (x ∷ y ∷ []) a b c d e = absurd (omega arith)
-four_bytes (x ∷ y ∷ z ∷ []) a b c d e = absurd (omega arith)
-four_bytes (x ∷ y ∷ z ∷ w ∷ v ∷ l) a b c d e = absurd (omega arith)
-
 two_bytes : {s d w : ℕ} → d < 65536
     → s ∷ d % 256 ∷ d / 256 % 256 ∷ w ∷ [] ≡ s ∷ d % 256 ∷ d / 256 ∷ w ∷ []
 two_bytes {s} {d} {w} h =
     let e : d / 256 % 256 ≡ d / 256 = omega arith in
     ap (λ n. s ∷ d % 256 ∷ n ∷ w ∷ []) e
 
--- the figures that a reading tells are written
-entry-written : {status : ℕ} {r : FreeRating} {bytes : List ℕ} (b : FreeFigures)
-    → told_free r ≡ answered b
-    → (b.degree < 65536 → bytes ≡ profile_entry status b)
-    → EntryWritten status r bytes
-entry-written {status} b q e =
-    record {
-      entry = λ a t h.
-          let z : b ≡ a = answered_same (sym q ∙ t) in
-          e (subst (λ (x : FreeFigures). x.degree < 65536) (sym z) h) ∙ ap (profile_entry status) z;
-    }
+module _ {status d : ℕ} {r : FreeRating} {figures : ℕ × ℕ} where
+  pub entry-unique : r ≡ FreeRating.Unique d
+      → figures ≡ (d, 1)
+      → EntryWritten status r (status ∷ figures.0 % 256 ∷ figures.0 / 256 % 256 ∷ figures.1 ∷ [])
+  unfolding free_figures_of profile_entry
+  entry-unique q e = rw (q, e) (record { entry = two_bytes })
 
-module _ {status d : ℕ} {r : FreeRating} {bytes : List ℕ} where
-  pub entry-unique :
-      r ≡ FreeRating.Unique d
-      → bytes ≡ status ∷ d % 256 ∷ d / 256 % 256 ∷ 1 ∷ []
-      → EntryWritten status r bytes
-  unfolding told_free profile_entry
-  entry-unique q e =
-      entry-written (record { degree = d; unique = true }) (ap told_free q) (λ h. e ∙ two_bytes h)
-
-  pub entry_several :
-      r ≡ FreeRating.Several d
-      → bytes ≡ status ∷ d % 256 ∷ d / 256 % 256 ∷ 0 ∷ []
-      → EntryWritten status r bytes
-  unfolding told_free profile_entry
-  entry_several q e =
-      entry-written (record { degree = d; unique = false }) (ap told_free q) (λ h. e ∙ two_bytes h)
-
--- a meter that holds terms always shows figures
-pub entry-missing : {status : ℕ} {r : FreeRating} {bytes : List ℕ} {x : Refusal}
-    → r ≡ FreeRating.Refused x
-    → EntryWritten status r bytes
-unfolding told_free
-entry-missing q = record { entry = λ a t h. never_answered (sym (ap told_free q) ∙ t) }
+  pub entry_several : r ≡ FreeRating.Several d
+      → figures ≡ (d, 0)
+      → EntryWritten status r (status ∷ figures.0 % 256 ∷ figures.0 / 256 % 256 ∷ figures.1 ∷ [])
+  unfolding free_figures_of profile_entry
+  entry_several q e = rw (q, e) (record { entry = two_bytes })
 
 -- The meter after a term
 module _ (name : FieldName) (held : List ℕ) {m : Meter} {t : ℕ} {terms work : List ℕ} {s : MeterStep}
@@ -176,24 +135,27 @@ module _ (name : FieldName) (held : List ℕ) {m : Meter} {t : ℕ} {terms work 
 
   -- what the meter then shows has a degree of two bytes
   term-entry : {status : ℕ} {shown : FreeRating} {bytes : List ℕ}
-      → status ≡ status_of (told_free s.reading)
-      → ReadingCall meter_model s.meter shown
+      → status ≡ status_in s.reading
+      → ReadingCall meter_model s.meter (Ok shown)
       → EntryWritten status shown bytes
       → bytes ≡ entry_of F held t
-  unfolding entry_of reading_entry
-  term-entry {status} e r w =
+  unfolding entry_of reading_entry told_free told
+  term-entry {status} {shown} e r w =
       let h = ready_with.holding in
       let i = holding_reading h in
-      w.entry _ (r.reading name (held_with F held t) terms' work' h ∙ i)
-      (omega (arith, (holding-numbers h).0, ap (λ m. m.held) h.numbers, h.count))
-      ∙ ap (λ x. reading_entry status x) (sym i)
-      ∙ ap (λ n. reading_entry n (meter_reading F (held_with F held t))) (e ∙ ap status_of c.reading)
+      let told = r.reading name (held_with F held t) terms' work' h in
+      let same : free_figures_of shown ≡ _ = answered_same (told ∙ i) in
+      let n = ap (λ x. x.degree) same in
+      w.entry (omega (arith, n, (holding-numbers h).0, ap (λ m. m.held) h.numbers, h.count))
+      ∙ ap (λ x. reading_entry status x) told
+      ∙ ap (λ n. reading_entry n (meter_reading F (held_with F held t)))
+      (e ∙ status_in_told _ s.reading ∙ ap status_of c.reading)
 
 pub term_entered : {m : Meter} {t : ℕ} {terms work : List ℕ} {s : MeterStep} {terms' work' : List ℕ}
     {status : ℕ} {shown : FreeRating} {bytes : List ℕ}
     → TermCall meter_model m t terms work s terms' work'
-    → status ≡ status_of (told_free s.reading)
-    → ReadingCall meter_model s.meter shown
+    → status ≡ status_in s.reading
+    → ReadingCall meter_model s.meter (Ok shown)
     → EntryWritten status shown bytes
     → TermEntered m t terms work s.meter terms' work' bytes
 term_entered c e r w =

@@ -16,10 +16,10 @@ use native.Mathlib.Decide.{dec_lt}
 use native.Mathlib.Omega.{arith}
 use lib.ListN.{length, get_or, take, drop, length-append, length-take, length-drop, take-append-drop}
 use lib.Seq.{take-suc, take_all, take_at, drop_at, drop-drop}
+use Rattle.std.specs.Prelude.{Ok, Err}
 use Rattle.meaning.specs.declared.FieldName.{FieldName}
 use Rattle.meaning.specs.declared.Refusal.{Refusal}
 use Rattle.meaning.specs.declared.Meter.{Meter}
-use Rattle.meaning.specs.declared.MeterStart.{MeterStart}
 use Rattle.meaning.specs.Field.{Field}
 use Rattle.meaning.specs.Result.{Result, refused, answered, written}
 use Rattle.meaning.specs.FieldNames.{named_field}
@@ -27,7 +27,7 @@ use Rattle.meaning.specs.Free.{FreeFigures}
 use Rattle.meaning.specs.Meter.{start_meter, term_table, take_term, meter_reading, unless_refused}
 use Rattle.meaning.specs.Meter.{profile_entry}
 use Rattle.meaning.specs.Meter.{reading_entry, profile_of}
-use Rattle.meaning.specs.Answers.{number_of, told_start}
+use Rattle.meaning.specs.Answers.{number_of, told_start, told, Reply}
 use Rattle.meaning.specs.Calls.{StartCall}
 use Rattle.meaning.specs.Exports.{status_of, ProfileExported}
 use Rattle.bridge.proofs.Basics.Searches.{settle_answered, map_answered, map_refused}
@@ -178,13 +178,13 @@ module _ {m : Meter} (ts : List ℕ) {terms₀ work₀ profile₀ : List ℕ} wh
 abbrev profiled : FieldName → List ℕ → List ℕ → List ℕ
 profiled name ts profile = written (profile_of (named_field name) [] (take (length profile / 4) ts)) profile
 
-module _ {name : FieldName} {ts profile work work' : List ℕ} {a : MeterStart}
+module _ {name : FieldName} {ts profile work work' : List ℕ} {a : Reply Meter}
     (c : StartCall meter_model name work a work') where
   pub profile_refused : {x : Refusal} {k : ℕ}
-      → a ≡ MeterStart.Refused x
+      → a ≡ Err x
       → k ≡ number_of x
       → ProfileExported name ts profile k profile
-  unfolding told_start status_of unless_refused
+  unfolding told_start told status_of unless_refused
   profile_refused q i =
       let e = map_refused _ (start_meter name) (sym c.starting ∙ ap told_start q) in
       record {
@@ -194,10 +194,10 @@ module _ {name : FieldName} {ts profile work work' : List ℕ} {a : MeterStart}
 
   pub profile_told : {m : Meter} (terms : List ℕ) {profile' : List ℕ}
       → length terms ≡ 4096
-      → a ≡ MeterStart.Started m
+      → a ≡ Ok m
       → ProfileWritten m ts terms work' profile profile'
       → ProfileExported name ts profile 0 profile'
-  unfolding told_start status_of unless_refused
+  unfolding told_start told status_of unless_refused
   profile_told terms n q w =
       let (_, e, f) = map_answered _ (start_meter name) (sym c.starting ∙ ap told_start q) in
       let h = ready_same (record { holding = holding-none meter_model name terms e; size = n }) (sym f) refl

@@ -18,13 +18,12 @@ use Rattle.meaning.specs.declared.FieldName.{FieldName}
 use Rattle.meaning.specs.declared.FreeRating.{FreeRating}
 use Rattle.meaning.specs.declared.Meter.{Meter}
 use Rattle.meaning.specs.Field.{Field}
-use Rattle.meaning.specs.Result.{answered, written}
+use Rattle.meaning.specs.Result.{written}
 use Rattle.meaning.specs.FieldNames.{named_field}
-use Rattle.meaning.specs.Free.{FreeFigures}
 use Rattle.meaning.specs.Meter.{take_term, meter_reading, unless_refused, Holding, profile_entry}
 use Rattle.meaning.specs.Meter.{reading_entry}
 use Rattle.meaning.specs.Meter.{profile_of}
-use Rattle.meaning.specs.Answers.{told_free}
+use Rattle.meaning.specs.Answers.{free_figures_of}
 use Rattle.meaning.specs.Exports.{status_of}
 use Rattle.meter.specs.Model.{meter_model}
 
@@ -43,7 +42,7 @@ pub record Ready (name : FieldName) (held : List ℕ) (m : Meter) (terms work : 
   pub size : length terms ≡ 4096
 
 pub record EntryWritten (status : ℕ) (r : FreeRating) (bytes : List ℕ) : Type 0 where
-  pub entry : (a : FreeFigures) → told_free r ≡ answered a → a.degree < 65536 → bytes ≡ profile_entry status a
+  pub entry : (free_figures_of r).degree < 65536 → bytes ≡ profile_entry status (free_figures_of r)
 
 pub record TermEntered (m : Meter) (t : ℕ) (terms work : List ℕ) (m' : Meter) (terms' work' bytes : List ℕ)
     : Type 0 where

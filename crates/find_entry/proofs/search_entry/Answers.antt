@@ -3,18 +3,16 @@
 use Rattle.find_entry.proofs.Entries.{binary-level, entry-coefficients, entry-input, entry-searched}
 use Rattle.find_entry.proofs.search_entry.Goals as goal
 
-pub search_after_look-requires : goal.search_after_look-requires
-search_after_look-requires c =
-    let e = entry-coefficients c.catalogue_entry.ensures c.unpack-count.ensures in record {
-      field_named = c.requires.field_named;
-      in_bounds = c.requires.in_bounds;
-      period_input = entry-input c.requires.field_named c.requires.binary_period c.requires.i_bound e;
-      dividing = binary-level c.requires.field_named c.requires.dividing;
-      places = c.requires.places;
-    }
+pub search_after_look-requires-clause-period_input : goal.search_after_look-requires-clause-period_input
+search_after_look-requires-clause-period_input c =
+    entry-input c.requires.field_named c.requires.binary_period c.requires.i_bound
+    (entry-coefficients c.catalogue_entry.ensures c.unpack-count.ensures)
+
+pub search_after_look-requires-clause-dividing : goal.search_after_look-requires-clause-dividing
+search_after_look-requires-clause-dividing c = binary-level c.requires.field_named c.requires.dividing
 
 pub returns : goal.returns
 returns c =
     entry-searched c.requires.field_named c.requires.binary_period c.requires.i_bound
     (entry-coefficients c.catalogue_entry.ensures c.unpack-count.ensures)
-    c.search_after_look.ensures
+    c.search_after_look.result c.search_after_look.ensures

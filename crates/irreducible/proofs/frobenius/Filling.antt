@@ -25,7 +25,7 @@ use Rattle.bridge.proofs.Lists.Coefficients.{get_or-zeros}
 use Rattle.bridge.proofs.Sequences.Continuations.{take-elements}
 use Rattle.bridge.proofs.Lists.Remainders.{Congruent, congruent_trans, congruent-places}
 use Rattle.bridge.proofs.Lists.Residues.{monomial-congruent, heights_times}
-use Rattle.arith.specs.Represented.{field_of, WellFormed}
+use Rattle.arith.specs.Represented.{field_of}
 use Rattle.arith.specs.declared.field.GaloisField.{GaloisField}
 use Rattle.arith.proofs.Represented.{field-is_field}
 use Rattle.arith.proofs.Slices.{part_paste_inside, part_paste_before}
@@ -34,7 +34,6 @@ use Rattle.poly.specs.common_divisor.Common.{Trimmed}
 use Rattle.poly.specs.residues.Residues.{Modulus, Factors, Residue}
 use Rattle.irreducible.specs.frobenius.Table.{row, Table}
 use Rattle.bridge.proofs.Lists.Polynomials.{set-elements, zeros-elements}
-use Rattle.lent.proofs.Parts.{copied}
 use Rattle.lent.proofs.Parts.{copied-back}
 use Rattle.poly.proofs.common_divisor.Trimming.{trimmed_within, trimmed_part, trimmed_size, trimmed_places}
 
@@ -43,19 +42,19 @@ module _ (field : GaloisField) (f y : Polynomial) where
   F₁ = field_of field
 
   abbrev IsPower : Type 0
-  IsPower = (w : WellFormed field) → Congruent (field-is_field w) f (power F₁ (0 ∷ 1 ∷ []) F₁.size) y
+  IsPower = Congruent (field-is_field field) f (power F₁ (0 ∷ 1 ∷ []) F₁.size) y
 
   pub record Filling (table now : List ℕ) (j : ℕ) : Type 0 where
     pub table_size : length table ≡ 1024
     pub row_size : length now ≡ 32
     pub within : j ≤ degree f
     pub elements : T (are_elements F₁ (take (degree f) now))
-    pub current : IsPower → (w : WellFormed field)
-        → Congruent (field-is_field w) f (power F₁ (0 ∷ 1 ∷ []) (j * F₁.size)) (take (degree f) now)
+    pub current : IsPower
+        → Congruent (field-is_field field) f (power F₁ (0 ∷ 1 ∷ []) (j * F₁.size)) (take (degree f) now)
     pub rows : IsPower → (k : ℕ) → k < j
         → Residue field f (power F₁ (0 ∷ 1 ∷ []) (k * F₁.size)) (row table k (degree f))
 
-module _ {field : GaloisField} (v : WellFormed field) {f : Polynomial} (y : Polynomial)
+module _ (field : GaloisField) {f : Polynomial} (y : Polynomial)
     (M : Modulus (field_of field) f) where
   abbrev F : Field
   F = field_of field
@@ -78,13 +77,14 @@ module _ {field : GaloisField} (v : WellFormed field) {f : Polynomial} (y : Poly
         within = omega arith;
         elements =
             take-elements F d one
-            (set-elements F (replicate 32 0) 0 1 (size-two (field-is_field v))
-            (zeros-elements (field-is_field v) 32));
-        current = λ _ w.
-            subst (λ n. Congruent (field-is_field w) f (power F (0 ∷ 1 ∷ []) n) (take d one))
+            (set-elements F (replicate 32 0) 0 1 (size-two (field-is_field field))
+            (zeros-elements (field-is_field field) 32));
+        current = λ _.
+            subst (λ n. Congruent (field-is_field field) f (power F (0 ∷ 1 ∷ []) n) (take d one))
             (sym (zero-mul F.size))
-            (congruent_trans (field-is_field w) (monomial-congruent (field-is_field w) 32 0 (omega arith))
-            (congruent-places (field-is_field w) one (take d one) places));
+            (congruent_trans (field-is_field field)
+            (monomial-congruent (field-is_field field) 32 0 (omega arith))
+            (congruent-places (field-is_field field) one (take d one) places));
         rows = λ _ k l. absurd (omega arith);
       }
     where
@@ -129,24 +129,10 @@ module _ {field : GaloisField} (v : WellFormed field) {f : Polynomial} (y : Poly
     src-degree = src-length
 
     module _ {ys zs : List ℕ}
-        (c : ys ≡ src
-        ++ drop (length src) (take (32 * j + e - 32 * j) (drop (32 * j) table)))
+        (c : ys ≡ src)
         (r : Residue field f (times F y src) zs) where
-      row-length : length (take (32 * j + e - 32 * j) (drop (32 * j) table)) ≡ d
-      row-length =
-          omega (
-            arith,
-            length-take (32 * j + e - 32 * j) (drop (32 * j) table),
-            length-drop (32 * j) table,
-            h.table_size,
-            M.small,
-          )
-
-      ys_is : ys ≡ src
-      ys_is = c ∙ copied _ src (omega (arith, src-length, row-length))
-
       ys_length : length ys ≡ d
-      ys_length = ap length ys_is ∙ src-length
+      ys_length = ap length c ∙ src-length
 
       row_fits : 32 * j + d ≤ length table
       row_fits = omega (arith, h.table_size, M.small)
@@ -168,7 +154,7 @@ module _ {field : GaloisField} (v : WellFormed field) {f : Polynomial} (y : Poly
           ap (λ u. row u j d) row-pasted
           ∙ part_paste_inside table (32 * j) ys d row_fits (omega (arith, ys_length))
           ∙ take_all d ys (omega (arith, ys_length))
-          ∙ ys_is
+          ∙ c
           ∙ src-whole
 
       next_row : take d (zs ++ drop (e - 0) now) ≡ zs
@@ -187,16 +173,16 @@ module _ {field : GaloisField} (v : WellFormed field) {f : Polynomial} (y : Poly
                 ∙ omega (arith, r.size, length-drop (e - 0) now, h.row_size, M.small);
             within = omega arith;
             elements = subst (λ u. T (are_elements F u)) (sym next_row) r.elements;
-            current = λ p w.
-                let I : IsField F = field-is_field w in
+            current = λ p.
+                let I : IsField F = field-is_field field in
                 let more : F.size + j * F.size ≡ (j + 1) * F.size =
                 add_comm F.size (j * F.size) ∙ sym (suc-mul j F.size)
                 ∙ ap (λ n. n * F.size) (sym (add-one j)) in
                 subst (λ u. Congruent I f (power F (0 ∷ 1 ∷ []) ((j + 1) * F.size)) u) (sym next_row)
                 (subst (λ n. Congruent I f (power F (0 ∷ 1 ∷ []) n) zs) more
-                (heights_times I F.size (j * F.size) (p w)
-                (subst (Congruent I f (power F (0 ∷ 1 ∷ []) (j * F.size))) (sym src-whole) (h.current p w))
-                (r.congruent w)));
+                (heights_times I F.size (j * F.size) p
+                (subst (Congruent I f (power F (0 ∷ 1 ∷ []) (j * F.size))) (sym src-whole) (h.current p))
+                r.congruent));
             rows = λ p k m. elim (dec_lt k j) [
               | yes a ↦ subst (Residue field f _) (sym (old-rows k a)) (h.rows p k a)
               | no a ↦
@@ -263,7 +249,7 @@ module _ {field : GaloisField} {f : List ℕ} (M : Modulus (field_of field) f) {
       (take-elements (field_of field) n ys r.elements)
 
   pub power_trimmed : IsPower field f short
-  power_trimmed w =
-      subst (λ k. Congruent (field-is_field w) f (power (field_of field) (0 ∷ 1 ∷ []) k) short) z
-      (congruent_trans (field-is_field w) (r.congruent w)
-      (congruent-places (field-is_field w) ys short (λ i. sym (trimmed_places ys t size u i))))
+  power_trimmed =
+      subst (λ k. Congruent (field-is_field field) f (power (field_of field) (0 ∷ 1 ∷ []) k) short) z
+      (congruent_trans (field-is_field field) r.congruent
+      (congruent-places (field-is_field field) ys short (λ i. sym (trimmed_places ys t size u i))))

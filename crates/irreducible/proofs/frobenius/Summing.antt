@@ -20,7 +20,7 @@ use Rattle.bridge.proofs.Lists.Polynomials.{plus-elements, scale-elements}
 use Rattle.bridge.proofs.Lists.Coefficients.{get_or-zeros}
 use Rattle.bridge.proofs.Lists.Remainders.{Congruent}
 use Rattle.bridge.proofs.Lists.Residues.{rows_start, rows_next}
-use Rattle.arith.specs.Represented.{field_of, WellFormed}
+use Rattle.arith.specs.Represented.{field_of}
 use Rattle.arith.specs.Slices.{combined}
 use Rattle.arith.specs.declared.field.GaloisField.{GaloisField}
 use Rattle.arith.proofs.Represented.{field-is_field, size-power}
@@ -36,10 +36,9 @@ pub record Summing (field : GaloisField) (table h sum : List ℕ) (j : ℕ) : Ty
       (f : Polynomial)
       → length h ≡ degree f
       → Rows field f table
-      → (w : WellFormed field)
-      → Congruent (field-is_field w) f (power (field_of field) (take j h) (field_of field).size) sum
+      → Congruent (field-is_field field) f (power (field_of field) (take j h) (field_of field).size) sum
 
-module _ {field : GaloisField} (v : WellFormed field) (table h : List ℕ) (s : length table ≡ 1024)
+module _ (field : GaloisField) (table h : List ℕ) (s : length table ≡ 1024)
     (short : length h ≤ 32) where
   abbrev F : Field
   F = field_of field
@@ -50,9 +49,11 @@ module _ {field : GaloisField} (v : WellFormed field) (table h : List ℕ) (s : 
       record {
         within = omega arith;
         size = e;
-        elements = subst (λ u. T (are_elements F u)) (sym z) (zeros-elements (field-is_field v) (length sum));
-        raised = λ f _ _ w.
-            rows_start (field-is_field w) h sum (λ i. ap (λ u. get_or u i 0) z ∙ get_or-zeros (length sum) i);
+        elements =
+            subst (λ u. T (are_elements F u)) (sym z) (zeros-elements (field-is_field field) (length sum));
+        raised = λ f _ _.
+            rows_start (field-is_field field) h sum
+            (λ i. ap (λ u. get_or u i 0) z ∙ get_or-zeros (length sum) i);
       }
 
   module _ {sum : List ℕ} {j : ℕ} (m : Summing field table h sum j) (l : j < length h) where
@@ -74,18 +75,18 @@ module _ {field : GaloisField} (v : WellFormed field) (table h : List ℕ) (s : 
           size = ap length e ∙ length-combined F sum (get_or h j 0) lent row-lent ∙ m.size;
           elements =
               subst (λ u. T (are_elements F u)) (sym e)
-              (plus-elements (field-is_field v) sum _ m.elements
-              (scale-elements (field-is_field v) (get_or h j 0) lent));
-          raised = λ f k r w.
-              let I : IsField F = field-is_field w in
-              let (a, b) = size-power w in
+              (plus-elements (field-is_field field) sum _ m.elements
+              (scale-elements (field-is_field field) (get_or h j 0) lent));
+          raised = λ f k r.
+              let I : IsField F = field-is_field field in
+              let (a, b) = size-power field in
               let same : row table j (degree f) ≡ lent = ap (row table j) (sym k) ∙ sym lent_row in
               subst (Congruent I f (power F (take (j + 1) h) F.size)) (sym e)
               (subst (λ n. Congruent I f (power F (take n h) F.size) (combined F sum (get_or h j 0) lent))
               (sym (add-one j))
-              (rows_next I a b h sum lent j l (m.raised f k r w)
+              (rows_next I a b h sum lent j l (m.raised f k r)
               (subst (Congruent I f (power F (0 ∷ 1 ∷ []) (j * F.size))) same
-              ((r.at j (omega arith)).congruent w))));
+              (r.at j (omega arith)).congruent)));
         }
 
   pub summing_end : {sum : List ℕ} {j : ℕ} → Summing field table h sum j → length h ≤ j
@@ -95,8 +96,7 @@ module _ {field : GaloisField} (v : WellFormed field) (table h : List ℕ) (s : 
         size = m.size;
         raised = λ f k r. (
           m.elements,
-          λ w.
-              subst (λ u. Congruent (field-is_field w) f (power F u F.size) sum) (take_all j h l)
-              (m.raised f k r w),
+          subst (λ u. Congruent (field-is_field field) f (power F u F.size) sum) (take_all j h l)
+              (m.raised f k r),
         );
       }

@@ -1,38 +1,21 @@
 -- An action within lent bytes, where they have room for the period and its values.
 --
---   room-nothing, room-many, room-last == whether there is room, by one test after the other
---   room_block        == then there is a block
+--   room_block        == where there is room, there is a block
 --   act-kept, act-acted == what a leaf leaves: something is not as it asks, and all is
 --
 -- Assumes nothing.
-use Prim.Native.Nat.{ℕ, ◌+◌, ◌≤◌, ◌<◌}
+use Prim.Native.Nat.{ℕ, ◌+◌}
 use native.Mathlib.Omega.{arith}
 use mathlib.Core.Path.{◌≡◌, refl, sym, subst, ◌∙◌}
-use mathlib.Core.Logic.{◌≢◌}
 use mathlib.Core.Bool.{Bool, true, false, ◌&&◌}
 use mathlib.Core.List.{List}
 use lib.Dec.{T, leb, leb→le}
 use lib.ListN.{length}
-use borrow.Author.Tests.{lt-leb, le-leb}
 use Rattle.meaning.specs.Field.{Field}
 use Rattle.meaning.specs.Polynomial.{Polynomial}
 use Rattle.bridge.proofs.Basics.Searches.{T_and, false-T, true-T}
 use Rattle.lent.specs.blocks.Blocks.{Block, BlockActed}
 use Rattle.leaves.specs.binary.Acted.{has_room, Acted}
-
-module _ (n size : ℕ) where
-  pub room-nothing : n ≡ 0 → false ≡ has_room n size
-  unfolding has_room
-  room-nothing e = rw (lt-leb 1 n (omega arith))
-
-  module _ (s : n ≢ 0) where
-    pub room-many : 256 < n → false ≡ has_room n size
-    unfolding has_room
-    room-many l = rw (le-leb 1 n (omega arith), lt-leb n 256 l)
-
-    pub room-last : n ≤ 256 → leb (n + n) size ≡ has_room n size
-    unfolding has_room
-    room-last l = rw (le-leb 1 n (omega arith), le-leb n 256 l)
 
 module _ (w : List ℕ) (n : ℕ) {b : Bool} (e : b ≡ has_room n (length w)) (h : b ≡ true) where
   first : T (leb 1 n) × T (leb n 256 && leb (n + n) (length w))

@@ -1,7 +1,6 @@
 -- `divide_in` meets its contract.
 -- Assumes nothing.
 use mathlib.Core.Path.{sym, ◌∙◌}
-use borrow.Author.Rules.{rules}
 use Rattle.bridge.proofs.Ways.Accepted.{terms-accepted}
 use Rattle.bridge.proofs.Lists.Multiples.{coefficients_lead}
 use Rattle.leaves.proofs.Remaindering.{kept-coefficient, kept_out_of_field}
@@ -18,13 +17,11 @@ returns-then-term_out_of_field c =
 pub divide-requires : goal.divide-requires
 divide-requires c =
     let lead = coefficients_lead _ _ (sym c.coefficient_out_of_range.ensures ∙
-    c.if-coefficient_out_of_range.false) in record {
-      well_formed = search rules;
-      divisible = record {
-        divisor = lead.elements;
-        nonzero = lead.nonzero;
-        elements = terms-accepted _ _ (sym c.term_out_of_field.ensures ∙ c.if-term_out_of_field.false);
-      };
+    c.if-coefficient_out_of_range.false) in
+    record {
+      divisor = lead.elements;
+      nonzero = lead.nonzero;
+      elements = terms-accepted _ _ (sym c.term_out_of_field.ensures ∙ c.if-term_out_of_field.false);
     }
 
 pub shape_of-f : goal.shape_of-f

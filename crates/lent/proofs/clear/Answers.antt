@@ -4,4 +4,4 @@ use Rattle.lent.proofs.Parts.{cleared-part}
 use Rattle.lent.proofs.clear.Goals as goal
 
 pub returns : goal.returns
-returns c = cleared-part _ (omega arith) c.zero.ensures
+returns c = cleared-part _ (omega arith) (c.fill.ensures.after (λ y e. e))

@@ -9,10 +9,11 @@
 --
 -- Assumes nothing.
 use Prim.Native.Nat.{ℕ, suc, ◌+◌, ◌*◌, ◌-◌, ◌/◌, ◌%◌, ◌^◌, ◌≤◌, ◌<◌, min}
-use mathlib.Core.Path.{◌≡◌, sym, ap, subst, ◌∙◌}
-use mathlib.Core.List.{List}
-use lib.ListN.{length, get_or, set, drop, length-set, length-take, get_or-eq_default}
-use lib.Seq.{get_or-set_same, get_or-set_other, get_or-take, get_or-drop, ext_get_or}
+use mathlib.Core.Path.{◌≡◌, refl, sym, ap, subst, ◌∙◌}
+use mathlib.Core.Logic.{◌⊎◌, inl, inr}
+use mathlib.Core.List.{List, [], ◌∷◌, ◌++◌, append-nil}
+use lib.ListN.{length, get_or, set, drop, length-set, length-drop, length-append, get_or-append, get_or-eq_default, drop_of_length-le}
+use lib.Seq.{drop-drop, drop-append_seam, get_or-set_same, get_or-set_other, get_or-drop, ext_get_or}
 use lib.Pow.{pow_mono}
 use native.Mathlib.Nat.{mod-lt, div-add-mod', div-one, pow-suc}
 use native.Mathlib.Decide.{dec_lt}
@@ -21,7 +22,6 @@ use Rattle.bridge.proofs.Sequences.Actions.{length_cut, get_or-cut}
 use Rattle.bridge.proofs.Lists.Monics.{digit}
 use Rattle.bridge.proofs.Binary.Words.{low_digit, high-digits}
 use Rattle.bridge.proofs.Binary.WordLists.{digit-zero, digit_shr, digit_shl_low, digit_shl_high}
-use Rattle.arith.specs.Slices.{part}
 use Rattle.massey.specs.words.Words.{bit_of, bits_from, TermsPacked}
 use Rattle.massey.proofs.words.Moving.{bit_word}
 
@@ -88,6 +88,10 @@ module _ {s : List ℕ} {w i : ℕ} (h : PackingWord s w i) where
   ]
 
 -- Words one after the other
+length-zero : (l : List ℕ) → length l ≡ 0 → l ≡ []
+length-zero [] e = refl
+length-zero (a ∷ l) e = absurd (omega arith)
+
 pub record Packing (ts f : List ℕ) (i : ℕ) : Type 0 where
   pub most : 64 * i < length ts + 64
   pub size : length f ≡ 66
@@ -105,25 +109,23 @@ packing_none ts f l z =
       above = λ j _. z j;
     }
 
--- a part of at most 64 terms, cut at the end
-part-term : (ts : List ℕ) (a r c : ℕ) → c ≡ min (a + 64) (length ts) - a → r < 64
-    → get_or (part ts a c) r 0 ≡ get_or ts (a + r) 0
-part-term ts a r c e b = elim (dec_lt r c) [
-  | yes l ↦ get_or-take c (drop a ts) r 0 l ∙ get_or-drop a ts r 0
-  | no l ↦
-      get_or-eq_default (part ts a c) 0 (omega (arith, length-take c (drop a ts)))
-      ∙ sym (get_or-eq_default ts 0 (omega arith))
-]
+-- what the iterator over blocks of 64 has left
+pub record PackingBlocks (ts f rest : List ℕ) (size i : ℕ) : Type 0 where
+  pub packing : Packing ts f i
+  pub left : rest ≡ drop (64 * i) ts
+  pub of : size ≡ 64
 
 module _ {ts f : List ℕ} {i : ℕ} (h : Packing ts f i) where
   pub packing_more :
-      (v c : ℕ)
+      (v : ℕ) (block rest : List ℕ)
       → i < 64
       → 64 * i < length ts
-      → c ≡ min (64 * i + 64) (length ts) - 64 * i
-      → ((r : ℕ) → r < 64 → digit 2 v (63 - r) ≡ get_or (part ts (64 * i) c) r 0 % 2)
+      → drop (64 * i) ts ≡ block ++ rest
+      → (length block ≡ 64) ⊎ (length rest ≡ 0)
+      → length block ≤ 64
+      → ((r : ℕ) → r < 64 → digit 2 v (63 - r) ≡ get_or block r 0 % 2)
       → Packing ts (set f (63 - i) v) (i + 1)
-  packing_more v c b m e d =
+  packing_more v block rest b m e full few d =
       record {
         most = omega arith;
         size = length-set f (63 - i) v ∙ h.size;
@@ -132,6 +134,15 @@ module _ {ts f : List ℕ} {i : ℕ} (h : Packing ts f i) where
         above = λ j l. get_or-set_other f (63 - i) j v 0 (λ q. omega arith) ∙ h.above j l;
       }
     where
+      block-term : (r : ℕ) → (length block ≡ 64) ⊎ (length rest ≡ 0) → r < 64
+          → get_or block r 0 ≡ get_or ts (64 * i + r) 0
+      block-term r c l = sym (before c) ∙ ap (λ t. get_or t r 0) (sym e) ∙ get_or-drop (64 * i) ts r 0
+        where
+          before : (length block ≡ 64) ⊎ (length rest ≡ 0) → get_or (block ++ rest) r 0 ≡ get_or block r 0
+          before (inl k) = get_or-append block rest 0 r (omega arith)
+          before (inr k) =
+              ap (λ t. get_or (block ++ t) r 0) (length-zero rest k) ∙ ap (λ t. get_or t r 0) (append-nil block)
+
       place :
           (n : ℕ)
           → n < 64 * (i + 1)
@@ -151,7 +162,7 @@ module _ {ts f : List ℕ} {i : ℕ} (h : Packing ts f i) where
           ∙ bit_word (set f (63 - i) v) (63 - i) (63 - r) (omega arith)
           ∙ ap (λ w. digit 2 w (63 - r)) (get_or-set_same f (63 - i) v 0 (omega (arith, h.size)))
           ∙ d r (omega arith)
-          ∙ ap (λ n. n % 2) (part-term ts (64 * i) r c e (omega arith))
+          ∙ ap (λ n. n % 2) (block-term r full (omega arith))
           ∙ ap (λ j. get_or ts j 0 % 2) z
 
   pub packing_end : length ts ≤ 64 * i → TermsPacked ts f
@@ -169,6 +180,83 @@ module _ {ts f : List ℕ} {i : ℕ} (h : Packing ts f i) where
         ];
         above = h.above;
       }
+
+-- block after block
+pub blocks_none :
+    (ts f : List ℕ) {s : List ℕ} {size i : ℕ}
+    → length f ≡ 66
+    → ((j : ℕ) → get_or f j 0 ≡ 0)
+    → s ≡ ts
+    → size ≡ 64
+    → i ≡ 0
+    → PackingBlocks ts f s size i
+blocks_none ts f l z e q n =
+    record {
+      packing = rw n (packing_none ts f l z);
+      left = rw n e;
+      of = q;
+    }
+
+pub blocks_more :
+    {ts f s : List ℕ} {size i : ℕ}
+    → PackingBlocks ts f s size i
+    → length ts ≤ 4096
+    → (v : ℕ) (block rest : List ℕ) {size' : ℕ}
+    → s ≡ block ++ rest
+    → length block ≡ min size (length s)
+    → 0 < length s
+    → size' ≡ size
+    → ((r : ℕ) → r < 64 → digit 2 v (63 - r) ≡ get_or block r 0 % 2)
+    → PackingBlocks ts (set f (63 - i) v) rest size' (i + 1)
+blocks_more {ts} {f} {s} {size} {i} h l v block rest e k b q d =
+    let n = length-append block rest in
+    let a = ap length e in
+    let c = ap length h.left ∙ length-drop (64 * i) ts in
+    let o = h.of in
+    record {
+      packing =
+          packing_more h.packing v block rest (omega arith) (omega arith) (sym h.left ∙ e) full (omega arith)
+          d;
+      left = sym (ap (λ m. drop m ts) (omega arith) ∙ after);
+      of = q ∙ h.of;
+    }
+  where
+    full : (length block ≡ 64) ⊎ (length rest ≡ 0)
+    full =
+        elim (dec_lt (length block) 64) [
+          | yes m ↦
+              inr
+              (omega (
+                arith,
+                length-append block rest,
+                ap length e,
+                h.of,
+              ))
+          | no m ↦ inl (omega (arith, h.of))
+        ]
+
+    past : (length block ≡ 64) ⊎ (length rest ≡ 0) → drop 64 (block ++ rest) ≡ rest
+    past (inl n) = ap (λ m. drop m (block ++ rest)) (sym n) ∙ drop-append_seam block rest
+    past (inr n) =
+        drop_of_length-le (block ++ rest) {i = 64} (omega (arith, length-append block rest, h.of))
+        ∙ sym (length-zero rest n)
+
+    after : drop (64 * i + 64) ts ≡ rest
+    after = sym (drop-drop 64 (64 * i) ts) ∙ ap (drop 64) (sym h.left ∙ e) ∙ past full
+
+pub blocks_few :
+    {ts f s : List ℕ} {size i j : ℕ}
+    → PackingBlocks ts f s size i
+    → length ts ≤ 4096
+    → 0 < length s
+    → j ≡ i
+    → j ≤ 63
+blocks_few {ts} {i = i} h l b e = omega (arith, ap length h.left, length-drop (64 * i) ts)
+
+pub blocks_end :
+    {ts f s : List ℕ} {size i : ℕ} → PackingBlocks ts f s size i → length s ≡ 0 → TermsPacked ts f
+blocks_end {ts} {i = i} h e =
+    packing_end h.packing (omega (arith, ap length h.left, length-drop (64 * i) ts))
 
 -- Bits written out
 pub length-bits : (w : List ℕ) (o n : ℕ) → length (bits_from w o n) ≡ n

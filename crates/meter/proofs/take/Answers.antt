@@ -1,5 +1,5 @@
 -- `take` meets its contract: the step of the recurrence on the stored term. Assumes nothing.
-use Prim.Native.Nat.{◌+◌, ◌-◌}
+use Prim.Native.Nat.{◌+◌}
 use mathlib.Core.Path.{refl, sym, subst}
 use native.Mathlib.Omega.{arith}
 use lib.ListN.{set, length-set}
@@ -17,16 +17,14 @@ after_all-next-requires c =
     let a = c.args in
     let s = set a.terms.now a.meter.held a.term in
     let n = length-set a.terms.now a.meter.held a.term in
-    let e = length_part s 0 (a.meter.held + 1 - 0) (omega (arith, n, c.requires)) in record {
-      well_formed = c.requires.well_formed;
-      begun = subst (Begun _ _) (sym c.recurrence_of-known.ensures)
-          (record {
-            room = record { terms = omega (arith, e, c.requires); bytes = omega (arith, c.requires) };
-            seen = omega (arith, e);
-            degree = c.requires.usable.degree refl;
-            half = c.requires.usable.half refl;
-          });
-    }
+    let e = length_part s 0 (a.meter.held + 1) (omega (arith, n, c.requires)) in
+    subst (Begun _ _) (sym c.recurrence_of-known.ensures)
+    (record {
+      room = record { terms = omega (arith, e, c.requires); bytes = omega (arith, c.requires) };
+      seen = omega (arith, e);
+      degree = c.requires.usable.degree refl;
+      half = c.requires.usable.half refl;
+    })
 
 pub returns : goal.returns
 returns c =

@@ -21,7 +21,7 @@ use Rattle.bridge.proofs.Lists.Polynomials.{length-degree, leading-get_or, leadi
 use Rattle.bridge.proofs.Sequences.Continuations.{take-elements}
 use Rattle.bridge.proofs.Lists.Remainders.{Congruent, congruent_trans, congruent-places}
 use Rattle.bridge.proofs.Lists.IrreducibleTests.{CommonDegree, common_nothing, common_step}
-use Rattle.arith.specs.Represented.{field_of, WellFormed}
+use Rattle.arith.specs.Represented.{field_of}
 use Rattle.arith.specs.declared.field.GaloisField.{GaloisField}
 use Rattle.arith.proofs.Represented.{field-is_field}
 use Rattle.poly.specs.division.Division.{Divisible, Divided}
@@ -106,18 +106,20 @@ module _ {F : Field} (I : IsField F) {a b : Polynomial} (E : Euclidean F a b) wh
 
 -- The turn as the code makes it
 pub euclid_turned :
-    {field : GaloisField} (v : WellFormed field) {a b a' : List ℕ} {c n : ℕ}
+    (field : GaloisField) {a b a' : List ℕ} {c n : ℕ}
     → Euclidean (field_of field) a b
     → Divided (field_of field) c b a a'
     → Trimmed (take (length b - 1 - 0) a') n
     → Turned field a b a' n
-euclid_turned v E d t =
+euclid_turned field E d t =
     record {
       first = d.size;
-      falls = omega (arith, remainder-short (field-is_field v) E d t, divisor-nonempty (field-is_field v) E);
-      ends = λ z w. euclid-ends (field-is_field w) E d t z;
-      turns = λ h. euclid_turns (field-is_field v) E d t h;
-      goes_on = λ k w g. euclid_goes_on (field-is_field w) E d t g;
+      falls =
+          let I = field-is_field field in
+          omega (arith, remainder-short I E d t, divisor-nonempty I E);
+      ends = λ z. euclid-ends (field-is_field field) E d t z;
+      turns = λ h. euclid_turns (field-is_field field) E d t h;
+      goes_on = λ k g. euclid_goes_on (field-is_field field) E d t g;
     }
 
 -- The recursion
@@ -126,18 +128,12 @@ module _ {field : GaloisField} {a b a' : List ℕ} {n : ℕ} (t : Turned field a
   length-lent = omega arith
 
   pub turned_ends : n ≡ 0 → Common field a b (length b - 1)
-  turned_ends z = record { degree = λ w. t.ends z w }
-
-  pub turned_euclidean : n ≢ 0 → Euclidean (field_of field) b (take (n - 0) a')
-  turned_euclidean h = subst (λ k. Euclidean (field_of field) b (take k a')) length-lent (t.turns h)
-
-  pub turned_falls : length (take (n - 0) a') < length b
-  turned_falls = omega (arith, t.falls, length-take (n - 0) a')
+  turned_ends z = record { degree = t.ends z }
 
   pub turned_goes_on : {k : ℕ} → Common field b (take (n - 0) a') k → Common field a b k
   turned_goes_on {k} c =
       record {
-        degree = λ w.
-            t.goes_on k w
-            (subst (λ m. CommonDegree (field-is_field w) b (take m a') k) (sym length-lent) (c.degree w));
+        degree =
+            t.goes_on k
+            (subst (λ m. CommonDegree (field-is_field field) b (take m a') k) (sym length-lent) c.degree);
       }

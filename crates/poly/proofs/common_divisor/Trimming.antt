@@ -1,10 +1,7 @@
--- The search for the last coefficient that is not 0, from the end, and what is left of a lent part.
+-- What is left of a lent part without the zeros at its end.
 --
---   Trimming f n      == the coefficients of f from n on are 0: what the loop keeps
---   trimming_start, trimming_next, trimming_found, trimming_end == at the start, one coefficient less, at the
---                       last one that is not 0, where there is none
---   trimmed-…         == what is left of a part ys from the front of lent bytes without the zeros at its end:
---                       how long it is, that it can be lent, its coefficients and the last of them
+--   trimmed-…         == what is left of a part ys from the front of lent bytes: how long it is, that it
+--                       can be lent, its coefficients and the last of them
 --
 -- Assumes nothing.
 use Prim.Native.Nat.{ℕ, ◌-◌, ◌≤◌}
@@ -21,31 +18,6 @@ use Rattle.bridge.proofs.Lists.Polynomials.{length-degree, leading-get_or}
 use Rattle.lent.proofs.Parts.{lent_back}
 use Rattle.poly.specs.common_divisor.Common.{Trimmed}
 
-pub record Trimming (f : List ℕ) (n : ℕ) : Type 0 where
-  pub within : n ≤ length f
-  pub zeros : (i : ℕ) → n ≤ i → get_or f i 0 ≡ 0
-
-pub trimming_start : (f : List ℕ) → Trimming f (length f)
-trimming_start f = record { within = omega arith; zeros = λ i l. get_or-eq_default f 0 l }
-
-module _ {f : List ℕ} {n : ℕ} (t : Trimming f n) where
-  pub trimming_next : get_or f (n - 1) 0 ≡ 0 → Trimming f (n - 1)
-  trimming_next z =
-      record {
-        within = omega (arith, t.within);
-        zeros = λ i l. elim (dec_lt i n) [
-          | yes k ↦ let e : i ≡ n - 1 = omega arith in ap (λ j. get_or f j 0) e ∙ z
-          | no k ↦ t.zeros i (omega arith)
-        ];
-      }
-
-  pub trimming_found : get_or f (n - 1) 0 ≢ 0 → Trimmed f n
-  trimming_found h = record { within = t.within; zeros = t.zeros; last = λ _. h }
-
-  pub trimming_end : n ≤ 0 → Trimmed f n
-  trimming_end l = record { within = t.within; zeros = t.zeros; last = λ k. absurd (omega arith) }
-
--- What is left of a part
 module _ (ys t : List ℕ) {d n : ℕ} (e : length ys ≡ d) (u : Trimmed (take (d - 0) (ys ++ t)) n) where
   lent-front : take (d - 0) (ys ++ t) ≡ ys
   lent-front = lent_back ys t e

@@ -1,8 +1,7 @@
 -- Numbers as far as a limit: a number itself, or 4,097 where it is larger.
 -- Assumes nothing.
-use Prim.Native.Nat.{ℕ, ◌+◌, ◌*◌, ◌/◌, min, ◌≤◌, ◌<◌}
-use native.Mathlib.Nat.{min-le_left, min-eq_left, min-eq_right, le_trans, pos_of_ne-zero}
-use native.Mathlib.Nat.{div-lt_iff_lt-mul, le-div_iff_mul-le}
+use Prim.Native.Nat.{ℕ, ◌+◌, min, ◌≤◌, ◌<◌}
+use native.Mathlib.Nat.{min-le_left, min-eq_left, min-eq_right, le_trans}
 use native.Mathlib.Decide.{dec_le}
 use native.Mathlib.Omega.{arith}
 use mathlib.Core.Path.{◌≡◌, sym, ap, ◌∙◌}
@@ -21,13 +20,6 @@ capped_test a =
       | yes h ↦ ap (ltb 4096) (sym (capped_within a h))
       | no h ↦ ap (ltb 4096) (sym (capped_beyond a (omega arith))) ∙ sym (lt-ltb 4096 a (omega arith))
     ]
-
--- a product by a quotient
-pub product-beyond : (v d : ℕ) → (d ≡ 0 → ⊥) → 4096 / d < v → 4097 ≡ min (v * d) 4097
-product-beyond v d h q = capped_beyond (v * d) ((div-lt_iff_lt-mul (pos_of_ne-zero h)).0 q)
-
-pub product-within : (v d : ℕ) → (d ≡ 0 → ⊥) → v ≤ 4096 / d → v * d ≤ 4096
-product-within v d h q = (le-div_iff_mul-le (pos_of_ne-zero h)).0 q
 
 -- a sum with a capped number
 pub sum-beyond : (s a : ℕ) → 4096 < s + min a 4097 → 4096 < s + a

@@ -8,6 +8,7 @@
 use Prim.Native.Nat.{ℕ, ◌+◌, ◌-◌, ◌≤◌, ◌<◌}
 use mathlib.Core.Path.{◌≡◌, sym, ap, ap₂, ◌∙◌}
 use mathlib.Core.List.{List, [], ◌++◌, map, append-nil}
+use native.Mathlib.Nat.{sub-zero}
 use native.Mathlib.Omega.{arith}
 use lib.ListN.{length, get_or, take, drop, set, drop_of_length-le, length-map}
 use lib.Seq.{length-paste, take_all, take_at, drop_at, take-paste}
@@ -24,6 +25,14 @@ use Rattle.bridge.proofs.Lists.Monics.{get_or_mapped}
 use Rattle.lent.proofs.Parts.{put_paste, lent_length}
 use Rattle.poly.specs.multiples.Packable.{Packable}
 use Rattle.poly.proofs.parts.Packing.{Packing, packing_room, packing_next}
+
+-- a list that is copied to the front
+pub copied-front :
+    (f to : List ℕ) {n : ℕ} {u : List ℕ}
+    → n ≡ length f
+    → u ≡ f
+    → u ++ drop (n - 0) to ≡ f ++ drop (length f) to
+copied-front f to {n} s e = ap₂ (λ u m. u ++ drop m to) e (sub-zero n ∙ s)
 
 -- ONE MULTIPLE
 module _ {F : Field} (I : IsField F) {f : Polynomial} (x : Leads F f) where

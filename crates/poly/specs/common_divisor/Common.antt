@@ -11,7 +11,7 @@ use Rattle.std.specs.Prelude.{ℕ, ◌-◌, ◌≤◌, ◌<◌, ◌≡◌, ◌�
 use Rattle.meaning.specs.Field.{Field, are_elements}
 use Rattle.meaning.specs.Polynomial.{Polynomial, leading}
 use Rattle.bridge.proofs.Lists.IrreducibleTests.{CommonDegree}
-use Rattle.arith.specs.Represented.{field_of, WellFormed}
+use Rattle.arith.specs.Represented.{field_of}
 use Rattle.arith.specs.declared.field.GaloisField.{GaloisField}
 use Rattle.arith.proofs.Represented.{field-is_field}
 
@@ -29,12 +29,12 @@ pub record Euclidean (F : Field) (a b : Polynomial) : Type 0 where
 pub record Turned (field : GaloisField) (a b a' : Polynomial) (n : ℕ) : Type 0 where
   pub first : length a' ≡ length a
   pub falls : n < length b
-  pub ends : n ≡ 0 → (w : WellFormed field) → CommonDegree (field-is_field w) a b (length b - 1)
+  pub ends : n ≡ 0 → CommonDegree (field-is_field field) a b (length b - 1)
   pub turns : n ≢ 0 → Euclidean (field_of field) b (take n a')
   pub goes_on :
-      (k : ℕ) (w : WellFormed field)
-      → CommonDegree (field-is_field w) b (take n a') k
-      → CommonDegree (field-is_field w) a b k
+      (k : ℕ)
+      → CommonDegree (field-is_field field) b (take n a') k
+      → CommonDegree (field-is_field field) a b k
 
 pub record Common (field : GaloisField) (a b : Polynomial) (k : ℕ) : Type 0 where
-  pub degree : (w : WellFormed field) → CommonDegree (field-is_field w) a b k
+  pub degree : CommonDegree (field-is_field field) a b k

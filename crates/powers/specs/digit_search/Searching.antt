@@ -11,7 +11,7 @@ use Rattle.meaning.specs.Polynomial.{Polynomial, degree}
 use Rattle.bridge.proofs.Ways.PowerSearch.{power_found, power_acts}
 use Rattle.arith.specs.declared.field.GaloisField.{GaloisField}
 use Rattle.arith.specs.Represented.{field_of}
-use Rattle.powers.specs.declared.levels.Level.{Level}
+use Rattle.lent.specs.declared.levels.Level.{Level}
 use Rattle.powers.specs.levels.Levels.{IsLevel}
 use Rattle.lent.specs.halves.Halves.{half}
 use Rattle.lent.specs.halves.Kept.{Kept}
@@ -20,13 +20,13 @@ pub record Searchable (field : GaloisField) (f : Polynomial) (level : Level) : T
   pub elements : T (are_elements (field_of field) f)
   pub nonempty : 0 < length f
   pub short : length f ≤ 33
-  pub is_level : IsLevel field.characteristic level
-  pub near : level.power ≤ 4096 * field.characteristic
+  pub is_level : IsLevel (field_of field).characteristic level
+  pub near : level.power ≤ 4096 * (field_of field).characteristic
 
 pub record Searched (field : GaloisField) (w : List ℕ) (h n : ℕ) (f : Polynomial) (level : Level)
     (w' : List ℕ) (r : ℕ) : Type 0 where
   pub power :
       r
-      ≡ power_found (power_acts (field_of field) f) field.characteristic (degree f) level.exponent
+      ≡ power_found (power_acts (field_of field) f) (field_of field).characteristic (degree f) level.exponent
       (half w h n)
   pub kept : Kept w w'

@@ -3,21 +3,19 @@
 --   decimal_digit, decimal-more == the digits of a number below 10, and of a larger one
 --   length-decimal     == a number below 10^k has at most k digits, for k at least 1
 --   byte_digits, word-digits == a byte has at most 3, a number of 64 bits at most 20
---   put_digit, put_digits == the digits of such a number put into a buffer
+--   digits_put         == the digits before the last one are put, and then the last one
 -- Assumes nothing.
 use Prim.Native.Nat.{ℕ, zero, suc, ◌+◌, ◌/◌, ◌%◌, ◌^◌, ◌<◌, ◌≤◌}
 use native.Mathlib.Nat.{pow-suc}
 use native.Mathlib.Decide.{dec_le}
 use native.Mathlib.Omega.{arith}
 use mathlib.Core.Path.{◌≡◌, sym, ap, ◌∙◌}
-use mathlib.Core.List.{List, [], ◌∷◌, ◌++◌}
-use lib.ListN.{length, set, length-append}
+use mathlib.Core.List.{List, [], ◌∷◌, ◌++◌, append_assoc}
+use lib.ListN.{length, length-append}
 use mir.Syntax.{w64}
 use mir.Val.{Fits}
 use borrow.Author.Tests.{lt-ltb, le-ltb}
 use Rattle.meaning.specs.Print.{digits, decimal}
-use Rattle.printing.specs.words.Words.{Put}
-use Rattle.printing.proofs.words.Putting.{put_byte, put_join, put_as}
 
 digits-digit : (most n : ℕ) → n < 10 → digits (suc most) n ≡ (48 + n) ∷ []
 unfolding digits
@@ -67,18 +65,13 @@ byte_digits n h = length-decimal 2 n (omega arith)
 pub word-digits : {n : ℕ} → Fits w64 n → length (decimal n) ≤ 20
 word-digits {n} h = length-decimal 19 n (omega arith)
 
-pub put_digit :
-    (n at : ℕ) (out : List ℕ)
-    → n < 10
-    → at < length out
-    → Put (decimal n) at out (at + 1) (set out at (48 + n))
-put_digit n at out h l = put_as (sym (decimal_digit n h)) (put_byte (48 + n) at out l)
+-- the digits before the last one are put, and then the last one
+pub digits_first : (n : ℕ) (old mid : List ℕ) → n < 10 → mid ≡ old
+    → mid ++ ((48 + n % 10) ∷ []) ≡ old ++ decimal n
+digits_first n old mid h e =
+    let r : n % 10 ≡ n = omega arith in
+    rw (e, r, decimal_digit n h)
 
-pub put_digits :
-    (n : ℕ) {out out₁ : List ℕ} {at last : ℕ}
-    → 10 ≤ n
-    → last < length out₁
-    → Put (decimal (n / 10)) at out last out₁
-    → Put (decimal n) at out (last + 1) (set out₁ last (48 + n % 10))
-put_digits n {out} {out₁} {at} {last} h l x =
-    put_as (sym (decimal-more n h)) (put_join x (put_byte (48 + n % 10) last out₁ l))
+pub digits_next : (n : ℕ) (old mid : List ℕ) → 10 ≤ n → mid ≡ old ++ decimal (n / 10)
+    → mid ++ ((48 + n % 10) ∷ []) ≡ old ++ decimal n
+digits_next n old mid h e = rw (e, decimal-more n h) (append_assoc old (decimal (n / 10)) _)

@@ -5,10 +5,11 @@ use Prim.Native.Nat.{ℕ, ◌+◌, ◌≤◌, ◌<◌}
 use native.Mathlib.Numerals.{add-one}
 use native.Mathlib.Omega.{arith}
 use mathlib.Core.Path.{◌≡◌, refl, sym, ap, ◌∙◌}
-use mathlib.Core.Bool.{Bool, true, false}
+use mathlib.Core.Bool.{Bool, true, false, ◌||◌}
 use mathlib.Core.List.{List, [], ◌∷◌, ◌++◌, map, flatten}
 use lib.ListN.{length, get_or, take, drop, set, length-append, length-take, length-map, get_or-map}
 use lib.Seq.{take_all, take-suc, take-suc-set, take_at, length-sets, sets-eq}
+use Rattle.std.specs.List.{list_any}
 use Rattle.meaning.specs.Search.{holds_for_some}
 use Rattle.meaning.specs.Polynomial.{Polynomial}
 use Rattle.meaning.specs.File.{WrittenFactor, file_factor, polynomial_of}
@@ -28,12 +29,21 @@ pub factors-count : (file : List ℕ) → length (factors_in file) ≡ length (b
 unfolding factors_in
 factors-count file = length-map (bodies_in file) file_factor
 
+or-elim : (a b : Bool) → (a || b) ≡ elim a [ true ↦ true | false ↦ b ]
+or-elim true b = refl
+or-elim false b = refl
+
+any-some : {A : Type 0} (t : A → Bool) (l : List A) → list_any t l ≡ holds_for_some t l
+unfolding holds_for_some
+any-some t [] = refl
+any-some t (a ∷ l) = rw (any-some t l) (or-elim (t a) (holds_for_some t l))
+
 -- a test of the factors is one of the bodies of their records
 pub some-factor : (t : WrittenFactor → Bool) (file : List ℕ)
-    → holds_for_some (λ body. t (file_factor body)) (bodies_in file)
-    ≡ holds_for_some t (factors_in file)
+    → list_any (λ body. t (file_factor body)) (bodies_in file) ≡ holds_for_some t (factors_in file)
 unfolding factors_in
-some-factor t file = sym (some-map t file_factor (bodies_in file))
+some-factor t file =
+    any-some (λ body. t (file_factor body)) (bodies_in file) ∙ sym (some-map t file_factor (bodies_in file))
 
 -- the body of record i of the kind 4
 module _ (file : List ℕ) (i : ℕ) (body : List ℕ) (b : body ≡ get_or (bodies_in file) i []) where

@@ -31,12 +31,12 @@ use Rattle.meaning.specs.Route.{Mode, period_mode, set_mode, free_mode}
 use Rattle.meaning.specs.File.{WrittenFactor, polynomial_of, file_degree_out_of_range}
 use Rattle.meaning.specs.File.{file_coefficient_out_of_range}
 use Rattle.meaning.specs.File.{of_period, of_set, of_free, rate_mode}
-use Rattle.meaning.specs.Answers.{number_of}
+use Rattle.std.specs.Prelude.{Ok, Err}
+use Rattle.meaning.specs.Answers.{Reply, number_of}
 use Rattle.meaning.proofs.Passes.{Passes}
 use Rattle.bridge.proofs.Basics.Interpretation.{IsField}
 use Rattle.bridge.proofs.Basics.Searches.{none-at}
 use Rattle.bridge.proofs.Files.WrittenFactors.{AllFull, named-map, polynomials-ten, polynomials-eleven}
-use Rattle.refusals.specs.declared.Verdict.{Verdict}
 use Rattle.refusals.specs.Verdicts.{number_in, terms_table}
 use Rattle.refusals.proofs.Order.{first_skip, refused_before, refused_second}
 use Rattle.refusals.proofs.Settled.{settle_refused, verdict_passes}
@@ -100,12 +100,12 @@ module _ {F : Field} (I : IsField F) (fs : List WrittenFactor) (ts : List ℕ) (
   counted_skip low high = first_skip _ _ refl (rw length-map (count-passes (length fs) low high))
 
   -- u is the verdict on the terms
-  module _ {u : Verdict} (eu : number_in u ≡ first_of (terms_table F ts)) where
-    early : {x : Refusal} (T B : List Check) → T ≡ terms_table F ts ++ B → u ≡ Verdict.Refused x
-        → number_in (Verdict.Refused x) ≡ first_of T
+  module _ {u : Reply (Unit {0})} (eu : number_in u ≡ first_of (terms_table F ts)) where
+    early : {x : Refusal} (T B : List Check) → T ≡ terms_table F ts ++ B → u ≡ Err x
+        → number_in (Err x) ≡ first_of T
     early T B e q = refused_before (terms_table F ts) B eu q ∙ sym (ap first_of e)
 
-    pub mode-terms : (m : Mode) {x : Refusal} → u ≡ Verdict.Refused x
+    pub mode-terms : (m : Mode) {x : Refusal} → u ≡ Err x
         → rate_mode m F fs ts answer work ≡ refused (number_of x)
     unfolding rate_mode period_answer set_answer free_in of_period of_set of_free
     mode-terms period_mode q =
@@ -113,13 +113,13 @@ module _ {F : Field} (I : IsField F) (fs : List WrittenFactor) (ts : List ℕ) (
     mode-terms set_mode q = ap (of_set (length ts)) (settle_refused _ _ (early _ _ set-parts q) refl)
     mode-terms free_mode q = ap (of_free (length ts)) (settle_refused _ _ (early _ _ free-parts q) refl)
 
-    module _ (accepted : u ≡ Verdict.Accepted) where
+    module _ (accepted : u ≡ Ok tt) where
       terms : Passes (terms_table F ts)
       terms = verdict_passes (terms_table F ts) eu accepted
 
       -- the terms are accepted, and v is the verdict on the factors
-      module _ {v : Verdict} (ev : number_in v ≡ first_of (written_table F fs)) where
-        pub period-factors : {x : Refusal} → v ≡ Verdict.Refused x
+      module _ {v : Reply (Unit {0})} (ev : number_in v ≡ first_of (written_table F fs)) where
+        pub period-factors : {x : Refusal} → v ≡ Err x
             → rate_mode period_mode F fs ts answer work ≡ refused (number_of x)
         unfolding rate_mode period_answer of_period
         period-factors q =
@@ -130,7 +130,7 @@ module _ {F : Field} (I : IsField F) (fs : List WrittenFactor) (ts : List ℕ) (
             refl)
 
         pub set-factors : {x : Refusal} → 1 ≤ length fs → length fs ≤ 8
-            → v ≡ Verdict.Refused x
+            → v ≡ Err x
             → rate_mode set_mode F fs ts answer work ≡ refused (number_of x)
         unfolding rate_mode set_answer of_set
         set-factors low high q =
@@ -142,7 +142,7 @@ module _ {F : Field} (I : IsField F) (fs : List WrittenFactor) (ts : List ℕ) (
             refl)
 
         -- the factors are accepted too
-        module _ (q : v ≡ Verdict.Accepted) where
+        module _ (q : v ≡ Ok tt) where
           passes : Passes (written_table F fs)
           passes = verdict_passes (written_table F fs) ev q
 

@@ -18,7 +18,8 @@ use Rattle.bridge.proofs.Ways.Accepted.{count-accepted}
 use Rattle.route.specs.framing.Framing.{records_from}
 use Rattle.route.specs.payload.Payload.{Gathered}
 use Rattle.route.proofs.payload.Stores.{sets_front}
-use Rattle.refusals.specs.declared.Verdict.{Verdict}
+use Rattle.std.specs.Prelude.{Ok}
+use Rattle.meaning.specs.Answers.{Reply}
 use Rattle.refusals.specs.Verdicts.{number_in, terms_table}
 use Rattle.refusals.proofs.Settled.{verdict_passes}
 
@@ -46,8 +47,8 @@ module _ (F : Field) (ts : List ℕ) where
           terms-beyond F (cut_terms ts) (rw length-take (omega arith)) ∙ sym (terms-beyond F ts h)
       go (no h) = ap (λ (l : List ℕ). first_of (terms_table F l)) (take_all 4097 ts (omega arith))
 
-  pub cut-accepted : {v : Verdict} → number_in v ≡ first_of (terms_table F (cut_terms ts)) → v ≡
-      Verdict.Accepted
+  pub cut-accepted : {v : Reply (Unit {0})} → number_in v ≡ first_of (terms_table F (cut_terms ts)) → v ≡
+      Ok tt
       → cut_terms ts ≡ ts
   unfolding terms_table
   cut-accepted e q =

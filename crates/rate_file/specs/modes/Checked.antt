@@ -2,8 +2,7 @@
 --
 --   CheckedFactor F file ts == the file has a factor, and 7, 8, 10 and 11 let the first of its factors and
 --                         the terms ts pass
---   CheckedFactors F file count ts == the file has `count` factors, and 7 to 11 let these and the terms ts
---                        pass
+--   CheckedFactors F file ts == 7 to 11 let the factors of the file and the terms ts pass
 use Rattle.std.specs.Prelude.{ℕ, ◌≤◌, ◌≡◌, List, [], length, get_or}
 use Rattle.meaning.specs.Field.{Field}
 use Rattle.rate_period.specs.Ratings as period
@@ -14,6 +13,5 @@ pub record CheckedFactor (F : Field) (file ts : List ℕ) : Type 0 where
   pub some : 1 ≤ length (factors_in file)
   pub checked : period.Checked F (get_or (polynomials_in file) 0 []) ts
 
-pub record CheckedFactors (F : Field) (file : List ℕ) (count : ℕ) (ts : List ℕ) : Type 0 where
-  pub all : count ≡ length (factors_in file)
+pub record CheckedFactors (F : Field) (file ts : List ℕ) : Type 0 where
   pub checked : set.Checked F (polynomials_in file) ts

@@ -7,22 +7,21 @@ use Rattle.rate_period.proofs.rated.Goals as goal
 pub write_power-degree-requires : goal.write_power-degree-requires
 write_power-degree-requires c =
     record {
-      well_formed = c.requires.well_formed;
       in_bounds = c.requires.in_bounds;
-      power_input = power-input c.requires.answerable c.in-Power.is;
+      power_input = power-input c.requires.answerable c.in-Some.is;
     }
 
 pub shortest_period-repeat-requires : goal.shortest_period-repeat-requires
 shortest_period-repeat-requires c =
     record {
       terms_nonzero = c.requires.answerable.at_least_one;
-      deciding = degree_decides c.requires.answerable c.in-Power.is (field-is_field c.requires.well_formed)
+      deciding = degree_decides c.requires.answerable c.in-Some.is (field-is_field c.args.field)
           c.write_power-degree.ensures;
     }
 
-pub returns-in-Nothing : goal.returns-in-Nothing
-returns-in-Nothing c = nothing-rated c.in-Nothing.is
+pub returns-in_default : goal.returns-in_default
+returns-in_default c = nothing-rated c.in_default.is
 
-pub returns-in-Power : goal.returns-in-Power
-returns-in-Power c =
-    power-rated c.in-Power.is c.write_power-degree.ensures c.shortest_period-repeat.ensures
+pub returns : goal.returns
+returns c =
+    power-rated c.in-Some.is c.write_power-degree.ensures c.shortest_period-repeat.ensures

@@ -17,23 +17,22 @@ use Rattle.poly.proofs.parts.Splitting.{parts_first}
 use Rattle.rate_set.specs.Ratings.{Checked, SetRatedAs}
 use Rattle.rate_set.proofs.Given.{given-set_refused, given-set-packable}
 use Rattle.rate_set.proofs.Given.{given-set_few, given_checked, given-set-rated}
+use Rattle.meaning.specs.Portion.{set_in}
+use Rattle.meaning.proofs.Replies.{handed_on}
 use Rattle.rate_set.proofs.rate_in.Goals as goal
 
 pub pack_multiples-lengths-requires : goal.pack_multiples-lengths-requires
 pack_multiples-lengths-requires c =
-    record {
-      well_formed = c.requires;
-      packable = given-set-packable (field-is_field c.requires) _ _ c.given_set_verdict.ensures
-          c.in-Accepted.is (length-replicate {A = ℕ} 264 0);
-    }
+    given-set-packable (field-is_field c.args.field) _ _ c.given_set_verdict.ensures
+    c.in_ok-given_set_verdict.was (length-replicate {A = ℕ} 264 0)
 
-pub slice_bounds-rate_checked-end : goal.slice_bounds-rate_checked-end
-slice_bounds-rate_checked-end c =
+pub slice_bounds-set-end : goal.slice_bounds-set-end
+slice_bounds-set-end c =
     let fs = c.args.factors.now in
     omega (
       arith,
-      given-set_few (field-is_field c.requires) (lists_of fs) c.args.terms.now
-          c.given_set_verdict.ensures c.in-Accepted.is,
+      given-set_few (field-is_field c.args.field) (lists_of fs) c.args.terms.now
+          c.given_set_verdict.ensures c.in_ok-given_set_verdict.was,
       lists_length fs,
     )
 
@@ -44,28 +43,28 @@ rate_checked-requires c =
     c.args.factors.now in
     parts_first _ _ c.nine_parts-multiples.result (length fs) c.nine_parts-multiples.ensures
     ∙ c.pack_multiples-lengths.ensures in
-    record {
-      well_formed = c.requires;
-      checked = subst (λ gs. Checked (field_of c.args.field) gs c.args.terms.now) (sym multiples)
-          (given_checked (field-is_field c.requires) _ _ c.given_set_verdict.ensures
-          c.in-Accepted.is);
-    }
+    subst (λ gs. Checked (field_of c.args.field) gs c.args.terms.now) (sym multiples)
+    (given_checked (field-is_field c.args.field) _ _ c.given_set_verdict.ensures
+    c.in_ok-given_set_verdict.was)
 
-pub returns-in-Refused : goal.returns-in-Refused
-returns-in-Refused c =
-    given-set_refused (field-is_field c.requires) _ _ _ _ _ c.given_set_verdict.ensures
-    c.in-Refused.is
-    c.refused.ensures
+pub returns-in_err-given_set_verdict : goal.returns-in_err-given_set_verdict
+returns-in_err-given_set_verdict c =
+    let a = c.args in
+    subst (λ r. SetRatedAs (set_in (field_of a.field) (lists_of a.factors.now) a.uppers.now a.terms.now
+    (length a.answer.now) (length a.work.now)) a.answer.now a.work.now r a.answer.now a.work.now)
+    (sym (handed_on _ c.from_residual.ensures))
+    (given-set_refused (field-is_field a.field) _ _ _ _ _ c.given_set_verdict.ensures
+    c.in_err-given_set_verdict.was)
 
-pub returns-in-Accepted : goal.returns-in-Accepted
-returns-in-Accepted c =
+pub returns : goal.returns
+returns c =
     let multiples : lists_of (take (length c.args.factors.now - 0) (drop 0 c.nine_parts-multiples.result))
     ≡ map (monic_multiple (field_of c.args.field)) (lists_of c.args.factors.now) = let fs =
     c.args.factors.now in
     parts_first _ _ c.nine_parts-multiples.result (length fs) c.nine_parts-multiples.ensures
     ∙ c.pack_multiples-lengths.ensures in
-    given-set-rated (field-is_field c.requires) _ _ _ _ _ c.given_set_verdict.ensures
-    c.in-Accepted.is
+    given-set-rated (field-is_field c.args.field) _ _ _ _ _ c.given_set_verdict.ensures
+    c.in_ok-given_set_verdict.was
     (subst
     (λ (gs : List Polynomial).
     SetRatedAs

@@ -2,7 +2,7 @@
 // its upper power, and its coefficients.
 ghost use Rattle.std.specs.Prelude.{◌≡◌};
 ghost use Rattle.meaning.specs.File.{file_factor, file_degree_out_of_range, file_coefficient_out_of_range};
-ghost use Rattle.arith.specs.Represented.{field_of, WellFormed};
+ghost use Rattle.arith.specs.Represented.{field_of};
 
 use crate::conditions::lists::{largest, term_out_of_field};
 use crate::conditions::numbers::degree_out_of_range;
@@ -10,18 +10,13 @@ use arith::GaloisField;
 
 // 10: the degree byte, which is 0 where there is none.
 pub fn file_degree_out_of_range(field: GaloisField, body: &[u8]) -> bool
-    requires { WellFormed field }
     ensures { result ≡ file_degree_out_of_range (field_of field) (file_factor body.now) }
 {
-    if body.len() == 0 {
-        return true;
-    }
-    degree_out_of_range(field, body[0] as usize)
+    body.is_empty() || degree_out_of_range(field, body[0] as usize)
 }
 
 // 11: a coefficient below the degree is no element of the field, or one from the degree on is not 0.
 pub fn file_coefficient_out_of_range(field: GaloisField, body: &[u8]) -> bool
-    requires { WellFormed field }
     ensures { result ≡ file_coefficient_out_of_range (field_of field) (file_factor body.now) }
 {
     let n = body.len();
@@ -32,8 +27,5 @@ pub fn file_coefficient_out_of_range(field: GaloisField, body: &[u8]) -> bool
     if n <= end {
         return term_out_of_field(field, &body[3..n]);
     }
-    if term_out_of_field(field, &body[3..end]) {
-        return true;
-    }
-    0 < largest(&body[end..n])
+    term_out_of_field(field, &body[3..end]) || 0 < largest(&body[end..n])
 }

@@ -3,8 +3,9 @@ ghost use Rattle.std.specs.Prelude.{◌≡◌};
 ghost use Rattle.meaning.specs.Conditions.{term_out_of_field, factor_degree_out_of_range};
 ghost use Rattle.meaning.specs.Conditions.{continuation_degree_out_of_range, coefficient_out_of_range};
 ghost use Rattle.meaning.specs.Conditions.{not_monic};
+ghost use Rattle.meaning.specs.Polynomial.{leading};
 ghost use Rattle.meaning.specs.Conditions.{is_reducible, fewer_terms_than, start_unlike_degree};
-ghost use Rattle.arith.specs.Represented.{field_of, WellFormed};
+ghost use Rattle.arith.specs.Represented.{field_of};
 ghost use Rattle.irreducible.specs.Accepted.{Accepted};
 ghost use Rattle.refusals.specs.conditions.lists.Lists.{largest};
 
@@ -16,38 +17,28 @@ use irreducible::is_irreducible;
 pub fn largest(l: &[u8]) -> u8
     ensures { result ≡ largest l.now }
 {
-    let mut m = 0u8;
-    let mut i = 0;
-    // the larger of m and the largest from i on is the largest of all
-    while i < l.len() {
-        if m < l[i] {
-            m = l[i];
+    // the larger of m and the largest from x on is the largest of all
+    let mut m = 0;
+    for x in l {
+        if m < *x {
+            m = *x;
         }
-        i += 1;
     }
     m
 }
 
 // 8: a term is no element of the field.
 pub fn term_out_of_field(field: GaloisField, terms: &[u8]) -> bool
-    requires { WellFormed field }
     ensures { result ≡ term_out_of_field (field_of field) terms.now }
 {
-    if terms.len() == 0 {
-        return false;
-    }
-    field.size() <= largest(terms) as u16
+    !terms.is_empty() && field.size() <= largest(terms) as u16
 }
 
 // 10, of a list, whose degree is one less than its length; an empty list passes.
 pub fn factor_degree_out_of_range(field: GaloisField, factor: &[u8]) -> bool
-    requires { WellFormed field }
     ensures { result ≡ factor_degree_out_of_range (field_of field) factor.now }
 {
-    if factor.len() == 0 {
-        return false;
-    }
-    degree_out_of_range(field, factor.len() - 1)
+    !factor.is_empty() && degree_out_of_range(field, factor.len() - 1)
 }
 
 // 10, for a continuation: a degree above 4,096.
@@ -57,38 +48,33 @@ pub fn continuation_degree_out_of_range(polynomial: &[u8]) -> bool
     4097 < polynomial.len()
 }
 
+// The leading coefficient, or 0 where there is none.
+fn leading(factor: &[u8]) -> u8
+    ensures { result ≡ leading factor.now }
+{
+    match factor.last() {
+        Some(c) => *c,
+        None => 0,
+    }
+}
+
 // 11, of a list: a coefficient is no element of the field, the leading one is 0, or the list is empty.
 pub fn coefficient_out_of_range(field: GaloisField, factor: &[u8]) -> bool
-    requires { WellFormed field }
     ensures { result ≡ coefficient_out_of_range (field_of field) factor.now }
 {
-    if term_out_of_field(field, factor) {
-        return true;
-    }
-    if factor.len() == 0 {
-        return true;
-    }
-    factor[factor.len() - 1] == 0
+    term_out_of_field(field, factor) || leading(factor) == 0
 }
 
 // A coefficient is no element of the field, the leading one is not 1, or the list is empty: 12 is not asked.
 pub fn not_monic(field: GaloisField, factor: &[u8]) -> bool
-    requires { WellFormed field }
     ensures { result ≡ not_monic (field_of field) factor.now }
 {
-    if term_out_of_field(field, factor) {
-        return true;
-    }
-    if factor.len() == 0 {
-        return true;
-    }
-    factor[factor.len() - 1] != 1
+    term_out_of_field(field, factor) || leading(factor) != 1
 }
 
 // 12, of a monic list that 10 and 11 let pass: reducible.
 pub fn reducible(field: GaloisField, factor: &[u8]) -> bool
-    requires well_formed { WellFormed field }
-    requires accepted { Accepted (field_of field) factor.now }
+    requires { Accepted (field_of field) factor.now }
     ensures { result ≡ is_reducible (field_of field) factor.now }
 {
     !is_irreducible(field, factor)
@@ -105,8 +91,5 @@ pub fn fewer_terms_than(d: usize, terms: &[u8]) -> bool
 pub fn start_unlike_degree(polynomial: &[u8], start: &[u8]) -> bool
     ensures { result ≡ start_unlike_degree polynomial.now start.now }
 {
-    if polynomial.len() == 0 {
-        return start.len() != 0;
-    }
-    start.len() != polynomial.len() - 1
+    start.len() != polynomial.len().saturating_sub(1)
 }

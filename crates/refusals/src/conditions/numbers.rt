@@ -3,7 +3,7 @@ ghost use Rattle.std.specs.Prelude.{◌≡◌, ◌^◌, ltb};
 ghost use Rattle.meaning.specs.Conditions.{count_out_of_range, place_out_of_range, factor_count_out_of_range};
 ghost use Rattle.meaning.specs.Conditions.{degree_out_of_range, lent_too_short};
 ghost use Rattle.meaning.specs.Meter.{meter_full};
-ghost use Rattle.arith.specs.Represented.{field_of, WellFormed};
+ghost use Rattle.arith.specs.Represented.{field_of};
 
 use arith::GaloisField;
 
@@ -19,10 +19,7 @@ pub fn count_out_of_range(n: usize) -> bool
 pub fn place_out_of_range(size: usize, place: usize) -> bool
     ensures { result ≡ place_out_of_range size place }
 {
-    if size < place {
-        return true;
-    }
-    count_out_of_range(size - place)
+    size < place || count_out_of_range(size - place)
 }
 
 // 18: a meter holds 4,096 terms.
@@ -46,28 +43,22 @@ fn power_exceeds(q: u64, e: usize) -> bool
     if 65536 < q {
         return 0 < e;
     }
-    let mut power = 1u64;
-    let mut i = 0;
     // power = q^i, at most 65,536
-    while i < e {
-        power = power * q;
+    let mut power = 1u64;
+    for i in 0..e {
+        power *= q;
         if 65536 < power {
             return true;
         }
-        i += 1;
     }
     false
 }
 
 // 10: the degree d of a factor is 0 or above 32, or q^(d div 2) exceeds 65,536, q the size of the field.
 pub fn degree_out_of_range(field: GaloisField, d: usize) -> bool
-    requires { WellFormed field }
     ensures { result ≡ degree_out_of_range (field_of field) d }
 {
-    if d == 0 {
-        return true;
-    }
-    if 32 < d {
+    if d == 0 || 32 < d {
         return true;
     }
     power_exceeds(field.size() as u64, d / 2)

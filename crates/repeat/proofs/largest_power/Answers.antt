@@ -1,31 +1,15 @@
--- `largest_power` meets its contract. The invariant is `Largest`, and the measure what is left of the
--- factors. Assumes nothing.
-use Prim.Native.Nat.{◌+◌}
-use mathlib.Core.Path.{refl, sym, subst}
-use native.Mathlib.Omega.{arith}
-use Rattle.repeat.proofs.Factors.{Largest, largest-start, largest-more, largest-less, largest-end}
+-- `largest_power` meets its contract. Assumes nothing.
+use mathlib.Core.Path.{◌∙◌}
+use lib.ListN.{length, take}
+use Rattle.std.proofs.lemmas.Iterator.{YieldsList-from_slice}
+use Rattle.std.proofs.lemmas.Iterator.Consumers.{max_from_yields_List, YieldsList-from_copied}
+use Rattle.repeat.proofs.Factors.{largest_of, largest_is}
 use Rattle.repeat.proofs.largest_power.Goals as goal
-use Rattle.repeat.proofs.largest_power.Goals.{then-largest-powers, else-largest-powers}
-
-pub loop-i-init : goal.loop-i-init
-loop-i-init c = (omega arith, refl, largest-start _)
-
-pub loop-i-preserved : goal.loop-i-preserved
-loop-i-preserved c =
-    let a = c.args in (
-      omega arith,
-      refl,
-      elim c.if-largest-powers.branch [
-        | then-largest-powers w ↦
-            subst (Largest a.powers.now (c.loop-i.i + 1)) (sym w.largest-is)
-            (largest-more a.powers.now c.loop-i.invariant.2 w.if-largest-powers.true)
-        | else-largest-powers w ↦
-            subst (Largest a.powers.now (c.loop-i.i + 1)) (sym w.largest-is)
-            (largest-less a.powers.now c.loop-i.invariant.2 w.if-largest-powers.false)
-      ],
-    )
 
 pub returns : goal.returns
 returns c =
-    let a = c.args in
-    largest-end a.factors.now a.powers.now c.loop-i.invariant.2 (omega arith)
+    let fs = c.args.set.factors.now in
+    let rs = c.args.set.powers.now in
+    let m = max_from_yields_List {all = take (length fs) rs} _ c.max.result c.max.ensures.ran
+    (YieldsList-from_copied (YieldsList-from_slice _ cc)) in
+    c.unwrap_or.ensures ∙ largest_is fs rs c.requires (largest_of c.max.result (take (length fs) rs) m)

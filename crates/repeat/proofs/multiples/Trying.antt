@@ -3,15 +3,16 @@
 --   Trying m n k     == k is a positive multiple of m, and n divides no smaller one
 --   trying_start, trying_next, trying_found, trying_missing == the first one, the next one, the one that n
 --                       divides, and none within the limit
---   common_swapped   == which of the two numbers is taken for m does not matter
+--   common_swapped   == which of the two numbers is taken for m does not matter; `common_sorted`: the larger
 --   common_none      == 0 has no common multiple
 --
 -- Assumes nothing.
-use Prim.Native.Nat.{ℕ, ◌+◌, ◌-◌, ◌%◌, ◌≤◌, ◌<◌}
+use Prim.Native.Nat.{ℕ, ◌+◌, ◌-◌, ◌%◌, ◌≤◌, ◌<◌, min, max}
 use mathlib.Core.Path.{◌≡◌, sym, ap, subst, ◌∙◌}
 use mathlib.Core.Logic.{◌≢◌}
 use mathlib.Core.Bool.{Bool, ◌&&◌}
-use native.Mathlib.Nat.{mod_self, mod-zero, mod-eq_of_lt, mod-add-mod, zero-add}
+use native.Mathlib.Nat.{mod_self, mod-zero, mod-eq_of_lt, mod-add-mod, zero-add, le_of_lt}
+use native.Mathlib.Nat.{max-eq_left, max-eq_right, min-eq_left, min-eq_right}
 use native.Mathlib.Decide.{dec_lt}
 use native.Mathlib.Omega.{arith}
 use lib.Dec.{T, eqb, eqb→eq, eqb_refl}
@@ -96,6 +97,14 @@ common_swapped limit m n =
     T-same
     (λ h. let (a, b) = T_and (eqb (k % m) 0) (eqb (k % n) 0) h in and_T (eqb (k % n) 0) (eqb (k % m) 0) b a)
     (λ h. let (a, b) = T_and (eqb (k % n) 0) (eqb (k % m) 0) h in and_T (eqb (k % m) 0) (eqb (k % n) 0) b a))
+
+-- the larger one for m
+pub common_sorted : (limit m n : ℕ) → common_within limit (max m n) (min m n) ≡ common_within limit m n
+common_sorted limit m n = elim (dec_lt m n) [
+  | yes h ↦ rw (max-eq_right (le_of_lt h), min-eq_left (le_of_lt h)) (common_swapped limit n m)
+  | no h ↦
+      let k : n ≤ m = omega arith in rw (max-eq_left k, min-eq_right k)
+]
 
 pub common_none : (limit n : ℕ) {m : ℕ} → m ≡ 0 → 0 ≡ common_within limit m n
 unfolding common_within

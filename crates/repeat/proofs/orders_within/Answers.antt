@@ -1,5 +1,5 @@
 -- `orders_within` meets its contract. The invariant: the common multiple of the orders of the factors before
--- i. The measure is what is left of the factors. Assumes nothing.
+-- i. Assumes nothing.
 use Prim.Native.Nat.{◌+◌}
 use mathlib.Core.Path.{◌∙◌}
 use lib.ListN.{get_or, take}
@@ -20,29 +20,26 @@ returns-then-limit-eq0 c = orders-zero _ _ c.if-limit-eq0.true
 
 pub loop-i-init : goal.loop-i-init
 loop-i-init c =
-    let fs = c.args.factors.now in
-    let rs = c.args.powers.now in
-    let I = field-is_field c.requires.well_formed in
+    let fs = c.args.set.factors.now in
+    let rs = c.args.set.powers.now in
+    let I = field-is_field c.args.field in
     (omega arith, common_start fs rs c.requires.powered_factors I c.args.limit (omega arith))
 
 pub bounds-powers-i : goal.bounds-powers-i
 bounds-powers-i c =
-    omega (arith, powers-enough c.args.factors.now c.args.powers.now c.requires.powered_factors)
+    omega (arith, powers-enough c.args.set.factors.now c.args.set.powers.now c.requires.powered_factors)
 
 pub order_within-requires : goal.order_within-requires
 order_within-requires c =
-    let fs = c.args.factors.now in
-    let rs = c.args.powers.now in
-    record {
-      well_formed = c.requires.well_formed;
-      suited = factor-suited fs rs c.requires.powered_factors _ (omega arith);
-    }
+    let fs = c.args.set.factors.now in
+    let rs = c.args.set.powers.now in
+    factor-suited fs rs c.requires.powered_factors _ (omega arith)
 
 pub common_within-common-requires : goal.common_within-common-requires
 common_within-common-requires c =
     let F = field_of c.args.field in
-    let fs = c.args.factors.now in
-    let first = take c.loop-i.i (named (lists_of fs) c.args.powers.now) in
+    let fs = c.args.set.factors.now in
+    let first = take c.loop-i.i (named (lists_of fs) c.args.set.powers.now) in
     let common = orders-small F first c.args.limit in
     let order = order_small F (get_or fs c.loop-i.i nowhere).now c.args.limit in (
       omega (arith, c.loop-i.invariant.1, c.requires.limit_bound),
@@ -52,9 +49,9 @@ common_within-common-requires c =
 
 pub returns-then-common-eq0 : goal.returns-then-common-eq0
 returns-then-common-eq0 c =
-    let fs = c.args.factors.now in
-    let rs = c.args.powers.now in
-    let I = field-is_field c.requires.well_formed in
+    let fs = c.args.set.factors.now in
+    let rs = c.args.set.powers.now in
+    let I = field-is_field c.args.field in
     common_stop fs rs c.requires.powered_factors I c.args.limit (c.loop-i.i + 1)
     (common_more fs rs c.requires.powered_factors I c.args.limit c.loop-i.i (omega arith) c.loop-i.invariant.1
     c.if-powers-i-ne0.true c.order_within.ensures c.common_within-common.ensures)
@@ -62,9 +59,9 @@ returns-then-common-eq0 c =
 
 pub loop-i-preserved : goal.loop-i-preserved
 loop-i-preserved c =
-    let fs = c.args.factors.now in
-    let rs = c.args.powers.now in
-    let I = field-is_field c.requires.well_formed in (
+    let fs = c.args.set.factors.now in
+    let rs = c.args.set.powers.now in
+    let I = field-is_field c.args.field in (
       omega arith,
       elim c.if-powers-i-ne0.branch [
         | then-powers-i-ne0+else-common-eq0 w ↦
@@ -81,6 +78,6 @@ loop-i-preserved c =
 
 pub returns : goal.returns
 returns c =
-    common_end c.args.factors.now c.args.powers.now c.requires.powered_factors
-    (field-is_field c.requires.well_formed)
+    common_end c.args.set.factors.now c.args.set.powers.now c.requires.powered_factors
+    (field-is_field c.args.field)
     c.args.limit c.loop-i.i c.loop-i.invariant.1 (omega arith)

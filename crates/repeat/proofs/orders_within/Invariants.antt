@@ -1,6 +1,6 @@
 -- `orders_within` meets its contract. The invariant: the common multiple of the orders of the factors before
--- i. The measure is what is left of the factors. Assumes nothing.
-use Prim.Native.Nat.{◌-◌, ◌≤◌}
+-- i. Assumes nothing.
+use Prim.Native.Nat.{◌≤◌}
 use mathlib.Core.Path.{◌≡◌}
 use lib.ListN.{length, take}
 use Rattle.meaning.specs.Conditions.{named}
@@ -10,8 +10,5 @@ use Rattle.arith.specs.Represented.{field_of}
 use Rattle.repeat.proofs.orders_within.Given as goal
 
 abbrev pub invariant-loop-i : goal.invariant-loop-i
-invariant-loop-i l = (l.i ≤ length l.factors)
-    × (l.common ≡ orders_within (field_of l.field) (take l.i (named (lists_of l.factors) l.powers)) l.limit)
-
-abbrev pub decreases-loop-i : goal.decreases-loop-i
-decreases-loop-i l = length l.factors - l.i
+invariant-loop-i l = (l.i ≤ length l.set.factors.now)
+    × (l.common ≡ orders_within (field_of l.field) (take l.i (named (lists_of l.set.factors.now) l.set.powers.now)) l.limit)

@@ -1,19 +1,15 @@
-// Powers of x modulo a polynomial over GF(2), which is a word: bit i is the coefficient of x^i. Assumes a
-// degree from 1 to 32.
-ghost use Rattle.std.specs.Prelude.{◌≤◌};
-ghost use Rattle.irreducible.specs.binary.Binary.{HasDegree};
+// Powers of x modulo a polynomial over GF(2), which is a word: bit i is the coefficient of x^i.
 ghost use Rattle.repeat.specs.orders.Words.{Power};
 
-use irreducible::binary::{remainder, square};
+use irreducible::binary::BinaryModulus;
 
-// x^n modulo f, of degree d: the square of x^(n / 2), times x if n is odd.
-pub fn power(f: u64, d: u64, n: u64) -> u64
-    requires { HasDegree f d × (1 ≤ d) }
-    ensures { Power f d n result }
+// x^n modulo f: the square of x^(n / 2), times x if n is odd.
+pub fn power(f: BinaryModulus, n: u64) -> u64
+    ensures { Power f.word f.degree n result }
 {
     if n == 0 {
         return 1;
     }
-    let half = power(f, d, n / 2);
-    remainder(square(f, d, half) << (n % 2), 1, f, d)
+    let half = power(f, n / 2);
+    f.remainder(f.square(half) << (n % 2), 1)
 }

@@ -7,7 +7,7 @@
 use Prim.Native.Nat.{ℕ, ◌*◌, ◌≤◌, ◌<◌}
 use mathlib.Core.Path.{sym, ap, subst, ◌∙◌}
 use mathlib.Core.Logic.{◌≢◌}
-use mathlib.Core.List.{List, []}
+use mathlib.Core.List.{List, [], ◌∷◌}
 use native.Mathlib.Nat as ℕ
 use native.Mathlib.Omega.{arith}
 use lib.ListN.{length, get_or, get_or-eq_default}
@@ -70,3 +70,10 @@ module _ {F : Field} {fs : List Polynomial} {us ts : List ℕ} (x : SetInput F f
           input-total,
           ℕ.le-mul_of_pos_right (get_or us i 0) (x.factors.positive i k),
         )
+
+-- each factor has a power
+pub enough_uppers :
+    {F : Field} {fs : List Polynomial} {us ts : List ℕ} → SetInput F fs us ts → length fs ≤ length us
+enough_uppers {fs = []} x = omega arith
+enough_uppers {fs = f ∷ fs} {us} x =
+    let k : length fs < length us = input_index x (length fs) (omega arith) in omega arith

@@ -23,13 +23,13 @@ use Rattle.bridge.proofs.Lists.Products.{factor_at, power_at, Nonempties, monics
 use Rattle.bridge.proofs.Lists.Products.{factor_at-named, power_at-named}
 use Rattle.bridge.proofs.Ways.Portions.{act_on_known-product-nil, act_on_known-product-take}
 use Rattle.arith.specs.declared.field.GaloisField.{GaloisField}
-use Rattle.arith.specs.Represented.{field_of, WellFormed}
+use Rattle.arith.specs.Represented.{field_of}
 use Rattle.arith.proofs.Represented.{field-is_field}
 use Rattle.lent.specs.halves.Halves.{half, Halves, Placed}
-use Rattle.action.specs.declared.power_action.Place.{Place}
+use Rattle.lent.specs.declared.halves.Place.{Place}
 use Rattle.lent.specs.halves.Kept.{Kept}
-use Rattle.action.specs.power_action.Acting.{Actable, PowerActed}
 use Rattle.lent.proofs.halves.Bytes.{kept_same, kept_trans, placed-kept}
+use Rattle.action.specs.power_action.Acting.{Actable, PowerActed}
 use Rattle.set_way.specs.actions.SetActions.{SetInput, AllActed}
 use Rattle.powers.proofs.product.Totals.{total-take, total-part}
 use Rattle.set_way.proofs.actions.Inputs.{input-monics, input_few}
@@ -44,7 +44,7 @@ pub record Passing (field : GaloisField) (fs : List Polynomial) (us ts w₀ w : 
   pub kept : Kept w₀ w
 
 module _
-    {field : GaloisField} (good : WellFormed field) {fs : List Polynomial} {us ts : List ℕ}
+    (field : GaloisField) {fs : List Polynomial} {us ts : List ℕ}
     (x : SetInput (field_of field) fs us ts)
   where
     abbrev l : List (Polynomial × ℕ)
@@ -56,11 +56,11 @@ module _
     pub passing_start :
         {w w₀ : List ℕ} → 8192 ≤ length w → Placed w 0 1 ts w₀ → Passing field fs us ts w₀ w₀ 0 (length ts) 0
     unfolding total_degree
-    passing_start {w} {w₀} h e =
+    passing_start {w₀ = w₀} h e =
         record {
           halves = record { enough = omega (arith, e.size); which = omega arith; few = x.not_many };
           before = omega arith;
-          values = e.made ∙ sym (act_on_known-product-nil (field-is_field good) ts x.in_field);
+          values = e.made ∙ sym (act_on_known-product-nil (field-is_field field) ts x.in_field);
           size = sym (ℕ.sub-zero (length ts));
           kept = kept_same w₀;
         }
@@ -80,7 +80,7 @@ module _
             record {
               terms =
                   subst (λ t. T (are_elements (field_of field) t)) (sym y.values)
-                  (act_on_known-elements (field-is_field good) (product (field_of field) (take j l)) ts);
+                  (act_on_known-elements (field-is_field field) (product (field_of field) (take j l)) ts);
               elements = monic-elements (field_of field) (get_or fs j []) (x.factors.monic j k);
               nonempty = monic-nonempty (field_of field) (get_or fs j []) (x.factors.monic j k);
               short = x.short j k;
@@ -112,7 +112,7 @@ module _
                   ∙ ap
                   (λ n. act_on_known (field_of field) (power (field_of field) (factor_at l j) n) (front j))
                   (sym (power_at-named fs us j k))
-                  ∙ sym (act_on_known-product-take (field-is_field good) j l ts place nonempties)
+                  ∙ sym (act_on_known-product-take (field-is_field field) j l ts place nonempties)
                   ∙ ap front (sym (add-one j));
               size =
                   let e : r.count ≡ length ts - total_degree (take (suc j) l)

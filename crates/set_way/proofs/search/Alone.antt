@@ -17,26 +17,24 @@ use Rattle.meaning.specs.Field.{Field, are_elements}
 use Rattle.meaning.specs.Polynomial.{Polynomial, degree, product}
 use Rattle.meaning.specs.Sequence.{act_on_known}
 use Rattle.meaning.specs.Conditions.{named, total_degree}
-use Rattle.meaning.specs.Portion.{with_power, least_at}
+use Rattle.meaning.specs.Portion.{with_power, least_at, set_powers}
 use Rattle.bridge.proofs.Basics.Interpretation.{IsField}
 use Rattle.bridge.proofs.Lists.Polynomials.{monic-nonempty, monic-elements}
 use Rattle.bridge.proofs.Sequences.KnownActions.{act_on_known-power-zero}
 use Rattle.bridge.proofs.Ways.PowerSearch.{power_found, power_acts, act_steps}
-use Rattle.bridge.proofs.Lists.Products.{factor_at, power_at, Nonempties, monics-nonempty, length-named}
+use Rattle.bridge.proofs.Lists.Products.{factor_at, Nonempties, monics-nonempty, length-named}
 use Rattle.bridge.proofs.Lists.Products.{factor_at-named, power_at-named, product-single}
 use Rattle.bridge.proofs.Ways.Portions.{portion_at, least_at-search}
 use Rattle.bridge.proofs.Basics.Levels.{level-bound}
 use Rattle.arith.specs.declared.field.GaloisField.{GaloisField}
-use Rattle.arith.specs.Represented.{field_of, WellFormed}
-use Rattle.arith.proofs.Represented.{field-is_field, field_characteristic, characteristic_least}
-use Rattle.powers.specs.declared.levels.Level.{Level}
+use Rattle.arith.specs.Represented.{field_of}
+use Rattle.arith.proofs.Represented.{field-is_field, characteristic_least}
+use Rattle.lent.specs.declared.levels.Level.{Level}
 use Rattle.powers.specs.levels.Levels.{Reaching}
 use Rattle.lent.specs.halves.Halves.{Placed}
 use Rattle.powers.specs.digit_search.Searching.{Searchable, Searched}
-use Rattle.lent.proofs.halves.Bytes.{placed-kept, kept_trans}
 use Rattle.set_way.specs.actions.SetActions.{SetInput}
 use Rattle.set_way.proofs.actions.Inputs.{input-monics, input-nonzero, input_few}
-use Rattle.set_way.specs.search.SetSearch.{PowerAlone}
 use Rattle.set_way.proofs.search.Halving.{set_powers_from}
 
 -- nothing acts on what is left for the only factor
@@ -56,9 +54,9 @@ portion_alone {F} I (f ∷ []) ts e h t n =
 portion_alone I (f ∷ g ∷ l) ts e h t n = absurd (omega arith)
 
 module _
-    {field : GaloisField} (good : WellFormed field) {fs : List Polynomial} {us ts : List ℕ}
+    (field : GaloisField) {fs : List Polynomial} {us ts : List ℕ}
     (x : SetInput (field_of field) fs us ts) (alone : length fs ≡ 1) (level : Level)
-    (reaching : Reaching field.characteristic (get_or us 0 0) level)
+    (reaching : Reaching (field_of field).characteristic (get_or us 0 0) level)
   where
     factors-nonempty : 0 < length fs
     factors-nonempty = omega arith
@@ -73,11 +71,11 @@ module _
           near =
               omega (
                 arith,
-                reaching.is_level,
-                level-bound (omega (arith, characteristic_least good))
+                reaching.is_level.power,
+                level-bound (omega (arith, characteristic_least field))
                     (ℕ.pos_of_ne-zero (input-nonzero x 0 factors-nonempty)) reaching.least,
-                ℕ.mul-le-mul_left field.characteristic (input_few x 0 factors-nonempty),
-                ℕ.mul_comm field.characteristic 4096,
+                ℕ.mul-le-mul_left (field_of field).characteristic (input_few x 0 factors-nonempty),
+                ℕ.mul_comm (field_of field).characteristic 4096,
               );
         }
 
@@ -87,24 +85,15 @@ module _
     least :
         least_at (field_of field) (named fs us) ts 0
         ≡ some (
-        power_found (power_acts (field_of field) (factor_at (named fs us) 0)) field.characteristic
+        power_found (power_acts (field_of field) (factor_at (named fs us) 0)) (field_of field).characteristic
         (degree (factor_at (named fs us) 0)) level.exponent (portion_at (field_of field) (named fs us) ts 0)
         )
     least =
         let place : 0 < length (named fs us) = omega (arith, length-named fs us) in
-        subst
-        (λ p.
-        power_at (named fs us) 0 ≤ p ^ level.exponent
-        → least_at (field_of field) (named fs us) ts 0
-        ≡ some (
-        power_found (power_acts (field_of field) (factor_at (named fs us) 0)) p
-        (degree (factor_at (named fs us) 0)) level.exponent (portion_at (field_of field) (named fs us) ts 0)
-        ))
-        (field_characteristic good)
-        (least_at-search (field-is_field good) (named fs us) nonempties ts 0 place (input-monics x 0 place)
+        least_at-search (field-is_field field) (named fs us) nonempties ts 0 place (input-monics x 0 place)
         (power_acts (field_of field) (factor_at (named fs us) 0))
-        (act_steps (field_of field) (factor_at (named fs us) 0)) level.exponent)
-        (subst (λ n. n ≤ field.characteristic ^ level.exponent)
+        (act_steps (field_of field) (factor_at (named fs us) 0)) level.exponent
+        (subst (λ n. n ≤ (field_of field).characteristic ^ level.exponent)
         (sym (power_at-named fs us 0 factors-nonempty)) reaching.least.reaches)
 
     pub alone_found :
@@ -112,17 +101,13 @@ module _
         → length ts ≡ total_degree (named fs us)
         → Placed w 0 1 ts w₁
         → Searched field w₁ 0 (length ts) (get_or fs 0 []) level w₂ r
-        → PowerAlone (field_of field) fs us ts w w₂ r
+        → set_powers (field_of field) (named fs us) ts ≡ some (r ∷ [])
     alone_found {r = r} exact loaded searched =
-        record {
-          power =
-              set_powers_from (field-is_field good) (named fs us) ts (r ∷ []) nonempties
-              (omega (arith, length-named fs us))
-              (λ i k.
-              let e : 0 ≡ i = omega (arith, length-named fs us) in
-              subst (λ n. least_at (field_of field) (named fs us) ts n ≡ some (get_or (r ∷ []) n 0)) e found);
-          kept = kept_trans (placed-kept loaded) searched.kept;
-        }
+        set_powers_from (field-is_field field) (named fs us) ts (r ∷ []) nonempties
+        (omega (arith, length-named fs us))
+        (λ i k.
+        let e : 0 ≡ i = omega (arith, length-named fs us) in
+        subst (λ n. least_at (field_of field) (named fs us) ts n ≡ some (get_or (r ∷ []) n 0)) e found)
       where
         found : least_at (field_of field) (named fs us) ts 0 ≡ some r
         found =
@@ -130,13 +115,13 @@ module _
             ∙ ap {B = Option ℕ} some
             (ap
             (λ f.
-            power_found (power_acts (field_of field) f) field.characteristic (degree f) level.exponent
+            power_found (power_acts (field_of field) f) (field_of field).characteristic (degree f) level.exponent
             (portion_at (field_of field) (named fs us) ts 0))
             (factor_at-named fs us 0)
             ∙ ap
-            (power_found (power_acts (field_of field) (get_or fs 0 [])) field.characteristic
+            (power_found (power_acts (field_of field) (get_or fs 0 [])) (field_of field).characteristic
             (degree (get_or fs 0 [])) level.exponent)
-            (portion_alone (field-is_field good) (named fs us) ts (length-named fs us ∙ alone) nonempties
+            (portion_alone (field-is_field field) (named fs us) ts (length-named fs us ∙ alone) nonempties
             x.in_field exact
             ∙ sym loaded.made)
             ∙ sym searched.power)

@@ -6,12 +6,13 @@
 --   halved            == so are the parts of slices up to a place and from it on
 --   HalvedInput …     == accepted input, as many terms as the total degree, in two parts
 --   first-…, second-… == what accepted input says of the first and of the second part
---   Filled xs rs m n  == rs are for the first m of the n places xs
 --   parts-settled     == the powers of both parts are the powers of the set
+--   both-places, settled-searched == where they stand
+--   halves-kept       == the halves are given back, and all beyond them is as it was
 --
 -- Assumes nothing.
 use Prim.Native.Nat.{ℕ, zero, suc, ◌+◌, ◌-◌, ◌*◌, ◌≤◌, ◌<◌}
-use mathlib.Core.Path.{◌≡◌, refl, sym, ap, subst, ◌∙◌}
+use mathlib.Core.Path.{◌≡◌, refl, sym, ap, ap₂, subst, ◌∙◌}
 use mathlib.Core.Bool.{Bool, true, false, ◌||◌}
 use mathlib.Core.List.{List, [], ◌∷◌, ◌++◌, append-nil}
 use mathlib.Core.Option.{Option, some}
@@ -20,11 +21,12 @@ use native.Mathlib.Omega.{arith}
 use lib.ListN.{length, get_or, take, drop, set, length-append, length-drop, take-append-drop}
 use lib.ListN.{drop_of_length-le}
 use lib.ListN.{replicate, length-take, get_or-append}
-use lib.Seq.{take_all, take-nil, drop-nil, take_at, drop_at, get_or-append-add}
+use lib.Seq.{take-nil, drop-nil, take_at, drop_at, get_or-append-add}
 use lib.Dec.{T, eqb, ltb}
 use borrow.Author.Tests.{le-ltb}
 use denote.Ref.{Bor}
-use Rattle.meaning.specs.Search.{holds_for_some}
+use borrow.Rule.Slice.PartMut.{put_mid}
+use Rattle.meaning.specs.Search.{holds_for_some, map_option}
 use Rattle.meaning.specs.Field.{Field, are_elements}
 use Rattle.meaning.specs.Polynomial.{Polynomial, degree, product, is_monic_over, irreducible}
 use Rattle.meaning.specs.Sequence.{act_on_known}
@@ -32,17 +34,16 @@ use Rattle.meaning.specs.Conditions.{named, total_degree, upper_powers_out_of_ra
 use Rattle.meaning.specs.Portion.{set_powers}
 use Rattle.meaning.specs.Answers.{padded}
 use Rattle.meaning.specs.Slices.{lists_of}
-use Rattle.meaning.proofs.Slices.{lists_length}
 use Rattle.bridge.proofs.Basics.Searches.{or-false, none-cons, none_uncons, map_option-some}
 use Rattle.bridge.proofs.Basics.Interpretation.{IsField}
 use Rattle.bridge.proofs.Lists.Irreducibles.{Factors}
 use Rattle.bridge.proofs.Sequences.KnownActions.{act_on_known-elements}
 use Rattle.bridge.proofs.Lists.Products.{Nonempties, monics-nonempty, length-named}
-use Rattle.lent.proofs.halves.Bytes.{kept_same, kept_trans, lent-half}
-use Rattle.action.specs.declared.power_action.Place.{Place}
+use Rattle.lent.proofs.halves.Bytes.{lent-half}
+use Rattle.lent.specs.declared.halves.Place.{Place}
+use Rattle.lent.specs.halves.Kept.{Kept}
 use Rattle.set_way.specs.actions.SetActions.{SetInput, AllActed}
-use Rattle.set_way.specs.search.SetSearch.{PowerAlone, PowersSettled, PowersSearched}
-use Rattle.set_way.proofs.actions.Inputs.{input-monics, input-total, input_index}
+use Rattle.set_way.proofs.actions.Inputs.{input-monics, input-total}
 use Rattle.set_way.proofs.search.Halving.{total-append, first_exact, second_exact, set_powers_from}
 use Rattle.set_way.proofs.search.Halving.{set_powers-parts}
 
@@ -82,41 +83,21 @@ named-drop (suc k) (f ∷ fs) [] = ap (named (drop k fs)) (sym (drop-nil k)) ∙
 named-drop (suc k) (f ∷ fs) (u ∷ us) = named-drop k fs us
 
 pub halved :
-    (xs : List (Bor (List ℕ))) (us : List ℕ) (m n : ℕ)
-    → n ≡ length xs
-    → Halved (lists_of xs) us (lists_of (take (m - 0) (drop 0 xs))) (take (m - 0) (drop 0 us))
-    (lists_of (take (n - m) (drop m xs))) (take (n - m) (drop m us))
-halved xs us m n e =
-    record {
-      factors = sym (ap (λ l. l ++ lists_of (take (n - m) (drop m xs))) front ∙ ap (◌++◌ (take m fs)) back
-          ∙ take-append-drop m fs);
+    (xs : List (Bor (List ℕ))) (us : List ℕ) (m : ℕ) {x₁ x₂ : List (Bor (List ℕ))} {u₁ u₂ : List ℕ}
+    → (x₁ ≡ take m xs) × (u₁ ≡ take m us)
+    → (x₂ ≡ drop m xs) × (u₂ ≡ drop m us)
+    → Halved (lists_of xs) us (lists_of x₁) u₁ (lists_of x₂) u₂
+halved xs us m (a, b) (c, d) =
+    rw (a, b, c, d)
+    (record {
+      factors = sym (ap₂ (◌++◌) (lists_take m xs) (lists_drop m xs) ∙ take-append-drop m (lists_of xs));
       pairs =
           sym
-          (ap (λ l. l ++ named (lists_of (take (n - m) (drop m xs))) (take (n - m) (drop m us)))
-          (ap (λ l. named l (take (m - 0) us)) front
-          ∙ ap (λ k. named (take m fs) (take k us)) (ℕ.sub-zero m)
-          ∙ named-take m fs us)
-          ∙ ap (◌++◌ (take m (named fs us)))
-          (ap (λ l. named l (take (n - m) (drop m us))) (lists_take (n - m) (drop m xs)
-          ∙ ap (take (n - m)) (lists_drop m xs))
-          ∙ named-take (n - m) (drop m fs) (drop m us)
-          ∙ ap (take (n - m)) (named-drop m fs us)
-          ∙ take_all (n - m) (drop m (named fs us))
-          (omega (arith, length-drop m (named fs us), length-named fs us, lists_length xs)))
-          ∙ take-append-drop m (named fs us));
-    }
-  where
-    fs : List Polynomial
-    fs = lists_of xs
-
-    front : lists_of (take (m - 0) xs) ≡ take m fs
-    front = ap (λ k. lists_of (take k xs)) (ℕ.sub-zero m) ∙ lists_take m xs
-
-    back : lists_of (take (n - m) (drop m xs)) ≡ drop m fs
-    back =
-        lists_take (n - m) (drop m xs)
-        ∙ ap (take (n - m)) (lists_drop m xs)
-        ∙ take_all (n - m) (drop m fs) (omega (arith, length-drop m fs, lists_length xs))
+          (ap₂ (◌++◌)
+          (ap (λ l. named l (take m us)) (lists_take m xs) ∙ named-take m (lists_of xs) us)
+          (ap (λ l. named l (drop m us)) (lists_drop m xs) ∙ named-drop m (lists_of xs) us)
+          ∙ take-append-drop m (named (lists_of xs) us));
+    })
 
 -- Accepted factors in two parts
 factors-first : {F : Field} (a b : List Polynomial) → Factors F (a ++ b) → Factors F a
@@ -317,92 +298,68 @@ module _
           (act_on_known-elements h.field (product F (named fs₁ us₁)) ts))
 
     pub parts-settled :
-        {s₁ s₂ w w₁ w₂ rs qs powers : List ℕ}
+        {s₁ s₂ rs qs powers : List ℕ}
         → s₁ ≡ act_on_known F (product F (named fs₂ us₂)) ts
         → s₂ ≡ act_on_known F (product F (named fs₁ us₁)) ts
-        → PowersSettled F fs₁ us₁ s₁ w w₁ rs
-        → PowersSettled F fs₂ us₂ s₂ w₁ w₂ qs
+        → set_powers F (named fs₁ us₁) s₁ ≡ some rs
+        → set_powers F (named fs₂ us₂) s₂ ≡ some qs
         → powers ≡ rs ++ qs
-        → PowersSettled F fs us ts w w₂ powers
+        → set_powers F (named fs us) ts ≡ some powers
     parts-settled {rs = rs} {qs = qs} a b first second e =
-        record {
-          powers =
-              ap (λ l. set_powers F l ts) h.parts.pairs
-              ∙ set_powers-parts h.field (named fs₁ us₁) (named fs₂ us₂) nonempties₁ nonempties₂ ts exactly
-              (ap (set_powers F (named fs₁ us₁)) (sym a) ∙ first.powers)
-              (ap (set_powers F (named fs₂ us₂)) (sym b) ∙ second.powers)
-              ∙ ap {B = Option (List ℕ)} some (sym e);
-          kept = kept_trans first.kept second.kept;
-        }
+        ap (λ l. set_powers F l ts) h.parts.pairs
+        ∙ set_powers-parts h.field (named fs₁ us₁) (named fs₂ us₂) nonempties₁ nonempties₂ ts exactly
+        (ap (set_powers F (named fs₁ us₁)) (sym a) ∙ first)
+        (ap (set_powers F (named fs₂ us₂)) (sym b) ∙ second)
+        ∙ ap {B = Option (List ℕ)} some (sym e)
 
 -- The ends of the recursion
-pub enough_uppers :
-    {F : Field} {fs : List Polynomial} {us ts : List ℕ} → SetInput F fs us ts → length fs ≤ length us
-enough_uppers {fs = []} x = omega arith
-enough_uppers {fs = f ∷ fs} {us} x =
-    let k : length fs < length us = input_index x (length fs) (omega arith) in omega arith
-
 pub none-settled :
-    {F : Field} {fs : List Polynomial} {us ts w powers : List ℕ}
+    {F : Field} {fs : List Polynomial} {us ts powers : List ℕ}
     → IsField F
     → SetInput F fs us ts
     → length fs ≡ 0
     → length powers ≡ length fs
-    → PowersSettled F fs us ts w w powers
-none-settled {F} {fs} {us} {ts} {w} {powers} I x e k =
-    record {
-      powers =
-          set_powers_from I (named fs us) ts powers (monics-nonempty F (named fs us) (input-monics x))
-          (omega (arith, length-named fs us)) (λ i l. absurd (omega (arith, length-named fs us)));
-      kept = kept_same w;
-    }
+    → set_powers F (named fs us) ts ≡ some powers
+none-settled {F} {fs} {us} {ts} {powers} I x e k =
+    set_powers_from I (named fs us) ts powers (monics-nonempty F (named fs us) (input-monics x))
+    (omega (arith, length-named fs us)) (λ i l. absurd (omega (arith, length-named fs us)))
 
 pub alone_settled :
-    {F : Field} {fs : List Polynomial} {us ts w w' : List ℕ} {r : ℕ} (powers : List ℕ)
-    → PowerAlone F fs us ts w w' r
+    {o : Option (List ℕ)} {r : ℕ} (powers : List ℕ)
+    → o ≡ some (r ∷ [])
     → length powers ≡ 1
-    → PowersSettled F fs us ts w w' (set powers 0 r)
-alone_settled {r = r} powers y e =
-    record { powers = y.power ∙ ap {B = Option (List ℕ)} some (only powers e); kept = y.kept }
+    → o ≡ some (set powers 0 r)
+alone_settled {r = r} powers y e = y ∙ ap {B = Option (List ℕ)} some (only powers e)
   where
     only : (l : List ℕ) → length l ≡ 1 → r ∷ [] ≡ set l 0 r
     only [] e = absurd (omega arith)
     only (a ∷ []) e = refl
     only (a ∷ b ∷ l) e = absurd (omega arith)
 
--- The places of both parts: rs and then qs are put into the n places xs, up to m and from m on
-pub record Filled (xs rs : List ℕ) (m n : ℕ) : Type 0 where
-  pub places : n ≡ length xs
-  pub within : m ≤ n
-  pub filled : length rs ≡ m
+-- rs in the first m places, and qs in those from m on
+pub both-places :
+    (rs qs xs : List ℕ) (m : ℕ)
+    → length rs ≡ m
+    → put_mid m (length (rs ++ drop m xs) - m) (rs ++ drop m xs) qs ≡ rs ++ qs
+both-places rs qs xs m e =
+    ap₂ (λ l r. l ++ (qs ++ r)) (take_at rs (drop m xs) m e)
+    (ap (drop (length (rs ++ drop m xs) - m)) (drop_at rs (drop m xs) m e)
+    ∙ drop_of_length-le (drop m xs) {i = length (rs ++ drop m xs) - m}
+    (omega (arith, length-append rs (drop m xs))))
+    ∙ ap (◌++◌ rs) (append-nil qs)
 
-module _ {xs rs : List ℕ} {m n : ℕ} (f : Filled xs rs m n) where
-  abbrev once : List ℕ
-  once = take 0 xs ++ (rs ++ drop (m - 0) (drop 0 xs))
-
-  once_is : once ≡ rs ++ drop m xs
-  once_is = ap (λ k. rs ++ drop k xs) (ℕ.sub-zero m)
-
-  pub once-length : length (take 0 xs ++ (rs ++ drop (m - 0) (drop 0 xs))) ≡ n
-  once-length = ap length once_is ∙ length-append rs (drop m xs) ∙ omega (arith, length-drop m xs)
-
-  pub rest-length : length (take (n - m) (drop m (take 0 xs ++ (rs ++ drop (m - 0) (drop 0 xs))))) ≡ n - m
-  rest-length =
-      length-take (n - m) (drop m once) ∙ omega (arith, length-drop m once, once-length)
-
-  pub both-places :
-      (qs : List ℕ)
-      → length qs ≡ n - m
-      → take m (take 0 xs ++ (rs ++ drop (m - 0) (drop 0 xs)))
-      ++ (qs ++ drop (n - m) (drop m (take 0 xs ++ (rs ++ drop (m - 0) (drop 0 xs)))))
-      ≡ rs ++ qs
-  both-places qs d =
-      ap (λ l. take m l ++ (qs ++ drop (n - m) (drop m l))) once_is
-      ∙ ap (λ l. l ++ (qs ++ drop (n - m) (drop m (rs ++ drop m xs)))) (take_at rs (drop m xs) m f.filled)
-      ∙ ap (λ l. rs ++ (qs ++ l))
-      (drop_of_length-le (drop m (rs ++ drop m xs)) {i = n - m}
-      (omega (arith, ap length (drop_at rs (drop m xs) m f.filled), length-drop m xs)))
-      ∙ ap (◌++◌ rs) (append-nil qs)
+pub rest-length :
+    (rs xs : List ℕ) (m : ℕ)
+    → length rs ≡ m
+    → length (take (length (rs ++ drop m xs) - m) (drop m (rs ++ drop m xs))) ≡ length xs - m
+rest-length rs xs m e =
+    omega (
+      arith,
+      length-take (length (rs ++ drop m xs) - m) (drop m (rs ++ drop m xs)),
+      length-drop m (rs ++ drop m xs),
+      length-append rs (drop m xs),
+      length-drop m xs,
+    )
 
 -- all places, and zeros after them
 drop-zeros : (k m : ℕ) → drop k (replicate m 0) ≡ replicate {A = ℕ} (m - k) 0
@@ -412,21 +369,20 @@ drop-zeros (suc k) (suc m) =
     let e : m - k ≡ suc m - suc k = omega arith in drop-zeros k m ∙ ap (λ n. replicate n 0) e
 
 pub settled-searched :
-    {F : Field} {fs : List Polynomial} {us ts w w' powers rs : List ℕ} {n : ℕ}
-    → PowersSettled F fs us ts w w' rs
-    → powers ≡ replicate 8 0
+    {o : Option (List ℕ)} {rs : List ℕ} {n : ℕ}
+    → o ≡ some rs
     → length rs ≡ n
-    → PowersSearched F fs us ts w w' (take 0 powers ++ (rs ++ drop (n - 0) (drop 0 powers)))
+    → map_option padded o ≡ some (rs ++ drop n (replicate 8 0))
 unfolding padded
-settled-searched {powers = powers} {rs = rs} {n = n} y e k =
+settled-searched {rs = rs} {n = n} y e =
+    map_option-some padded y
+    ∙ ap {B = Option (List ℕ)} some
+    (ap (◌++◌ rs) (ap (λ m. replicate (8 - m) 0) e ∙ sym (drop-zeros n 8)))
+
+-- the halves are given back
+pub halves-kept : (w h : List ℕ) → length h ≡ 8192 → 8192 ≤ length w → Kept w (h ++ drop 8192 w)
+halves-kept w h e l =
     record {
-      powers =
-          map_option-some padded y.powers
-          ∙ ap {B = Option (List ℕ)} some
-          (ap (◌++◌ rs)
-          (ap (λ m. replicate (8 - m) 0) k
-          ∙ sym (drop-zeros n 8)
-          ∙ ap (λ l. drop n l) (sym e)
-          ∙ ap (λ m. drop m powers) (sym (ℕ.sub-zero n))));
-      kept = y.kept;
+      beyond = drop_at h (drop 8192 w) 8192 e;
+      size = length-append h (drop 8192 w) ∙ omega (arith, length-drop 8192 w);
     }

@@ -1,13 +1,16 @@
 -- `set_way::set_powers` meets its contract. Assumes nothing.
-use native.Mathlib.Omega.{arith}
-use Rattle.set_way.proofs.Answers.{cleared-set}
+use mathlib.Core.Path.{ap, ◌∙◌}
+use mathlib.Core.List.{◌++◌}
+use lib.ListN.{drop, replicate}
+use Rattle.meaning.specs.Result.{cleared}
 use Rattle.set_way.proofs.set_powers.Goals as goal
 
-pub clear-requires : goal.clear-requires
-clear-requires c =
-    omega (arith, c.requires.in_bounds, c.search_set-found.ensures.kept.size)
-
 pub returns : goal.returns
+unfolding cleared
 returns c =
-    cleared-set c.search_set-found.ensures
-    c.clear.ensures
+    record {
+      told = c.search_set-found.ensures;
+      work =
+          ap (λ l. l ++ drop 8192 c.args.work.now)
+          (c.fill.ensures.after (λ y h. h) ∙ ap (λ n. replicate n 0) c.search_set-found.array_long);
+    }

@@ -13,7 +13,7 @@ use Rattle.meaning.specs.Sequence.{act_on_known, annihilates_known}
 use Rattle.meaning.specs.Conditions.{named, total_degree, upper_powers_out_of_range}
 use Rattle.bridge.proofs.Lists.Irreducibles.{Factors}
 use Rattle.lent.specs.halves.Halves.{half}
-use Rattle.action.specs.declared.power_action.Place.{Place}
+use Rattle.lent.specs.declared.halves.Place.{Place}
 use Rattle.lent.specs.halves.Kept.{Kept}
 
 pub record SetInput (F : Field) (fs : List Polynomial) (us ts : List ℕ) : Type 0 where

@@ -1,9 +1,7 @@
--- What the contracts of the search for the powers of a set cite. fs are the factors, us their upper powers.
+-- What the contract of the search for the powers of a set cites. fs are the factors, us their upper powers.
 --
---   PowerAlone F fs us ts w w' r == r is the power of the only factor
---   PowersSettled F fs us ts w w' r == r has the powers of the factors, a place for each
 --   PowersSearched F fs us ts w w' r == r has the powers of the factors in eight places
-use Rattle.std.specs.Prelude.{ℕ, ◌≡◌, List, [], ◌∷◌}
+use Rattle.std.specs.Prelude.{ℕ, ◌≡◌, List}
 use Rattle.std.proofs.Math.Option.{some}
 use Rattle.meaning.specs.Search.{map_option}
 use Rattle.meaning.specs.Field.{Field}
@@ -13,14 +11,6 @@ use Rattle.meaning.specs.Portion.{set_powers}
 use Rattle.meaning.specs.Answers.{padded}
 use Rattle.lent.specs.halves.Kept.{Kept}
 
-pub record PowerAlone (F : Field) (fs : List Polynomial) (us ts w w' : List ℕ) (r : ℕ) : Type 0 where
-  pub power : set_powers F (named fs us) ts ≡ some (r ∷ [])
-  pub kept : Kept w w'
-
-pub record PowersSettled (F : Field) (fs : List Polynomial) (us ts w w' r : List ℕ) : Type 0 where
-  pub powers : set_powers F (named fs us) ts ≡ some r
-  pub kept : Kept w w'
-
-pub record PowersSearched (F : Field) (fs : List Polynomial) (us ts w w' : List ℕ) (r : List ℕ) : Type 0 where
+pub record PowersSearched (F : Field) (fs : List Polynomial) (us ts w w' r : List ℕ) : Type 0 where
   pub powers : map_option padded (set_powers F (named fs us) ts) ≡ some r
   pub kept : Kept w w'

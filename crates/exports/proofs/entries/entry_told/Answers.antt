@@ -1,13 +1,13 @@
 -- `entry_told` meets its contract: at each arm the search tells what the arm names.
 -- Assumes nothing.
-use Rattle.meaning.specs.Answers.{told_entry}
+use Rattle.meaning.specs.Answers.{told_entry, told}
 use Rattle.meaning.specs.Exports.{entry_told}
 use Rattle.exports.proofs.entries.entry_told.Goals as goal
 
-pub returns-in-Found : goal.returns-in-Found
-unfolding told_entry entry_told
-returns-in-Found c = rw c.in-Found.is
+pub returns-in-Ok : goal.returns-in-Ok
+unfolding told_entry told entry_told
+returns-in-Ok c = rw c.in-Ok.is
 
-pub returns-in-Refused : goal.returns-in-Refused
-unfolding told_entry entry_told
-returns-in-Refused c = rw (c.in-Refused.is, c.refusal_number.ensures)
+pub returns-in-Err : goal.returns-in-Err
+unfolding told_entry told entry_told
+returns-in-Err c = rw (c.in-Err.is, c.into.ensures)

@@ -7,4 +7,4 @@ use Rattle.exports.proofs.ratings.refused_rating.Goals as goal
 
 pub returns : goal.returns
 unfolding padded
-returns c = ap rating_refused c.refusal_number.ensures
+returns c = ap rating_refused c.into.ensures

@@ -3,12 +3,8 @@
 use Rattle.exports.proofs.Records.{record_found, record_refused}
 use Rattle.exports.proofs.reader.gobashe_record.Goals as goal
 
-pub returns-in-Found : goal.returns-in-Found
-returns-in-Found c =
-    record_found _ _ c.record_outcome.ensures
-    c.in-Found.is c.record_body-body.ensures c.body_start.ensures
+pub returns-in-Ok : goal.returns-in-Ok
+returns-in-Ok c = record_found c.in-Ok.ensures c.into.ensures c.body_start.ensures
 
-pub returns-in-Refused : goal.returns-in-Refused
-returns-in-Refused c =
-    record_refused _ _ c.record_outcome.ensures
-    c.in-Refused.is c.refusal_number.ensures
+pub returns-in-Err : goal.returns-in-Err
+returns-in-Err c = record_refused c.in-Err.ensures c.into-in-Err.ensures

@@ -1,12 +1,10 @@
 -- `binary::leaf_binary_act` meets its contract.
 -- Assumes nothing.
-use mathlib.Core.Path.{sym, ap, ap₂, subst, ◌∙◌}
+use mathlib.Core.Path.{sym, ap, ap₂, ◌∙◌}
 use mathlib.Core.Bool.{not, ◌&&◌}
 use lib.ListN.{length}
-use Rattle.meaning.specs.declared.FieldName.{FieldName}
 use Rattle.meaning.specs.Conditions.{not_binary}
 use Rattle.meaning.specs.FieldNames.{named_field}
-use Rattle.arith.specs.Represented.{FieldMade, FieldNamed}
 use Rattle.leaves.specs.binary.Acted.{has_room}
 use Rattle.leaves.proofs.Suiting.{and_second}
 use Rattle.leaves.proofs.binary.Naming.{named-binary, declined_binary}
@@ -21,28 +19,16 @@ returns-then-not-has_room c =
     (sym c.has_room.ensures ∙ c.if-not-has_room.true))
 
 pub act_block-requires : goal.act_block-requires
-unfolding FieldMade
-act_block-requires c =
-    let name : FieldName = let a = c.args in FieldName.Binary a.degree a.low in
-    let made : FieldNamed name c.in-Made.field = subst (FieldMade _) c.in-Made.is c.named.ensures in
-    record {
-      well_formed = made.well_formed;
-      block = room_block _ _ c.has_room.ensures c.if-not-has_room.false;
-    }
+act_block-requires c = room_block _ _ c.has_room.ensures c.if-not-has_room.false
 
-pub returns-in-Made : goal.returns-in-Made
-unfolding named_field FieldMade
-returns-in-Made c =
-    let name : FieldName = let a = c.args in FieldName.Binary a.degree a.low in
-    let made : FieldNamed name c.in-Made.field = subst (FieldMade _) c.in-Made.is c.named.ensures in
+pub returns-in-Ok : goal.returns-in-Ok
+unfolding named_field
+returns-in-Ok c =
     act-acted
-    (ap₂ ◌&&◌ (sym c.has_room.ensures ∙ c.if-not-has_room.false) (named-binary made))
-    made.is_field c.act_block.ensures
+    (ap₂ ◌&&◌ (sym c.has_room.ensures ∙ c.if-not-has_room.false) (named-binary c.in-Ok.ensures))
+    c.in-Ok.ensures.is_field c.act_block.ensures
 
-pub returns-in-Refused : goal.returns-in-Refused
-unfolding FieldMade
-returns-in-Refused c =
+pub returns-in-Err : goal.returns-in-Err
+returns-in-Err c =
     let a = c.args in
-    act-kept
-    (and_second (has_room a.n (length a.w.now)) _
-    (declined_binary (subst (FieldMade _) c.in-Refused.is c.named.ensures)))
+    act-kept (and_second (has_room a.n (length a.w.now)) _ (declined_binary c.in-Err.ensures))

@@ -1,20 +1,45 @@
--- `blocks::block_is_zero` meets its contract, by the code of either characteristic. Assumes nothing.
-use mathlib.Core.Path.{ap, ◌∙◌}
-use Rattle.bridge.proofs.Sequences.KnownActions.{all_zero}
-use Rattle.arith.proofs.Represented.{odd-prime}
-use Rattle.lent.specs.blocks.Blocks.{block_on_period}
+-- `blocks::block_is_zero` meets its contract, by sums of either kind: as many as values, from the front of 256 zeros.
+-- Assumes nothing.
+use mathlib.Core.Path.{sym, ap, subst, ◌∙◌}
+use Rattle.arith.specs.Represented.{field_of}
+use Rattle.arith.specs.sums.Sums.{Room, elements_of}
+use Rattle.arith.proofs.Represented.{field-is_field}
+use Rattle.arith.proofs.Sorts.{extension-field, binary_characteristic}
+use Rattle.arith.proofs.sums.Elements.{elements-zeros}
+use Rattle.arith.proofs.sums.Rooms.{room-zeros}
+use Rattle.lent.proofs.Parts.{zeros-lent}
+use Rattle.lent.proofs.sums.Bounded.{bounded_zeros}
+use Rattle.lent.proofs.blocks.block_is_zero.Goals.{in_default-via-in-Prime+else-characteristic-ne2}
+use Rattle.lent.proofs.blocks.block_is_zero.Goals.{in_default-via-in_default}
 use Rattle.lent.proofs.blocks.block_is_zero.Goals as goal
 
-pub residues-requires : goal.residues-requires
-residues-requires c = (
-  c.requires.well_formed,
-  odd-prime c.requires.well_formed
-      (λ e. c.if-characteristic-eq2.false (c.characteristic.ensures ∙ e)),
-)
+pub sums_are_zero-requires-clause-room : goal.sums_are_zero-requires-clause-room
+sums_are_zero-requires-clause-room c =
+    subst (Room 65535) (sym (zeros-lent c.args.m 256 c.requires.small)) (room-zeros _)
 
-pub returns : goal.returns
-returns c =
-    let a = c.args in
-    c.residues_are_zero.ensures
-    ∙ ap (λ F. all_zero (block_on_period F a.f.now a.q a.ts.now a.i a.m))
-    c.residues.ensures.1
+pub sums_are_zero-requires-clause-zeros : goal.sums_are_zero-requires-clause-zeros
+sums_are_zero-requires-clause-zeros c =
+    let odd = c.in-Prime.odd in
+    ap (elements_of odd) (zeros-lent c.args.m 256 c.requires.small) ∙ elements-zeros odd _
+
+pub invariant_of-sums_are_zero : goal.invariant_of-sums_are_zero
+invariant_of-sums_are_zero c =
+    record {
+      in_characteristic_two = elim c.in_default.branch [
+        | in_default-via-in-Prime+else-characteristic-ne2 w ↦
+            ap (λ f. (field_of f).characteristic) w.field-is
+            ∙ sym w.characteristic.ensures
+            ∙ w.if-characteristic-ne2.false
+        | in_default-via-in_default w ↦
+            ap (λ f. (field_of f).characteristic) w.field-is
+            ∙ sym (ap (λ F. F.characteristic) (extension-field w.in_default.field-0 w.in_default.is))
+            ∙ binary_characteristic w.in_default.field-0
+      ];
+    }
+
+pub sums_are_zero-requires-in_default-clause-room : goal.sums_are_zero-requires-in_default-clause-room
+sums_are_zero-requires-in_default-clause-room c =
+    bounded_zeros (field-is_field c.in_default.field) (zeros-lent c.args.m 256 c.requires.small)
+
+pub sums_are_zero-requires-in_default-clause-zeros : goal.sums_are_zero-requires-in_default-clause-zeros
+sums_are_zero-requires-in_default-clause-zeros c = zeros-lent c.args.m 256 c.requires.small

@@ -1,12 +1,11 @@
 -- `halves::halves::load` meets its contract: the terms come back in the place of the part that was lent.
 -- Assumes nothing.
-use Prim.Native.Nat.{◌+◌, ◌*◌, ◌-◌}
+use Prim.Native.Nat.{◌*◌, ◌-◌}
 use mathlib.Core.Path.{refl, ap, ◌∙◌}
 use native.Mathlib.Omega.{arith}
-use lib.ListN.{length, drop, length-take}
+use lib.ListN.{length}
 use lib.Seq.{paste}
-use Rattle.arith.specs.Slices.{part}
-use Rattle.lent.proofs.Parts.{put_paste, copied}
+use Rattle.lent.proofs.Parts.{put_paste}
 use Rattle.lent.proofs.halves.Places.{placed}
 use Rattle.lent.proofs.halves.load.Goals as goal
 
@@ -16,7 +15,6 @@ returns c =
     let t = c.args.terms.now in
     let x = 4096 * c.args.h in
     let n = length t in
-    let e = c.copy.ensures
-    ∙ copied (part w x (x + n - x)) t (omega (arith, length-take (x + n - x) (drop x w))) in
+    let e = c.copy_from_slice.ensures.after in
     placed w c.args.h (1 - c.args.h) (omega arith) (omega arith) refl t (omega arith)
     (put_paste w x n _ (ap length e) ∙ ap (λ y. paste w x y n) e)

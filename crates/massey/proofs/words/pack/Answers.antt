@@ -1,26 +1,13 @@
--- `words::pack` meets its contract. The invariant: the first 64·i terms are packed. The measure is what is
--- left of the terms. Assumes nothing.
-use Prim.Native.Nat.{◌-◌, ◌*◌}
-use Rattle.massey.proofs.words.Packing.{packing_none, packing_more, packing_end}
-use native.Mathlib.Omega.{arith}
+-- `words::pack` meets its contract. The invariant: the first 64·i terms are packed. Assumes nothing.
+use Rattle.massey.proofs.words.Packing.{blocks_more, blocks_end}
 use Rattle.massey.proofs.words.pack.Goals as goal
-
-pub loop-i-init : goal.loop-i-init
-loop-i-init c = packing_none _ _ c.requires.1 c.requires.2
-
-pub overflow_mul-i : goal.overflow_mul-i
-overflow_mul-i c = omega (arith, c.loop-i.invariant.most)
-
-pub overflow_sub-f : goal.overflow_sub-f
-overflow_sub-f c = omega arith
-
-pub bounds-f-i : goal.bounds-f-i
-bounds-f-i c = omega (arith, c.loop-i.invariant.size)
 
 pub loop-i-preserved : goal.loop-i-preserved
 loop-i-preserved c =
-    packing_more c.loop-i.invariant c.packed.result (c.smaller.result - 64 * c.loop-i.i) (omega arith)
-    (omega arith) (omega arith) c.packed.ensures
+    let s = c.in-Some.ensures.steps in
+    rw (s.1, s.2)
+    (blocks_more c.loop-i.invariant c.requires.0 c.packed.result _ _ s.0.1.0 s.0.1.1 s.0.1.2 s.0.0
+    c.packed.ensures)
 
 pub returns : goal.returns
-returns c = packing_end c.loop-i.invariant (omega arith)
+returns c = blocks_end c.loop-i.invariant c.in-None.ensures.steps.0.1.0

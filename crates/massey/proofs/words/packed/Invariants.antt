@@ -1,11 +1,6 @@
--- `words::packed` meets its contract. The invariant: w is the word of the first i terms. The measure is the
--- number of those left. Assumes nothing.
-use Prim.Native.Nat.{◌-◌, ◌≤◌}
+-- `words::packed` meets its contract. The invariant: w is the word of the terms so far. Assumes nothing.
 use Rattle.massey.proofs.words.Packing.{PackingWord}
 use Rattle.massey.proofs.words.packed.Given as goal
 
-abbrev pub invariant-loop-i : goal.invariant-loop-i
-invariant-loop-i l = (l.i ≤ l.n) × PackingWord l.s l.w l.i
-
-abbrev pub decreases-loop-i : goal.decreases-loop-i
-decreases-loop-i l = l.n - l.i
+abbrev pub invariant-loop-term : goal.invariant-loop-term
+invariant-loop-term l = PackingWord l.s l.w l.term-index

@@ -1,14 +1,11 @@
 -- `words::unpack` meets its contract. The invariant: the first i bits are written. The measure is the number
 -- of those left. Assumes nothing.
 use mathlib.Core.Path.{◌∙◌}
-use Rattle.arith.proofs.Writing.{writing_none, front-more}
+use Rattle.arith.proofs.Writing.{front-more}
 use Rattle.massey.proofs.Lent.{written-end}
 use Rattle.massey.proofs.words.Packing.{length-bits, bits-next}
 use native.Mathlib.Omega.{arith}
 use Rattle.massey.proofs.words.unpack.Goals as goal
-
-pub loop-i-init : goal.loop-i-init
-loop-i-init c = (omega arith, writing_none _ 0 _ (omega arith))
 
 pub loop-i-preserved : goal.loop-i-preserved
 loop-i-preserved c =

@@ -2,20 +2,13 @@
 -- Assumes nothing.
 use native.Mathlib.Omega.{arith}
 use Rattle.arith.proofs.Represented.{field-is_field}
-use Rattle.poly.proofs.common_divisor.Euclid.{divisor-nonempty, euclid_divisible, euclid_turned}
+use Rattle.poly.proofs.common_divisor.Euclid.{divisor-nonempty, euclid_turned}
 use Rattle.poly.proofs.common_divisor.turn.Goals as goal
 
 pub overflow_sub-e : goal.overflow_sub-e
 overflow_sub-e c =
-    omega (arith, divisor-nonempty (field-is_field c.requires.well_formed) c.requires.euclidean)
-
-pub divide-requires : goal.divide-requires
-divide-requires c =
-    record {
-      well_formed = c.requires.well_formed;
-      divisible = euclid_divisible (field-is_field c.requires.well_formed) c.requires.euclidean;
-    }
+    omega (arith, divisor-nonempty (field-is_field c.args.field) c.requires)
 
 pub returns : goal.returns
 returns c =
-    euclid_turned c.requires.well_formed c.requires.euclidean c.divide.ensures c.trimmed_length.ensures
+    euclid_turned c.args.field c.requires c.divide.ensures c.trimmed_length.ensures

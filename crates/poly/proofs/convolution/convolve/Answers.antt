@@ -1,42 +1,18 @@
 -- `convolution::convolve` meets its contract. The invariant: the places after the first `left` are
 -- made, and all others as they were. The measure is `left`. Assumes nothing.
-use Prim.Native.Nat.{◌+◌, ◌-◌}
+use Prim.Native.Nat.{◌-◌}
 use mathlib.Core.Path.{refl}
-use native.Mathlib.Nat.{mod-lt}
 use native.Mathlib.Omega.{arith}
 use Rattle.arith.specs.Represented.{field_of}
-use Rattle.poly.proofs.convolution.Made.{blocks_none, blocks_next, blocks_more, blocks_all}
+use Rattle.poly.proofs.convolution.Made.{blocks_more, blocks_all}
 use Rattle.poly.proofs.convolution.convolve.Goals as goal
-
-pub loop-left-init : goal.loop-left-init
-loop-left-init c = (omega arith, blocks_none _ _ _ _ _ _ (omega arith))
-
-pub overflow_sub-n : goal.overflow_sub-n
-overflow_sub-n c =
-    let a = c.args in
-    omega (arith, mod-lt a.q {m = a.at + c.loop-left.left} (omega arith))
-
-pub act_block-requires : goal.act_block-requires
-act_block-requires c =
-    let a = c.args in
-    let h = c.smaller-count.result in record {
-      well_formed = c.requires.well_formed;
-      block = blocks_next (field_of a.field) a.f.now a.q a.w.now a.to a.at a.m c.requires.below
-          c.loop-left.invariant.0
-          c.loop-left.invariant.1
-          (c.loop-left.left - h)
-          h
-          (omega arith)
-          (omega arith)
-          (omega arith);
-    }
 
 pub loop-left-preserved : goal.loop-left-preserved
 loop-left-preserved c =
     let a = c.args in
-    let h = c.smaller-count.result in (
+    let h = c.min-count.result in (
       omega arith,
-      blocks_more (field_of a.field) a.f.now a.q a.w.now a.to a.at a.m c.requires.below
+      blocks_more (field_of a.field) a.f.now a.q a.w.now a.to a.at a.m c.requires
           c.loop-left.invariant.0
           c.loop-left.invariant.1
           (c.loop-left.left - h)
@@ -49,6 +25,6 @@ loop-left-preserved c =
 pub returns : goal.returns
 returns c =
     let a = c.args in
-    blocks_all (field_of a.field) a.f.now a.q a.w.now a.to a.at a.m c.requires.below
+    blocks_all (field_of a.field) a.f.now a.q a.w.now a.to a.at a.m c.requires
     (omega arith)
     c.loop-left.invariant.1

@@ -9,21 +9,17 @@ use Rattle.poly.proofs.division.divide.Goals as goal
 
 pub overflow_sub-e : goal.overflow_sub-e
 overflow_sub-e c =
-    omega (arith, leading-nonempty c.args.g.now c.requires.divisible.nonzero)
+    omega (arith, leading-nonempty c.args.g.now c.requires.nonzero)
 
 pub bounds-g-e : goal.bounds-g-e
 bounds-g-e c =
-    omega (arith, leading-nonempty c.args.g.now c.requires.divisible.nonzero)
+    omega (arith, leading-nonempty c.args.g.now c.requires.nonzero)
 
 pub divide_by-requires : goal.divide_by-requires
 unfolding degree
 divide_by-requires c =
     let F = field_of c.args.field in
     record {
-      well_formed = c.requires.well_formed;
-      divisible = c.requires.divisible;
+      divisible = c.requires;
       c_value = c.negative.ensures ∙ ap (negative F) c.inverse.ensures;
     }
-
-pub returns : goal.returns
-returns c = c.divide_by.ensures

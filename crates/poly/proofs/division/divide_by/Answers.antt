@@ -1,5 +1,4 @@
--- `division::divide_by` meets its contract. The invariant is `Dividing`, and the measure i.
--- Assumes nothing.
+-- `division::divide_by` meets its contract. The invariant is `Dividing`. Assumes nothing.
 use native.Mathlib.Omega.{arith}
 use Prim.Native.Nat.{◌-◌}
 use mathlib.Core.Path.{ap, ◌∙◌}
@@ -12,7 +11,7 @@ use Rattle.arith.specs.Represented.{field_of}
 use Rattle.arith.specs.Inverse.{inverse}
 use Rattle.arith.proofs.Represented.{field-is_field}
 use Rattle.poly.proofs.division.Dividing.{dividing_start, dividing_next, dividing_end}
-use Rattle.poly.proofs.division.Dividing.{lent-length-at, reduced_put_at, inverse-digit}
+use Rattle.poly.proofs.division.Dividing.{reduced_put_at, inverse-digit}
 use Rattle.poly.proofs.division.divide_by.Goals as goal
 
 pub overflow_sub-e : goal.overflow_sub-e
@@ -21,26 +20,14 @@ overflow_sub-e c =
 
 pub loop-i-init : goal.loop-i-init
 loop-i-init c =
-    dividing_start (field-is_field c.requires.well_formed) c.requires.divisible
-
-pub add_multiple-requires : goal.add_multiple-requires
-add_multiple-requires c =
-    let a = c.args in
-    let m = lent-length-at (field_of a.field) a.g.now
-    (leading-nonempty a.g.now c.requires.divisible.nonzero) c.loop-i.f (c.loop-i.i - 1) (omega arith)
-    (omega (arith, c.loop-i.invariant.within, c.loop-i.invariant.size)) c.smaller-n.result
-    (c.smaller-n.ensures ∙ omega arith) in
-    record {
-      well_formed = c.requires.well_formed;
-      b_in_bounds = m;
-    }
+    dividing_start (field-is_field c.args.field) c.requires.divisible
 
 pub loop-i-preserved : goal.loop-i-preserved
 unfolding degree
 loop-i-preserved c =
     let a = c.args in
     let F = field_of a.field in
-    let I = field-is_field c.requires.well_formed in
+    let I = field-is_field c.args.field in
     let i = c.loop-i.i - 1 in
     let b = get_or c.loop-i.f i 0 in
     let d = inverse F (get_or a.g.now (length a.g.now - 1) 0) in
@@ -49,8 +36,8 @@ loop-i-preserved c =
     (reduced_put_at F a.g.now (leading-nonempty a.g.now c.requires.divisible.nonzero) c.loop-i.f i
     (omega arith)
     (omega (arith, c.loop-i.invariant.within, c.loop-i.invariant.size))
-    c.smaller-n.result
-    (c.smaller-n.ensures ∙ omega arith)
+    c.min-n.result
+    (c.min-n.ensures ∙ omega arith)
     (F.mul d b)
     (c.product-q.ensures
     ∙ ap (λ u. F.mul u b) c.requires.c_value
@@ -59,10 +46,7 @@ loop-i-preserved c =
     ∙ ap (negative F) (number-mul_comm I b d))
     c.add_multiple.ensures)
 
-pub shape_of-f : goal.shape_of-f
-shape_of-f c = c.loop-i.invariant.size
-
 pub returns : goal.returns
 unfolding degree
 returns c =
-    dividing_end (field-is_field c.requires.well_formed) c.requires.divisible c.loop-i.invariant (omega arith)
+    dividing_end (field-is_field c.args.field) c.requires.divisible c.loop-i.invariant (omega arith)

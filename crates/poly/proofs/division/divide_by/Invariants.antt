@@ -1,5 +1,4 @@
--- `division::divide_by` meets its contract. The invariant is `Dividing`, and the measure i.
--- Assumes nothing.
+-- `division::divide_by` meets its contract. The invariant is `Dividing`. Assumes nothing.
 use lib.ListN.{get_or}
 use Rattle.meaning.specs.Polynomial.{degree}
 use Rattle.arith.specs.Represented.{field_of}
@@ -10,6 +9,3 @@ use Rattle.poly.proofs.division.divide_by.Given as goal
 abbrev pub invariant-loop-i : goal.invariant-loop-i
 invariant-loop-i l = Dividing (field_of l.field) (inverse (field_of l.field) (get_or l.g (degree l.g) 0))
     l.g l.initial.f l.f l.i
-
-abbrev pub decreases-loop-i : goal.decreases-loop-i
-decreases-loop-i l = l.i

@@ -1,5 +1,4 @@
--- `multiples::pack_multiples` meets its contract. The invariant is `Packing`, and the measure the number of
--- factors that are left. Assumes nothing.
+-- `multiples::pack_multiples` meets its contract. The invariant is `Packing`. Assumes nothing.
 use Prim.Native.Nat.{◌+◌, ◌<◌, ◌≤◌}
 use mathlib.Core.Path.{◌≡◌, refl, sym, subst, ◌∙◌}
 use mathlib.Core.List.{map}
@@ -19,16 +18,6 @@ use Rattle.poly.proofs.multiples.pack_multiples.Goals as goal
 pub loop-i-init : goal.loop-i-init
 loop-i-init c = packing_start _ _ refl
 
-pub overflow_add-at : goal.overflow_add-at
-overflow_add-at c =
-    let within : c.loop-i.i < length (lists_of c.args.factors.now) =
-    omega (arith, lists_length c.args.factors.now, c.loop-i-test.true) in
-    let fits : let fs = c.args.factors.now in
-    c.loop-i.at + length (get_or fs c.loop-i.i nowhere).now ≤ length c.loop-i.to =
-    subst (λ f. c.loop-i.at + length f ≤ length c.loop-i.to) (lists_at c.args.factors.now c.loop-i.i)
-    (multiple-room (field-is_field c.requires.well_formed) c.requires.packable (within) c.loop-i.invariant) in
-    omega (arith, fits, c.loop-i.invariant.size)
-
 pub slice_bounds-monic_multiple-end : goal.slice_bounds-monic_multiple-end
 slice_bounds-monic_multiple-end c =
     let within : c.loop-i.i < length (lists_of c.args.factors.now) =
@@ -36,7 +25,7 @@ slice_bounds-monic_multiple-end c =
     let fits : let fs = c.args.factors.now in
     c.loop-i.at + length (get_or fs c.loop-i.i nowhere).now ≤ length c.loop-i.to =
     subst (λ f. c.loop-i.at + length f ≤ length c.loop-i.to) (lists_at c.args.factors.now c.loop-i.i)
-    (multiple-room (field-is_field c.requires.well_formed) c.requires.packable (within) c.loop-i.invariant) in
+    (multiple-room (field-is_field c.args.field) c.requires (within) c.loop-i.invariant) in
     omega (arith, fits)
 
 pub monic_multiple-requires : goal.monic_multiple-requires
@@ -46,40 +35,18 @@ monic_multiple-requires c =
     let fits : let fs = c.args.factors.now in
     c.loop-i.at + length (get_or fs c.loop-i.i nowhere).now ≤ length c.loop-i.to =
     subst (λ f. c.loop-i.at + length f ≤ length c.loop-i.to) (lists_at c.args.factors.now c.loop-i.i)
-    (multiple-room (field-is_field c.requires.well_formed) c.requires.packable (within) c.loop-i.invariant) in
+    (multiple-room (field-is_field c.args.field) c.requires (within) c.loop-i.invariant) in
     let n = length (get_or c.args.factors.now c.loop-i.i nowhere).now in record {
-      well_formed = c.requires.well_formed;
       leads = subst (Leads (field_of c.args.field)) (lists_at c.args.factors.now c.loop-i.i)
-          (c.requires.packable.leads c.loop-i.i (within));
+          (c.requires.leads c.loop-i.i (within));
       f_in_bounds = omega (arith, lent_length c.loop-i.to c.loop-i.at n (fits));
     }
-
-pub bounds-lengths-i : goal.bounds-lengths-i
-bounds-lengths-i c =
-    let within : c.loop-i.i < length (lists_of c.args.factors.now) =
-    omega (arith, lists_length c.args.factors.now, c.loop-i-test.true) in
-    omega (
-      arith,
-      within,
-      c.requires.packable.few,
-      c.loop-i.invariant.nine,
-    )
-
-pub overflow_add-at-in-loop-i : goal.overflow_add-at-in-loop-i
-overflow_add-at-in-loop-i c =
-    let within : c.loop-i.i < length (lists_of c.args.factors.now) =
-    omega (arith, lists_length c.args.factors.now, c.loop-i-test.true) in
-    let fits : let fs = c.args.factors.now in
-    c.loop-i.at + length (get_or fs c.loop-i.i nowhere).now ≤ length c.loop-i.to =
-    subst (λ f. c.loop-i.at + length f ≤ length c.loop-i.to) (lists_at c.args.factors.now c.loop-i.i)
-    (multiple-room (field-is_field c.requires.well_formed) c.requires.packable (within) c.loop-i.invariant) in
-    omega (arith, fits, c.loop-i.invariant.size)
 
 pub loop-i-preserved : goal.loop-i-preserved
 loop-i-preserved c =
     let within : c.loop-i.i < length (lists_of c.args.factors.now) =
     omega (arith, lists_length c.args.factors.now, c.loop-i-test.true) in
-    multiple-packed (field-is_field c.requires.well_formed) c.requires.packable (within) c.loop-i.invariant
+    multiple-packed (field-is_field c.args.field) c.requires (within) c.loop-i.invariant
     (lists_at c.args.factors.now c.loop-i.i)
     c.monic_multiple.ensures
 

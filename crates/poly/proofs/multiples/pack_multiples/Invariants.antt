@@ -1,8 +1,5 @@
--- `multiples::pack_multiples` meets its contract. The invariant is `Packing`, and the measure the number of
--- factors that are left. Assumes nothing.
-use Prim.Native.Nat.{◌-◌}
+-- `multiples::pack_multiples` meets its contract. The invariant is `Packing`. Assumes nothing.
 use mathlib.Core.List.{map}
-use lib.ListN.{length}
 use Rattle.meaning.specs.Polynomial.{monic_multiple}
 use Rattle.meaning.specs.Slices.{lists_of}
 use Rattle.arith.specs.Represented.{field_of}
@@ -12,6 +9,3 @@ use Rattle.poly.proofs.multiples.pack_multiples.Given as goal
 abbrev pub invariant-loop-i : goal.invariant-loop-i
 invariant-loop-i l = Packing (map (monic_multiple (field_of l.field)) (lists_of l.factors)) l.initial.to l.i
     l.at l.lengths l.to
-
-abbrev pub decreases-loop-i : goal.decreases-loop-i
-decreases-loop-i l = length l.factors - l.i

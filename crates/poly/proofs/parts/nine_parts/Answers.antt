@@ -1,20 +1,18 @@
--- `parts::nine_parts` meets its contract: each slice holds its part. Assumes nothing.
-use mathlib.Core.Path.{◌∙◌}
+-- `parts::nine_parts` meets its contract. The invariant is `Parted`.
+-- Assumes nothing.
+use mathlib.Core.Path.{sym}
 use native.Mathlib.Omega.{arith}
-use Rattle.poly.proofs.parts.Splitting.{over, ◌&◌, split-length, each_lists}
+use Rattle.poly.proofs.parts.Splitting.{parted_start, parted_next, parted}
 use Rattle.poly.proofs.parts.nine_parts.Goals as goal
 
+pub loop-i-init : goal.loop-i-init
+loop-i-init c = parted_start _ _ _ (sym c.told-lengths)
+
+pub loop-i-preserved : goal.loop-i-preserved
+loop-i-preserved c =
+    parted_next c.loop-i.invariant c.split_at.result.0 (omega arith) c.min-length.ensures
+    c.split_at.ensures.front
+    c.split_at.ensures.back
+
 pub returns : goal.returns
-returns c =
-    let a = c.args in
-    each_lists _ _ (split-length a.flat.now a.lengths.now ∙ omega arith)
-    (c.part_at.ensures
-    & c.part_at-2.ensures
-    & c.part_at-3.ensures
-    & c.part_at-4.ensures
-    & c.part_at-5.ensures
-    & c.part_at-6.ensures
-    & c.part_at-7.ensures
-    & c.part_at-8.ensures
-    & c.part_at-9.ensures
-    & over)
+returns c = parted c.loop-i.invariant (omega arith)

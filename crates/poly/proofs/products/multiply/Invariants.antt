@@ -1,11 +1,7 @@
--- `products::multiply` meets its contract. The invariant is `Multiplying`, and the measure b.
--- Assumes nothing.
+-- `products::multiply` meets its contract. The invariant is `Multiplying`. Assumes nothing.
 use Rattle.arith.specs.Represented.{field_of}
 use Rattle.poly.proofs.products.Growing.{Multiplying}
 use Rattle.poly.proofs.products.multiply.Given as goal
 
 abbrev pub invariant-loop-b : goal.invariant-loop-b
 invariant-loop-b l = Multiplying (field_of l.field) l.f l.q l.initial.answer l.n l.answer l.b l.k
-
-abbrev pub decreases-loop-b : goal.decreases-loop-b
-decreases-loop-b l = l.b

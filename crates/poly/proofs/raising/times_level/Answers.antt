@@ -4,23 +4,14 @@ use Rattle.meaning.specs.Polynomial.{power}
 use Rattle.arith.specs.Represented.{field_of}
 use Rattle.lent.proofs.raising.Levels.{raised-part}
 use Rattle.poly.specs.products.Product.{Multiplied}
-use Rattle.poly.proofs.raising.Raising.{level-spread, level_growing}
+use Rattle.poly.proofs.raising.Raising.{level-spread}
 use Rattle.poly.proofs.raising.times_level.Goals as goal
-
-pub times_spreads-requires : goal.times_spreads-requires
-times_spreads-requires c =
-    record {
-      well_formed = c.requires.well_formed;
-      growing = level_growing c.requires.well_formed c.requires.levelled
-          (raised-part c.args.f.now c.raised_copy.new.to c.raised_copy.ensures) c.requires.growing;
-      t = c.requires.t;
-    }
 
 pub returns : goal.returns
 returns c =
     subst
     (λ g. Multiplied (field_of c.args.field) (power (field_of c.args.field) g c.args.count)
     c.args.answer.now c.args.n c.times_spreads.new.answer c.times_spreads.result)
-    (level-spread c.requires.well_formed c.requires.levelled
+    (level-spread c.args.field c.requires.levelled
     (raised-part c.args.f.now c.raised_copy.new.to c.raised_copy.ensures))
     c.times_spreads.ensures

@@ -4,7 +4,7 @@ use Rattle.poly.proofs.raising.Raising.{Raised}
 use Rattle.poly.proofs.raising.times_power.Given as goal
 
 abbrev pub invariant-loop-rest : goal.invariant-loop-rest
-invariant-loop-rest l = Raised l.field l.f l.r l.initial.answer l.n-2 l.answer l.n l.l l.q l.rest
+invariant-loop-rest l = Raised l.field l.f l.r l.initial.answer l.initial.n l.answer l.n l.level l.rest
 
 abbrev pub decreases-loop-rest : goal.decreases-loop-rest
 decreases-loop-rest l = l.rest

@@ -8,7 +8,6 @@ pub write_product-requires : goal.write_product-requires
 unfolding lists_of
 write_product-requires c =
     record {
-      well_formed = c.requires.well_formed;
       in_bounds = c.requires.in_bounds;
       product_input = one_input c.requires.power_input;
     }
@@ -16,4 +15,4 @@ write_product-requires c =
 pub returns : goal.returns
 unfolding lists_of
 returns c =
-    one_written (field-is_field c.requires.well_formed) c.requires.power_input c.write_product.ensures
+    one_written (field-is_field c.args.field) c.requires.power_input c.write_product.ensures

@@ -1,7 +1,5 @@
--- `product::write_product` meets its contract. The invariant: the product of the powers of the factors
--- before i is written, and n is its degree. The measure is the number of factors that are left. Assumes
--- nothing.
-use Prim.Native.Nat.{◌-◌}
+-- `product::write_product` meets its contract. The invariant: the product of the powers of the factors that
+-- have come is written, and n is its degree. Assumes nothing.
 use mathlib.Core.Path.{◌≡◌}
 use lib.ListN.{length}
 use Rattle.arith.specs.Represented.{field_of}
@@ -9,10 +7,7 @@ use Rattle.meaning.specs.Slices.{lists_of}
 use Rattle.powers.proofs.product.Products.{Multiplying}
 use Rattle.powers.proofs.product.write_product.Given as goal
 
-abbrev pub invariant-loop-i : goal.invariant-loop-i
-invariant-loop-i l = Multiplying (field_of l.field) (lists_of l.factors) l.powers l.initial.answer l.answer
-    l.i l.n
+abbrev pub invariant-loop-f : goal.invariant-loop-f
+invariant-loop-f l = Multiplying (field_of l.field) (lists_of l.set.factors.now) l.set.powers.now l.initial.answer l.answer
+    (length l.yielded) l.n
     × (length l.answer ≡ length l.initial.answer)
-
-abbrev pub decreases-loop-i : goal.decreases-loop-i
-decreases-loop-i l = length l.factors - l.i

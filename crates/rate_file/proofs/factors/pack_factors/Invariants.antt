@@ -1,12 +1,9 @@
--- `pack_factors` meets its contract. The invariant is `Packing`, and the measure the number of factors that
--- are left. Assumes nothing.
-use Prim.Native.Nat.{◌-◌}
+-- `pack_factors` meets its contract. The invariant is `Packing` of the first factors.
+-- Assumes nothing.
+use lib.ListN.{length}
 use Rattle.poly.proofs.parts.Packing.{Packing}
 use Rattle.rate_file.specs.factors.Written.{polynomials_in}
 use Rattle.rate_file.proofs.factors.pack_factors.Given as goal
 
 abbrev pub invariant-loop-i : goal.invariant-loop-i
-invariant-loop-i l = Packing (polynomials_in l.file) l.initial.to l.i l.at l.lengths l.to
-
-abbrev pub decreases-loop-i : goal.decreases-loop-i
-decreases-loop-i l = l.count - l.i
+invariant-loop-i l = Packing (polynomials_in l.file) l.initial.to (length l.yielded) l.at l.lengths l.to

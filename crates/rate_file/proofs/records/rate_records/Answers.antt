@@ -1,23 +1,14 @@
 -- `rate_records` meets its contract: the name of the field is refused, or the records are rated in it.
 -- Assumes nothing.
-use Rattle.arith.proofs.Door.{made-named}
+use Rattle.meaning.proofs.Replies.{handed_on}
 use Rattle.rate_file.proofs.records.Rates.{name_refused, name-made}
 use Rattle.rate_file.proofs.records.rate_records.Goals as goal
 
-pub rate_in-requires : goal.rate_in-requires
-rate_in-requires c =
-    record {
-      well_formed = (made-named c.of.ensures c.in-Made.is).well_formed;
-      accepted_records = c.requires;
-    }
+pub returns-in_err-field : goal.returns-in_err-field
+returns-in_err-field c =
+    name_refused c.try_from.ensures _ c.field_name.ensures c.requires.0 c.in_err-field.was
+    (handed_on c.from_residual.result c.from_residual.ensures)
 
-pub returns-in-Refused : goal.returns-in-Refused
-returns-in-Refused c =
-    name_refused c.of.ensures _ c.field_name.ensures c.requires.0 c.in-Refused.is
-    c.of_refusal.ensures
-
-pub returns-in-Made : goal.returns-in-Made
-returns-in-Made c =
-    name-made c.of.ensures _ c.field_name.ensures c.requires.0
-    c.in-Made.is
-    c.rate_in.ensures
+pub returns : goal.returns
+returns c =
+    name-made c.try_from.ensures _ c.field_name.ensures c.requires.0 c.in_ok-field.was c.rate_in.ensures

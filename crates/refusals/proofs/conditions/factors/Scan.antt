@@ -3,15 +3,20 @@
 --   Scan R t         == R says whether some element passes the test t, which sees the elements after it too
 --   some-scan        == `holds_for_some` is such a look through
 --   equal-scan       == so is `two_equal`: the test finds the element again among those after it
+--   any-holds        == what `any` answers of the factors in a slice of slices
 -- Assumes nothing.
-use Prim.Native.Nat.{ℕ, ◌+◌, ◌≤◌, ◌<◌}
+use Prim.Native.Nat.{ℕ, ◌+◌, ◌-◌, ◌≤◌, ◌<◌}
 use native.Mathlib.Numerals.{add-one}
 use mathlib.Core.Path.{◌≡◌, refl, sym, ap, ◌∙◌}
 use mathlib.Core.Bool.{Bool, true, false, ◌||◌}
 use mathlib.Core.List.{List, [], ◌∷◌}
-use lib.ListN.{length, get_or, drop, drop_of_length-le}
+use native.Mathlib.Omega.{arith}
+use lib.ListN.{length, get_or, take, drop, drop_of_length-le, length-drop}
+use lib.Seq.{take_all}
+use Rattle.std.specs.List.{drop-map}
 use lib.Seq.{drop-cons}
 use denote.Ref.{Bor}
+use Rattle.std.specs.List.{list_any}
 use Rattle.meaning.specs.Search.{holds_for_some}
 use Rattle.meaning.specs.Polynomial.{Polynomial, same}
 use Rattle.meaning.specs.Conditions.{two_equal}
@@ -59,3 +64,19 @@ module _ {R : List Polynomial → Bool} {t : Polynomial → List Polynomial → 
 
   pub factors_over : length fs ≤ i → false ≡ x
   factors_over h = scan_over scan [] (lists_of fs) i e (rw lists_length h)
+
+pub any-holds : (t : Polynomial → Bool) (fs : List (Bor (List ℕ)))
+    → list_any (λ f. t f.now) fs ≡ holds_for_some t (lists_of fs)
+unfolding holds_for_some lists_of
+any-holds t [] = refl
+any-holds t (f ∷ fs) =
+    ap (λ (x : Bool). t f.now || x) (any-holds t fs) ∙ sym (either (t f.now) (holds_for_some t (lists_of fs)))
+
+-- the lists of the slices from place i on
+pub rest_of : (t : Polynomial → Bool) (fs : List (Bor (List ℕ))) (i : ℕ)
+    → holds_for_some t (lists_of (take (length fs - i) (drop i fs))) ≡ holds_for_some t (drop i (lists_of fs))
+unfolding lists_of
+rest_of t fs i =
+    ap (λ (l : List (Bor (List ℕ))). holds_for_some t (lists_of l))
+    (take_all (length fs - i) (drop i fs) (simp length-drop (omega arith)))
+    ∙ ap (holds_for_some t) (sym (drop-map _ i fs))

@@ -34,37 +34,31 @@ unfolding term_out_of_field are_elements holds_for_all
 empty-terms_pass F [] h = refl
 empty-terms_pass F (t ∷ ts) h = absurd (omega arith)
 
--- the three grounds of refusal 11
--- 11
+pub leading_none : (f : List ℕ) → length f ≡ 0 → 0 ≡ leading f
+unfolding leading
+leading_none [] h = refl
+leading_none (c ∷ f) h = absurd (omega arith)
+
+-- the two grounds of refusal 11
 pub foreign_coefficient : (F : Field) (f : List ℕ) → term_out_of_field F f ≡ true
     → true ≡ coefficient_out_of_range F f
 unfolding term_out_of_field coefficient_out_of_range
 foreign_coefficient F f h = rw h
 
-pub empty-coefficient : (F : Field) (f : List ℕ) → length f ≡ 0 → true ≡ coefficient_out_of_range F f
-unfolding coefficient_out_of_range are_elements holds_for_all leading
-empty-coefficient F [] h = refl
-empty-coefficient F (c ∷ f) h = absurd (omega arith)
-
 pub leading-coefficient : (F : Field) (f : List ℕ) → term_out_of_field F f ≡ false
-    → eqb (get_or f (length f - 1) 0) 0 ≡ coefficient_out_of_range F f
+    → eqb (leading f) 0 ≡ coefficient_out_of_range F f
 unfolding term_out_of_field coefficient_out_of_range
-leading-coefficient F f h = rw (h, leading-last f)
+leading-coefficient F f h = rw h
 
 -- not monic
 pub foreign_not-monic : (F : Field) (f : List ℕ) → term_out_of_field F f ≡ true → true ≡ not_monic F f
 unfolding term_out_of_field not_monic
 foreign_not-monic F f h = rw h
 
-pub empty-not-monic : (F : Field) (f : List ℕ) → length f ≡ 0 → true ≡ not_monic F f
-unfolding not_monic are_elements holds_for_all is_monic leading
-empty-not-monic F [] h = refl
-empty-not-monic F (c ∷ f) h = absurd (omega arith)
-
 pub leading-not-monic : (F : Field) (f : List ℕ) → term_out_of_field F f ≡ false
-    → not (eqb (get_or f (length f - 1) 0) 1) ≡ not_monic F f
+    → not (eqb (leading f) 1) ≡ not_monic F f
 unfolding term_out_of_field not_monic is_monic
-leading-not-monic F f h = rw (h, leading-last f)
+leading-not-monic F f h = rw h
 
 -- the degree is one less than the length, so is its limit
 pub degree_limit : (n b : ℕ) → ltb (suc b) n ≡ ltb b (n - 1)

@@ -21,28 +21,28 @@ returns-then-factor_count_out_of_range c =
     ∙ ap factor_count_out_of_range (sym (lists_length c.args.factors.now)) in
     first_here _ _ counted c.if-factor_count_out_of_range.true
 
-pub returns-then-holds_for_some : goal.returns-then-holds_for_some
+pub returns-then-some_degree_out_of_range : goal.returns-then-some_degree_out_of_range
 unfolding number_in number_of factors_table
-returns-then-holds_for_some c =
+returns-then-some_degree_out_of_range c =
     let table : List Check = factors_table (field_of c.args.field) (lists_of c.args.factors.now) in
     let counted : c.factor_count_out_of_range.result
     ≡ factor_count_out_of_range (length (lists_of c.args.factors.now)) = c.factor_count_out_of_range.ensures
     ∙ ap factor_count_out_of_range (sym (lists_length c.args.factors.now)) in
     let passed-1 : Passed 1 table = first_skip _ _ counted c.if-factor_count_out_of_range.false in
-    first_here _ _ c.holds_for_some.ensures c.if-holds_for_some.true
+    first_here _ _ c.some_degree_out_of_range.ensures c.if-some_degree_out_of_range.true
     ∙ sym passed-1
 
-pub returns-then-holds_for_some-2 : goal.returns-then-holds_for_some-2
+pub returns-then-some_coefficient_out_of_range : goal.returns-then-some_coefficient_out_of_range
 unfolding number_in number_of factors_table
-returns-then-holds_for_some-2 c =
+returns-then-some_coefficient_out_of_range c =
     let table : List Check = factors_table (field_of c.args.field) (lists_of c.args.factors.now) in
     let counted : c.factor_count_out_of_range.result
     ≡ factor_count_out_of_range (length (lists_of c.args.factors.now)) = c.factor_count_out_of_range.ensures
     ∙ ap factor_count_out_of_range (sym (lists_length c.args.factors.now)) in
     let passed-1 : Passed 1 table = first_skip _ _ counted c.if-factor_count_out_of_range.false in
     let passed-2 : Passed 2 table = passed-1
-    ∙ first_skip _ _ c.holds_for_some.ensures c.if-holds_for_some.false in
-    first_here _ _ c.holds_for_some-2.ensures c.if-holds_for_some-2.true
+    ∙ first_skip _ _ c.some_degree_out_of_range.ensures c.if-some_degree_out_of_range.false in
+    first_here _ _ c.some_coefficient_out_of_range.ensures c.if-some_coefficient_out_of_range.true
     ∙ sym passed-2
 
 pub returns : goal.returns
@@ -54,7 +54,7 @@ returns c =
     ∙ ap factor_count_out_of_range (sym (lists_length c.args.factors.now)) in
     let passed-1 : Passed 1 table = first_skip _ _ counted c.if-factor_count_out_of_range.false in
     let passed-2 : Passed 2 table = passed-1
-    ∙ first_skip _ _ c.holds_for_some.ensures c.if-holds_for_some.false in
+    ∙ first_skip _ _ c.some_degree_out_of_range.ensures c.if-some_degree_out_of_range.false in
     let passed-3 : Passed 3 table = passed-2
-    ∙ first_skip _ _ c.holds_for_some-2.ensures c.if-holds_for_some-2.false in
+    ∙ first_skip _ _ c.some_coefficient_out_of_range.ensures c.if-some_coefficient_out_of_range.false in
     first-nowhere ∙ sym passed-3

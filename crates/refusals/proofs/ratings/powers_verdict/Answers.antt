@@ -21,13 +21,13 @@ returns-then-upper_powers_out_of_range c =
 pub returns-then-fewer_terms_than : goal.returns-then-fewer_terms_than
 unfolding number_in number_of powers_table
 returns-then-fewer_terms_than c =
-    let pairs : List (Polynomial × ℕ) = named (lists_of c.args.factors.now) c.args.uppers.now in
+    let pairs : List (Polynomial × ℕ) = named (lists_of c.args.set.factors.now) c.args.set.powers.now in
     let counted : c.fewer_terms_than.result
     ≡ fewer_terms_than (total_degree pairs) c.args.terms.now = let passed =
     sym c.upper_powers_out_of_range.ensures ∙ c.if-upper_powers_out_of_range.false in
     c.fewer_terms_than.ensures
     ∙ ap (λ (d : ℕ). fewer_terms_than d c.args.terms.now)
-    (c.requires ∙ (total-known _ passed).1) in
+    (c.total_degree.ensures ∙ (total-known _ passed).1) in
     let table : List Check = powers_table pairs c.args.terms.now c.args.answer c.args.work in
     let passed-1 : Passed 1 table =
     first_skip _ _ c.upper_powers_out_of_range.ensures c.if-upper_powers_out_of_range.false in
@@ -37,7 +37,7 @@ returns-then-fewer_terms_than c =
 pub returns : goal.returns
 unfolding powers_table
 returns c =
-    let pairs : List (Polynomial × ℕ) = named (lists_of c.args.factors.now) c.args.uppers.now in
+    let pairs : List (Polynomial × ℕ) = named (lists_of c.args.set.factors.now) c.args.set.powers.now in
     let table : List Check = powers_table pairs c.args.terms.now c.args.answer c.args.work in
     let passed-1 : Passed 1 table =
     first_skip _ _ c.upper_powers_out_of_range.ensures c.if-upper_powers_out_of_range.false in
@@ -46,7 +46,7 @@ returns c =
     sym c.upper_powers_out_of_range.ensures ∙ c.if-upper_powers_out_of_range.false in
     c.fewer_terms_than.ensures
     ∙ ap (λ (d : ℕ). fewer_terms_than d c.args.terms.now)
-    (c.requires ∙ (total-known _ passed).1) in
+    (c.total_degree.ensures ∙ (total-known _ passed).1) in
     let passed-2 : Passed 2 table = passed-1
     ∙ first_skip _ _ counted c.if-fewer_terms_than.false in
     c.lent_verdict.ensures ∙ sym passed-2

@@ -1,11 +1,7 @@
--- `multiples::first_multiple` meets its contract. The invariant is `Trying`, and the measure what is left of
--- the limit. Assumes nothing.
-use Prim.Native.Nat.{◌+◌, ◌-◌, ◌≤◌}
+-- `multiples::first_multiple` meets its contract. The invariant is `Trying`. Assumes nothing.
+use Prim.Native.Nat.{◌+◌, ◌≤◌}
 use Rattle.repeat.proofs.multiples.Trying.{Trying}
 use Rattle.repeat.proofs.multiples.first_multiple.Given as goal
 
 abbrev pub invariant-loop-k : goal.invariant-loop-k
 invariant-loop-k l = (l.k ≤ l.limit + l.m) × Trying l.m l.n l.k
-
-abbrev pub decreases-loop-k : goal.decreases-loop-k
-decreases-loop-k l = l.limit + l.m - l.k

@@ -1,32 +1,13 @@
--- `framing::count_of` meets its contract. The count and the records of the kind from `at` on are all of the
--- kind; each that is counted lies before `at`, so the count does not wrap.
+-- `framing::count_of` meets its contract: each record takes a byte at least, so the count does not wrap.
 -- Assumes nothing.
-use mathlib.Core.Path.{ap, ◌∙◌}
-use native.Mathlib.Nat.{zero-add}
-use native.Mathlib.Omega.{arith}
-use borrow.Author.Rules.{rules}
-use lib.ListN.{length}
-use Rattle.route.proofs.framing.Frames.{length-sought, length_over}
+use Rattle.std.proofs.Common.{inl, ap, length, arith}
+use Rattle.route.specs.kind.Kinds.{code}
+use Rattle.route.specs.framing.Framing.{records_from}
+use Rattle.route.proofs.framing.Frames.{bodies_few, records-size}
 use Rattle.route.proofs.framing.count_of.Goals as goal
 
-pub loop-at-init : goal.loop-at-init
-loop-at-init c = (zero-add _ ∙ ap length c.seek-at.ensures.skipped, c.seek-at.ensures.found, search rules)
-
-pub loop-at-smaller : goal.loop-at-smaller
-loop-at-smaller c = omega (arith, c.next_place.ensures.place, c.seek-at-in-loop-at.ensures.onwards)
-
-pub loop-at-preserved : goal.loop-at-preserved
-loop-at-preserved c = (
-  omega (
-    arith,
-    length-sought c.next_place.ensures (search rules) c.seek-at-in-loop-at.ensures
-        (c.loop-at.invariant.1 (search rules)),
-  ),
-  c.seek-at-in-loop-at.ensures.found,
-  omega (arith, c.next_place.ensures.place, c.seek-at-in-loop-at.ensures.onwards),
-)
-
-pub returns : goal.returns
-returns c =
-    let a = c.args in
-    omega (arith, length_over a.file.now a.kind c.loop-at.at c.loop-at-test.false)
+pub count-requires-clause-fits : goal.count-requires-clause-fits
+count-requires-clause-fits c =
+    let file = c.args.file.now in
+    let few = bodies_few (code c.args.kind) (records_from file 0) in
+    inl (omega (arith, ap length c.of.ensures, few, records-size file))

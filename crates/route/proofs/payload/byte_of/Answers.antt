@@ -7,4 +7,4 @@ use Rattle.route.proofs.payload.byte_of.Goals as goal
 
 pub returns : goal.returns
 unfolding byte_of
-returns c = c.byte_at.ensures ∙ ap (λ l. get_or l 0 0) c.body_of.ensures
+returns c = c.byte_at.ensures ∙ ap (λ l. get_or l 0 0) c.first_body.ensures

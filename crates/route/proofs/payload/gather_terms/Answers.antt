@@ -1,44 +1,56 @@
--- `payload::gather_terms` meets its contract. The count and the number of the terms from `at` on are all,
--- their stores leave what all stores leave, and at most `at` terms lie before `at`, so the count does not
--- wrap.
+-- `payload::gather_terms` meets its contract. The count and the number of the terms that are left are all,
+-- their stores leave what all stores leave, and no more terms were counted than bytes were read.
 -- Assumes nothing.
-use mathlib.Core.Path.{refl, sym, ap, ◌∙◌}
-use native.Mathlib.Nat.{zero-add}
+use mathlib.Core.Path.{sym, ap, ◌∙◌}
 use native.Mathlib.Omega.{arith}
-use borrow.Author.Rules.{rules}
-use lib.ListN.{length, get_or}
-use Rattle.route.proofs.framing.Frames.{length-small}
-use Rattle.route.proofs.payload.Terms.{count-split, stores_split, terms-short, terms_over}
+use lib.ListN.{length}
+use lib.Seq.{sets}
+use Rattle.meaning.specs.File.{terms_of}
+use Rattle.route.specs.framing.Iterating.{left, size_of}
+use Rattle.route.proofs.framing.Frames.{records-size}
+use Rattle.route.proofs.payload.Terms.{count_split, stores_split, size_split}
 use Rattle.route.proofs.payload.gather_terms.Goals as goal
 
-pub loop-at-init : goal.loop-at-init
-loop-at-init c = (zero-add _, refl, search rules, refl)
+pub loop-record-init : goal.loop-record-init
+loop-record-init c =
+    let i = c.into_iter-record-iterator.ensures.into_iter_gives in
+    let e = ap left i ∙ c.of-record-items.ensures in record {
+      count = omega (arith, ap (λ rs. length (terms_of rs)) e);
+      stores = ap (λ rs. sets c.args.terms.now 0 (terms_of rs)) e;
+      few = omega (arith, ap size_of e, records-size c.args.file.now);
+    }
 
 pub overflow_add-count : goal.overflow_add-count
 overflow_add-count c =
-    let a = c.args in
-    omega (arith, c.terms_at-found.ensures.short, length-small (get_or a.file.now c.loop-at.at 0))
+    let e = c.in-Some.ensures.steps in
+    let split = size_split c.terms_in-found.ensures (left c.next.new.self) in
+    omega (arith, ap size_of e, split, c.loop-record.invariant.few)
 
-pub loop-at-smaller : goal.loop-at-smaller
-loop-at-smaller c = omega (arith, c.next_place-at.ensures.place)
-
-pub loop-at-preserved : goal.loop-at-preserved
-loop-at-preserved c = (
-  omega (arith, count-split c.terms_at-found.ensures c.next_place-at.ensures),
-  (rw c.lay.ensures (sym (stores_split c.terms_at-found.ensures c.next_place-at.ensures c.loop-at.terms
-      c.loop-at.count) ∙ c.loop-at.invariant.1)),
-  terms-short c.terms_at-found.ensures c.next_place-at.ensures c.loop-at.count c.loop-at.invariant.2,
-  c.lay.auto.to ∙ c.loop-at.invariant.3,
-)
-
-pub shape_of-terms : goal.shape_of-terms
-shape_of-terms c = c.loop-at.invariant.3
+pub loop-record-preserved : goal.loop-record-preserved
+loop-record-preserved c =
+    let e = c.in-Some.ensures.steps in
+    let rs = left c.next.new.self in record {
+      count =
+          omega (
+            arith,
+            ap (λ rs. length (terms_of rs)) e,
+            count_split c.terms_in-found.ensures rs,
+            c.loop-record.invariant.count,
+          );
+      stores =
+          rw c.lay.ensures
+          (sym (stores_split c.terms_in-found.ensures rs c.loop-record.terms c.loop-record.count)
+          ∙ sym (ap (λ rs. sets c.loop-record.terms c.loop-record.count (terms_of rs)) e)
+          ∙ c.loop-record.invariant.stores);
+      few = omega (arith, ap size_of e, size_split c.terms_in-found.ensures rs, c.loop-record.invariant.few);
+    }
 
 pub returns : goal.returns
+unfolding terms_of
 returns c =
-    let e = terms_over c.args.file.now c.loop-at.at c.loop-at-test.false in
-    record {
-      count = omega (arith, c.loop-at.invariant.0, ap length e);
+    let e = c.in-None.ensures.steps.0 in record {
+      count = omega (arith, c.loop-record.invariant.count, ap (λ rs. length (terms_of rs)) e);
       bytes =
-          (rw e at c.loop-at.invariant.1);
+          sym (ap (λ rs. sets c.loop-record.terms c.loop-record.count (terms_of rs)) e)
+          ∙ c.loop-record.invariant.stores;
     }

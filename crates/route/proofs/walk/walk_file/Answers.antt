@@ -1,40 +1,39 @@
--- `walk::walk_file` meets its contract. What is left of the walk has the verdict of the whole.
+-- `walk::walk_file` meets its contract. The records that are left have the verdict of all.
 -- Assumes nothing.
-use mathlib.Core.Path.{refl, sym, ◌∙◌}
-use native.Mathlib.Omega.{arith}
-use borrow.Author.Rules.{rules}
-use Rattle.meaning.specs.Answers.{number_of}
-use Rattle.route.specs.walk.Walking.{stage_of, told_verdict}
-use Rattle.route.proofs.walk.Steps.{turn-onwards, turn-kept, turn_bad, over_early, over_late}
+use Rattle.std.proofs.Common.{[], sym, ◌∙◌, ap}
+use Rattle.meaning.proofs.Replies.{handed_on}
+use Rattle.meaning.specs.Answers.{number_of, told}
+use Rattle.meaning.specs.Route.{at_start}
+use Rattle.route.specs.framing.Framing.{records_from}
+use Rattle.route.specs.walk.Walking.{stage_of, judged, told_verdict}
+use Rattle.route.proofs.walk.Judging.{judged-walk, turn-kept, turn-bad, judged_end, judged_early}
 use Rattle.route.proofs.walk.walk_file.Goals as goal
 
-pub loop-at-init : goal.loop-at-init
-unfolding stage_of
-loop-at-init c = (search rules, refl)
+pub returns-in_err-stage : goal.returns-in_err-stage
+unfolding told_verdict told records_from
+returns-in_err-stage c =
+    let q = handed_on c.from_residual.result c.from_residual.ensures in
+    rw q
+    (sym (turn-bad c.step.ensures c.in_err-stage.was _)
+    ∙ sym (ap (λ rs. judged rs (stage_of c.loop-record.stage)) c.in-Some.ensures.steps)
+    ∙ c.loop-record.invariant ∙ sym (judged-walk c.args.file.now 0 at_start))
 
-pub loop-at-smaller : goal.loop-at-smaller
-loop-at-smaller c =
-    omega (arith, turn-onwards c.step_from-found.ensures c.in-Good.is)
+pub loop-record-preserved : goal.loop-record-preserved
+loop-record-preserved c =
+    sym (turn-kept c.step.ensures c.in_ok-stage.was _)
+    ∙ sym (ap (λ rs. judged rs (stage_of c.loop-record.stage)) c.in-Some.ensures.steps)
+    ∙ c.loop-record.invariant
 
-pub loop-at-preserved : goal.loop-at-preserved
-loop-at-preserved c =
-    let e = c.in-Good.is in (
-      (turn-onwards c.step_from-found.ensures e).1,
-      sym (turn-kept c.step_from-found.ensures e) ∙
-          c.loop-at.invariant.1,
-    )
+pub returns-in-End : goal.returns-in-End
+unfolding told_verdict told records_from
+returns-in-End c =
+    sym judged_end ∙ ap (λ s. judged [] (stage_of s)) (sym c.in-End.is)
+    ∙ sym (ap (λ rs. judged rs (stage_of c.loop-record.stage)) c.in-None.ensures.steps.0)
+    ∙ c.loop-record.invariant ∙ sym (judged-walk c.args.file.now 0 at_start)
 
-pub returns-in-Bad : goal.returns-in-Bad
-unfolding told_verdict
-returns-in-Bad c =
-    sym (turn_bad c.step_from-found.ensures c.in-Bad.is) ∙ c.loop-at.invariant.1
-
-pub returns-then-stage-lt5 : goal.returns-then-stage-lt5
-unfolding told_verdict number_of
-returns-then-stage-lt5 c =
-    sym (over_early _ _ _ c.loop-at-test.false (search rules)) ∙ c.loop-at.invariant.1
-
-pub returns-else-stage-lt5 : goal.returns-else-stage-lt5
-unfolding told_verdict number_of
-returns-else-stage-lt5 c =
-    sym (over_late _ _ _ c.loop-at-test.false (search rules)) ∙ c.loop-at.invariant.1
+pub returns-in_default : goal.returns-in_default
+unfolding told_verdict told number_of records_from
+returns-in_default c =
+    sym (judged_early c.loop-record.stage c.in_default.not-End)
+    ∙ sym (ap (λ rs. judged rs (stage_of c.loop-record.stage)) c.in-None.ensures.steps.0)
+    ∙ c.loop-record.invariant ∙ sym (judged-walk c.args.file.now 0 at_start)

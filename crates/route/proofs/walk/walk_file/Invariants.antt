@@ -1,15 +1,12 @@
--- `walk::walk_file` meets its contract. What is left of the walk has the verdict of the whole.
+-- `walk::walk_file` meets its contract. The records that are left have the verdict of all.
 -- Assumes nothing.
-use Prim.Native.Nat.{◌≤◌, ◌-◌}
 use mathlib.Core.Path.{◌≡◌}
-use lib.ListN.{length, drop}
-use Rattle.meaning.specs.Route.{walk, at_start}
-use Rattle.route.specs.walk.Walking.{stage_of, verdict_of}
+use Rattle.meaning.specs.Route.{at_start}
+use Rattle.route.specs.framing.Framing.{records_from}
+use Rattle.route.specs.framing.Iterating.{left}
+use Rattle.route.specs.walk.Walking.{stage_of, judged}
 use Rattle.route.proofs.walk.walk_file.Given as goal
 
-abbrev pub invariant-loop-at : goal.invariant-loop-at
-invariant-loop-at l = (l.at ≤ length l.file) × (verdict_of (walk (drop l.at l.file) 0 (stage_of l.stage)) ≡
-    verdict_of (walk l.file 0 at_start))
-
-abbrev pub decreases-loop-at : goal.decreases-loop-at
-decreases-loop-at l = length l.file - l.at
+abbrev pub invariant-loop-record : goal.invariant-loop-record
+invariant-loop-record l =
+    judged (left l.record-iterator) (stage_of l.stage) ≡ judged (records_from l.file 0) at_start

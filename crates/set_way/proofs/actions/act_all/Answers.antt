@@ -1,77 +1,38 @@
--- `actions::act_all` meets its contract. The invariant: what the factors before j leave of the terms stands
--- in half `at`. The measure is the number of factors that are left. Assumes nothing.
-use Prim.Native.Nat.{◌<◌}
-use mathlib.Core.Path.{sym, subst, ◌∙◌}
+-- `actions::act_all` meets its contract. The invariant: what the factors that have come leave of the terms
+-- stands at `at`. Assumes nothing.
 use native.Mathlib.Omega.{arith}
-use lib.ListN.{length, get_or}
-use Rattle.meaning.specs.Slices.{lists_of}
-use Rattle.meaning.proofs.Slices.{lists_length, lists_at}
-use Rattle.action.specs.power_action.Acting.{Actable, PowerActed}
-use Rattle.set_way.proofs.actions.Inputs.{input_index}
-use Rattle.set_way.proofs.actions.Loaded.{set_halves}
+use borrow.Author.Rules.{rules}
+use lib.ListN.{length-append}
+use Rattle.meaning.proofs.Slices.{lists_length}
+use Rattle.powers.proofs.product.Pairs.{pair_turn, pairs_end}
+use Rattle.set_way.proofs.actions.Inputs.{enough_uppers}
 use Rattle.set_way.proofs.actions.Passing.{passing_start, passing_actable, passing_more}
 use Rattle.set_way.proofs.actions.Passing.{passing_end}
 use Rattle.set_way.proofs.actions.act_all.Goals as goal
 
-pub load-requires : goal.load-requires
-load-requires c = set_halves c.requires.set_input c.requires.in_bounds
+pub loop-f-init : goal.loop-f-init
+loop-f-init c = passing_start c.args.field c.requires.set_input c.requires.in_bounds c.load.ensures
 
-pub loop-j-init : goal.loop-j-init
-loop-j-init c =
-    passing_start c.requires.well_formed c.requires.set_input c.requires.in_bounds c.load.ensures
+pub act_power-at-requires-clause-actable : goal.act_power-at-requires-clause-actable
+act_power-at-requires-clause-actable c =
+    let pair =
+    pair_turn c.args.set.factors.now c.args.set.powers.now c.loop-f.yielded _ _ c.next.new.self _ (search rules)
+    (search rules) c.loop-f.yielded_by _ c.in-Some.is c.next.ensures.steps in
+    rw (← pair.factor, ← pair.power)
+    (passing_actable c.args.field c.requires.set_input c.loop-f.invariant pair.has_factor)
 
-pub offset_bounds-uppers-j : goal.offset_bounds-uppers-j
-offset_bounds-uppers-j c =
-    let factor-index : c.loop-j.j < length (lists_of c.args.factors.now) =
-    rw lists_length c.loop-j-test.true in
-    let upper-index : c.loop-j.j < length c.args.uppers.now =
-    input_index c.requires.set_input c.loop-j.j factor-index in
-    omega (arith, upper-index, c.well_formed)
-
-pub bounds-uppers-j : goal.bounds-uppers-j
-bounds-uppers-j c =
-    let factor-index : c.loop-j.j < length (lists_of c.args.factors.now) =
-    rw lists_length c.loop-j-test.true in
-    let upper-index : c.loop-j.j < length c.args.uppers.now =
-    input_index c.requires.set_input c.loop-j.j factor-index in
-    upper-index
-
-pub act_power-left-requires : goal.act_power-left-requires
-act_power-left-requires c =
-    let factor-index : c.loop-j.j < length (lists_of c.args.factors.now) =
-    rw lists_length c.loop-j-test.true in
-    record {
-      well_formed = c.requires.well_formed;
-      halves = c.loop-j.invariant.halves;
-      actable = subst
-          (λ f.
-          Actable c.args.field c.loop-j.work c.loop-j.at c.loop-j.count f
-          (get_or c.args.uppers.now c.loop-j.j 0))
-          (lists_at c.args.factors.now c.loop-j.j)
-          (passing_actable c.requires.well_formed c.requires.set_input c.loop-j.invariant factor-index);
-    }
-
-pub overflow_add-j : goal.overflow_add-j
-overflow_add-j c = omega arith
-
-pub loop-j-smaller : goal.loop-j-smaller
-loop-j-smaller c = omega arith
-
-pub loop-j-preserved : goal.loop-j-preserved
-loop-j-preserved c =
-    let factor-index : c.loop-j.j < length (lists_of c.args.factors.now) =
-    rw lists_length c.loop-j-test.true in
-    passing_more c.requires.well_formed c.requires.set_input c.loop-j.invariant factor-index
-    (subst
-    (λ f.
-    PowerActed c.args.field c.loop-j.work c.loop-j.at c.loop-j.count f (get_or c.args.uppers.now c.loop-j.j 0)
-    c.act_power-left.new.work c.act_power-left.result)
-    (sym (lists_at c.args.factors.now c.loop-j.j)) c.act_power-left.ensures)
-
-pub shape_of-work : goal.shape_of-work
-shape_of-work c = c.loop-j.invariant.kept.size ∙ c.load.ensures.size
+pub loop-f-preserved : goal.loop-f-preserved
+loop-f-preserved c =
+    let pair =
+    pair_turn c.args.set.factors.now c.args.set.powers.now c.loop-f.yielded _ _ c.next.new.self _ (search rules)
+    (search rules) c.loop-f.yielded_by _ c.in-Some.is c.next.ensures.steps in
+    rw length-append
+    (passing_more c.args.field c.requires.set_input c.loop-f.invariant pair.has_factor
+    (rw (pair.factor, pair.power) c.act_power-at.ensures))
 
 pub returns : goal.returns
 returns c =
-    passing_end c.requires.well_formed c.requires.set_input c.loop-j.invariant c.load.ensures
-    (rw lists_length c.loop-j-test.false)
+    passing_end c.args.field c.requires.set_input c.loop-f.invariant c.load.ensures
+    (pairs_end c.args.set.factors.now c.args.set.powers.now c.loop-f.yielded _ _ c.next.new.self _
+    (search rules) (search rules) c.loop-f.yielded_by c.in-None.is c.next.ensures.steps
+    (omega (arith, enough_uppers c.requires.set_input, lists_length c.args.set.factors.now)))

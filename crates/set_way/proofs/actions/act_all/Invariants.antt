@@ -1,14 +1,11 @@
--- `actions::act_all` meets its contract. The invariant: what the factors before j leave of the terms stands
--- in half `at`. The measure is the number of factors that are left. Assumes nothing.
-use Prim.Native.Nat.{◌-◌}
+-- `actions::act_all` meets its contract. The invariant: what the factors that have come leave of the terms
+-- stands at `at`. Assumes nothing.
 use lib.ListN.{length}
 use Rattle.meaning.specs.Slices.{lists_of}
 use Rattle.set_way.proofs.actions.Passing.{Passing}
 use Rattle.set_way.proofs.actions.act_all.Given as goal
 
-abbrev pub invariant-loop-j : goal.invariant-loop-j
-invariant-loop-j l = Passing l.field (lists_of l.factors) l.uppers l.terms l.initial.work l.work l.at
-    l.count l.j
-
-abbrev pub decreases-loop-j : goal.decreases-loop-j
-decreases-loop-j l = length l.factors - l.j
+abbrev pub invariant-loop-f : goal.invariant-loop-f
+invariant-loop-f l =
+    Passing l.field (lists_of l.set.factors.now) l.set.powers.now l.terms l.initial.work l.work
+    l.at.half l.at.count (length l.yielded)

@@ -5,15 +5,15 @@ use Rattle.arith.proofs.extension.ExtensionField.double.Goals as goal
 
 pub overflow_cast-result : goal.overflow_cast-result
 overflow_cast-result c =
-    let w = c.requires.well_formed_extension in omega (arith, size-high w, w.size_is_right)
+    let w = c.args.self in omega (arith, size-high w, w.size_is_right)
 
 pub overflow_cast-result-else-d-self : goal.overflow_cast-result-else-d-self
 overflow_cast-result-else-d-self c =
-    omega (arith, double_byte c.requires.well_formed_extension c.args.x c.requires.x_bound)
+    omega (arith, double_byte c.args.self c.args.x c.requires)
 
 pub returns-then-d-self : goal.returns-then-d-self
-returns-then-d-self c = double-kept c.requires.well_formed_extension c.args.x (omega arith)
+returns-then-d-self c = double-kept c.args.self c.args.x (omega arith)
 
 pub returns-else-d-self : goal.returns-else-d-self
 returns-else-d-self c =
-    double-reduced c.requires.well_formed_extension c.args.x c.requires.x_bound (omega arith)
+    double-reduced c.args.self c.args.x c.requires (omega arith)

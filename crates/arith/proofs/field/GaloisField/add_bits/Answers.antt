@@ -1,26 +1,17 @@
--- `arith::GaloisField::add_bits` meets its contract. The invariant: the first i numbers of a + b are
--- written over a. The measure is what is left of b. Assumes nothing.
-use mathlib.Core.Path.{refl}
+-- `arith::GaloisField::add_bits` meets its contract. Assumes nothing.
 use native.Mathlib.Omega.{arith}
-use Rattle.arith.specs.Represented.{field_of}
-use Rattle.arith.proofs.Writing.{writing_none, combined-front, combined-end}
+use Rattle.arith.proofs.Represented.{size-least, size_most}
 use Rattle.arith.proofs.field.GaloisField.add_bits.Goals as goal
 
-pub loop-i-init : goal.loop-i-init
-loop-i-init c = (omega arith, refl, writing_none _ 0 _ (omega arith))
+pub overflow_sub-once : goal.overflow_sub-once
+overflow_sub-once c = omega (arith, c.size.ensures, size-least c.args.self)
 
-pub loop-i-preserved : goal.loop-i-preserved
-loop-i-preserved c =
-    let a = c.args in (
-      omega arith,
-      refl,
-      combined-front (field_of a.self) a.a.now 1 a.b.now (omega arith) (omega arith)
-          c.loop-i.invariant.2
-          c.sum_of_bits.ensures,
-    )
+pub overflow_cast-once : goal.overflow_cast-once
+overflow_cast-once c = omega (arith, c.size.ensures, size_most c.args.self)
 
-pub returns : goal.returns
-returns c =
-    let a = c.args in
-    combined-end (field_of a.self) a.a.now 1 a.b.now (omega arith) (omega arith)
-    c.loop-i.invariant.2
+pub invariant_of-once : goal.invariant_of-once
+invariant_of-once c =
+    record {
+      in_characteristic_two = c.requires.characteristic;
+      masks = omega (arith, c.size.ensures, size-least c.args.self);
+    }

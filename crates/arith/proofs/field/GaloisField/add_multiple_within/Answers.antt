@@ -1,18 +1,29 @@
 -- `arith::GaloisField::add_multiple_within` meets its contract. Assumes nothing.
-use mathlib.Core.Path.{ap, ◌∙◌}
-use Rattle.arith.specs.Slices.{added_within}
+use mathlib.Core.Path.{ap, ap₂, ◌∙◌}
+use lib.Seq.{paste}
+use Rattle.meaning.specs.Polynomial.{plus}
+use Rattle.arith.specs.Slices.{part, added_within}
+use Rattle.arith.specs.prime_field.PrimeForm.{prime_field_of}
+use Rattle.arith.specs.extension.Extension.{extension_of}
+use Rattle.arith.proofs.extension.Elements.{scale-element}
+use Rattle.arith.proofs.Sorts.{prime-field, extension-field}
 use Rattle.arith.proofs.field.GaloisField.add_multiple_within.Goals as goal
 
-pub returns-then-self-ne0 : goal.returns-then-self-ne0
-returns-then-self-ne0 c =
+pub returns-in-Prime : goal.returns-in-Prime
+returns-in-Prime c =
     let a = c.args in
+    let m = c.multiples.ensures in
     c.add_multiple_within.ensures
-    ∙ ap (λ F. added_within F a.w.now a.x a.c a.y a.n)
-    c.residues.ensures.1
+    ∙ ap₂ (λ f x. added_within (prime_field_of f) a.w.now a.x x a.y a.n) m.0 m.1
+    ∙ ap (λ F. added_within F a.w.now a.x a.c a.y a.n) (prime-field _ c.in-Prime.is)
 
-pub returns-else-self-ne0 : goal.returns-else-self-ne0
-returns-else-self-ne0 c =
+pub returns-in-Extension : goal.returns-in-Extension
+returns-in-Extension c =
     let a = c.args in
-    c.add_multiple_within-else-self-ne0.ensures
-    ∙ ap (λ F. added_within F a.w.now a.x a.c a.y a.n)
-    c.extension.ensures.1
+    let f = c.in-Extension.f in
+    let m = c.multiples-in-Extension.ensures in
+    c.add_multiple_within-in-Extension.ensures
+    ∙ ap (λ f. added_within (extension_of f) a.w.now a.x c.multiples-in-Extension.result.m0 a.y a.n) m.0
+    ∙ ap (λ v. paste a.w.now a.x (plus (extension_of f) (part a.w.now a.x a.n) v) a.n)
+    (scale-element f a.c (part a.w.now a.y a.n) m.1)
+    ∙ ap (λ F. added_within F a.w.now a.x a.c a.y a.n) (extension-field f c.in-Extension.is)

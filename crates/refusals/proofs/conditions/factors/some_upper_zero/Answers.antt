@@ -1,6 +1,5 @@
 -- `some_upper_zero` meets its contract. The invariant: the factors from i on decide.
 -- Assumes nothing.
-use native.Mathlib.Omega.{arith}
 use mathlib.Core.Path.{refl, sym, ◌∙◌}
 use Rattle.refusals.proofs.conditions.factors.Uppers.{zero-found, zero-next, zeros_over}
 use Rattle.refusals.proofs.conditions.factors.some_upper_zero.Goals as goal
@@ -14,12 +13,6 @@ returns-then-upper_at-eq0 c =
     c.loop-i.invariant
     c.loop-i-test.true
     (sym c.upper_at.ensures ∙ c.if-upper_at-eq0.true)
-
-pub overflow_add-i : goal.overflow_add-i
-overflow_add-i c = omega arith
-
-pub loop-i-smaller : goal.loop-i-smaller
-loop-i-smaller c = omega arith
 
 pub loop-i-preserved : goal.loop-i-preserved
 loop-i-preserved c =

@@ -1,16 +1,18 @@
 -- `lists::factor_degree_out_of_range` meets its contract.
 -- Assumes nothing.
-use native.Mathlib.Omega.{arith}
-use mathlib.Core.Path.{◌∙◌}
-use Rattle.bridge.proofs.Lists.Irreducibles.{list-degree}
+use mathlib.Core.Path.{◌∙◌, ap, sym}
+use mathlib.Core.Bool.{not}
+use borrow.Author.Tests.{eqb-true, eqb-false}
 use Rattle.refusals.proofs.conditions.lists.Coefficients.{empty-degree-passes}
+use Rattle.bridge.proofs.Lists.Irreducibles.{list-degree}
 use Rattle.refusals.proofs.conditions.lists.factor_degree_out_of_range.Goals as goal
 
-pub returns-then-factor-eq0 : goal.returns-then-factor-eq0
-returns-then-factor-eq0 c = empty-degree-passes _ _ c.if-factor-eq0.true
+pub returns-then-not-is_empty : goal.returns-then-not-is_empty
+returns-then-not-is_empty c =
+    c.degree_out_of_range.ensures
+    ∙ list-degree _ _ (eqb-false _ _ (sym c.is_empty.ensures ∙ c.if-not-is_empty.true))
 
-pub overflow_sub-factor : goal.overflow_sub-factor
-overflow_sub-factor c = omega arith
-
-pub returns : goal.returns
-returns c = c.degree_out_of_range.ensures ∙ list-degree _ _ c.if-factor-eq0.false
+pub returns-else-not-is_empty : goal.returns-else-not-is_empty
+returns-else-not-is_empty c =
+    ap not c.if-not-is_empty.false
+    ∙ empty-degree-passes _ _ (eqb-true _ _ (sym c.is_empty.ensures ∙ c.if-not-is_empty.false))

@@ -7,4 +7,4 @@ use Rattle.refusals.proofs.conditions.lists.reducible.Goals as goal
 pub returns : goal.returns
 returns c =
     ap not c.is_irreducible.ensures
-    ∙ sym (reducible_asked _ _ c.requires.accepted.degree_in_range c.requires.accepted.monic_over)
+    ∙ sym (reducible_asked _ _ c.requires.degree_in_range c.requires.monic_over)

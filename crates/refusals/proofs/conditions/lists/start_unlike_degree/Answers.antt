@@ -1,18 +1,14 @@
 -- `lists::start_unlike_degree` meets its contract.
 -- Assumes nothing.
-use native.Mathlib.Omega.{arith}
-use mathlib.Core.Path.{refl}
+use Prim.Native.Nat.{ℕ}
+use mathlib.Core.Path.{ap}
+use mathlib.Core.Bool.{not}
+use lib.Dec.{eqb}
+use lib.ListN.{length}
 use Rattle.meaning.specs.Polynomial.{degree}
 use Rattle.meaning.specs.Conditions.{start_unlike_degree}
 use Rattle.refusals.proofs.conditions.lists.start_unlike_degree.Goals as goal
 
-pub returns-then-polynomial-eq0 : goal.returns-then-polynomial-eq0
-unfolding start_unlike_degree degree
-returns-then-polynomial-eq0 c = rw c.if-polynomial-eq0.true
-
-pub overflow_sub-result : goal.overflow_sub-result
-overflow_sub-result c = omega arith
-
 pub returns : goal.returns
 unfolding start_unlike_degree degree
-returns c = refl
+returns c = ap (λ (n : ℕ). not (eqb (length c.args.start.now) n)) c.saturating_sub.ensures

@@ -8,6 +8,6 @@ pub returns-then-size-place : goal.returns-then-size-place
 unfolding place_out_of_range
 returns-then-size-place c = simp (lt-ltb _ _ c.if-size-place.true)
 
-pub returns : goal.returns
+pub returns-else-size-place : goal.returns-else-size-place
 unfolding place_out_of_range
-returns c = simp (le-ltb _ _ c.if-size-place.false, c.count_out_of_range.ensures)
+returns-else-size-place c = simp (le-ltb _ _ c.if-size-place.false, c.count_out_of_range.ensures)

@@ -1,11 +1,8 @@
--- `numbers::power_exceeds` meets its contract. The invariant: `power` is p^i, and at most 65,536.
+-- `numbers::power_exceeds` meets its contract. The invariant: `power` is q^i, and at most 65,536.
 -- Assumes nothing.
-use Prim.Native.Nat.{◌-◌, ◌^◌, ◌≤◌}
+use Prim.Native.Nat.{◌^◌, ◌≤◌}
 use mathlib.Core.Path.{◌≡◌}
 use Rattle.refusals.proofs.conditions.numbers.power_exceeds.Given as goal
 
 abbrev pub invariant-loop-i : goal.invariant-loop-i
-invariant-loop-i l = (l.i ≤ l.e) × (l.power ≡ l.q ^ l.i) × (l.power ≤ 65536)
-
-abbrev pub decreases-loop-i : goal.decreases-loop-i
-decreases-loop-i l = l.e - l.i
+invariant-loop-i l = (l.power ≡ l.q ^ l.i) × (l.power ≤ 65536)
