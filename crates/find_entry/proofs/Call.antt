@@ -73,7 +73,8 @@ told-found None = refl
 module _ {field : GaloisField} (f : FieldNamed (FieldName.Prime 2) field) (ts work : List ℕ)
     {v : Reply (Unit {0})} (k : number_in v ≡ first_of (free_table (field_of field) ts 4097 (length work)))
   where
-    pub entry_refused : {x : Refusal} {r : Reply EntryRating} → v ≡ Err x → r ≡ Err x → EntryCall ts work r work
+    pub entry_refused : {x : Refusal} {r : Reply EntryRating} → v ≡ Err x → r ≡ Err x
+        → EntryCall ts work r work
     unfolding find_entry entry_table free_table told_entry told clears clearing holds_for_some
     entry_refused {x} q p =
         let e : find_entry ts (length work) ≡ refused (number_of x) =

@@ -42,7 +42,8 @@ size_characteristic e =
 pub look_none :
     {field : GaloisField} (binary : FieldNamed (FieldName.Prime 2) field) (f : Polynomial) {ts : List ℕ}
     (x : PeriodInput (field_of field) f ts) (level : Level)
-    (l : Dividing (field_of field).characteristic (length ts) level) {at m : ℕ} (look : Places (length ts) at m)
+    (l : Dividing (field_of field).characteristic (length ts) level) {at m : ℕ}
+    (look : Places (length ts) at m)
     {b : Bool}
     → b ≡ all_zero (block_on_period (field_of field) f level.power ts at m)
     → b ≡ false

@@ -63,6 +63,17 @@ fn add_rows(field: GaloisField, table: &[u8], h: &[u8], sum: &mut [u8])
     }
 }
 
+// Overwrites h with the sum of the rows times its coefficients: with h^q modulo f, where they are those of f.
+pub fn raise(field: GaloisField, table: &[u8], h: &mut [u8])
+    requires table_len { (length table.now ≡ 1024) × (length h.old ≤ 32) }
+    ensures { Summed field table.now h.old h.new }
+{
+    let d = h.len();
+    let mut sum = [0u8; 32];
+    add_rows(field, table, h, &mut sum[0..d]);
+    h.copy_from_slice(&sum[0..d]);
+}
+
 impl<'a> Frobenius<'a> {
     // The table for the residues of a ring.
     pub fn of(ring: ResidueRing<'a>) -> Self
@@ -82,9 +93,6 @@ impl<'a> Frobenius<'a> {
         requires { length h.old ≤ 32 }
         ensures { Summed self.now.ring.field self.now.table h.old h.new }
     {
-        let d = h.len();
-        let mut sum = [0u8; 32];
-        add_rows(self.ring.field, &self.table, h, &mut sum[0..d]);
-        h.copy_from_slice(&sum[0..d]);
+        raise(self.ring.field, &self.table, h);
     }
 }

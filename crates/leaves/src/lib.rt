@@ -147,10 +147,7 @@ fn order_in(field: GaloisField, f: &[u8], limit: usize) -> usize
 pub extern "C" fn leaf_order(p: u64, f: &[u8], limit: usize) -> usize
     ensures { result ≡ where_suited (prime_in_range p) (order (prime p) f.now limit) 0 }
 {
-    match GaloisField::try_from(FieldName::Prime(p)) {
-        Ok(field) => order_in(field, f, limit),
-        Err(_) => 0,
-    }
+    GaloisField::try_from(FieldName::Prime(p)).map_or(0, |field| order_in(field, f, limit))
 }
 
 // The least common multiple of m and n, or 0 where it exceeds the limit. Numbers are at most 65,536.

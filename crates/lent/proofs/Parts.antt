@@ -5,8 +5,7 @@
 --   lent_back, copied-back == a part from the front that was lent and came back; a list that was copied into
 --                        zeros, as it is lent
 --   zeros-length, zeros-lent == zeros that are lent from the front
---   copied, front-copied == a list that is copied over one that is no longer; the front of one
---   front_fits, front-room == a part from the front is not longer than was asked for, and is there
+--   copied            == a list that is copied over one that is no longer
 --   cleared-part      == the work bytes after their first 8,192 were lent on and came back as zeros
 --
 -- Assumes nothing.
@@ -15,7 +14,7 @@ use mathlib.Core.Path.{◌≡◌, refl, sym, ap, ◌∙◌}
 use mathlib.Core.List.{List, ◌∷◌, ◌++◌, append_assoc, append-nil}
 use native.Mathlib.Nat.{sub-zero, add-sub_cancel_left, not-suc-le-zero, le_of_suc-le-suc}
 use native.Mathlib.Omega.{arith}
-use lib.ListN.{length, take, drop, replicate, length-append, length-take, length-replicate}
+use lib.ListN.{length, take, drop, replicate, length-take, length-replicate}
 use lib.ListN.{drop_of_length-le}
 use lib.Seq.{paste, take_all, take_at, drop-drop, length-take-le}
 use borrow.Rule.Slice.PartMut.{put_mid}
@@ -62,22 +61,6 @@ module _ (m n : ℕ) (h : m ≤ n) where
 -- A list that is copied over another
 pub copied : (l t : List ℕ) → length l ≤ length t → t ++ drop (length t) l ≡ t
 copied l t h = ap (◌++◌ t) (drop_of_length-le l h) ∙ append-nil t
-
--- A part from the front, as it is lent and copied
-pub front_fits : (l : List ℕ) (n : ℕ) → length (take (n - 0) l) ≤ n
-front_fits l n = omega (arith, length-take (n - 0) l)
-
-pub front-room : (ys t : List ℕ) {n : ℕ} → length ys ≡ n → n ≤ length (ys ++ t)
-front-room ys t e = omega (arith, length-append ys t)
-
-pub front-copied :
-    (ys t dst : List ℕ)
-    → length ys ≡ length dst
-    → take (length dst - 0) (ys ++ t)
-    ++ drop (length (take (length dst - 0) (ys ++ t))) dst
-    ≡ ys
-front-copied ys t dst e =
-    ap (λ u. u ++ drop (length u) dst) (lent_back ys t e) ∙ copied dst ys (omega arith)
 
 pub cleared-part : {ys : List ℕ} (w : List ℕ)
     → 8192 ≤ length w

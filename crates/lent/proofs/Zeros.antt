@@ -1,7 +1,7 @@
 -- Whether all numbers of a list are 0, found by their bits and block by block.
 --
 --   Anything a l i    == what a loop keeps: a is 0 exactly where the first i numbers of l are
---   anything_none, anything_more, anything_end == before the first turn, a turn, after the last
+--   anything_more, anything_end == a turn, after the last
 --   all_zero-append    == all zero in two parts
 --   none_zero         == an empty list
 --   zero-block, nonzero-block == a list that begins with a block that is all 0, or is not
@@ -30,9 +30,6 @@ use Rattle.arith.proofs.Slices.{get_or-part}
 pub record Anything (a : ℕ) (l : List ℕ) (i : ℕ) : Type 0 where
   pub none : a ≡ 0 → (j : ℕ) → j < i → get_or l j 0 ≡ 0
   pub some : ((j : ℕ) → j < i → get_or l j 0 ≡ 0) → a ≡ 0
-
-pub anything_none : (l : List ℕ) → Anything 0 l 0
-anything_none l = record { none = λ _ j b. absurd (omega arith); some = λ _. refl }
 
 module _ {a : ℕ} {l : List ℕ} {i : ℕ} (h : Anything a l i) where
   pub anything_more : (v : ℕ) → v ≡ get_or l i 0 → Anything (bit_or a v) l (i + 1)

@@ -60,19 +60,22 @@ pub record PeriodCall (name : FieldName) (f ts answer work : List ℕ) (r : Repl
   pub rating : told_power r ≡ figures_of (rate_period name f ts (length answer) (length work))
   pub lent : LentAfter (rate_period name f ts (length answer) (length work)) answer work answer' work'
 
-pub record SetCall (name : FieldName) (fs : List Polynomial) (vs ts answer work : List ℕ) (r : Reply SetRating)
+pub record SetCall (name : FieldName) (fs : List Polynomial) (vs ts answer work : List ℕ)
+    (r : Reply SetRating)
     (answer' work' : List ℕ) : Type 0 where
   pub rating : told_set r
       ≡ map_result set_figures_told (figures_of (rate_set name fs vs ts (length answer) (length work)))
   pub powers : set_places r ≡ set_padded (figures_of (rate_set name fs vs ts (length answer) (length work)))
   pub lent : LentAfter (rate_set name fs vs ts (length answer) (length work)) answer work answer' work'
 
-pub record FreeCall (name : FieldName) (ts answer work : List ℕ) (r : Reply FreeRating) (answer' work' : List ℕ)
+pub record FreeCall (name : FieldName) (ts answer work : List ℕ) (r : Reply FreeRating)
+    (answer' work' : List ℕ)
     : Type 0 where
   pub rating : told_free r ≡ figures_of (rate_free name ts (length answer) (length work))
   pub lent : LentAfter (rate_free name ts (length answer) (length work)) answer work answer' work'
 
-pub record StartCall (model : MeterModel) (name : FieldName) (work : List ℕ) (r : Reply Meter) (work' : List ℕ)
+pub record StartCall (model : MeterModel) (name : FieldName) (work : List ℕ) (r : Reply Meter)
+    (work' : List ℕ)
     : Type 0 where
   pub starting : told_start r ≡ map_result (λ _. model.meter name []) (start_meter name)
   pub work_bytes : work' ≡ unless_refused (start_meter name) work (model.work name [])
@@ -111,8 +114,8 @@ unfoldable pub buffer_after : Result (List ℕ) → List ℕ → List ℕ
 buffer_after (refused n) buffer = buffer
 buffer_after (answered after) buffer = after
 
-pub record ContinueCall (name : FieldName) (g : Polynomial) (start buffer : List ℕ) (place : ℕ) (r : Reply (Unit {0}))
-    (buffer' : List ℕ) : Type 0 where
+pub record ContinueCall (name : FieldName) (g : Polynomial) (start buffer : List ℕ) (place : ℕ)
+    (r : Reply (Unit {0})) (buffer' : List ℕ) : Type 0 where
   pub filling : told_filling r ≡ map_result (λ _. tt) (continue_sequence name g start place buffer)
   pub buffer_bytes : buffer' ≡ buffer_after (continue_sequence name g start place buffer) buffer
 

@@ -37,7 +37,8 @@ impl Printed {
 
     // The bytes.
     pub fn as_bytes(&self) -> &[u8]
-        ensures { result.now ≡ self.now }
+        ensures put { result.now ≡ self.now }
+        ensures within { length result.now ≤ MOST_PRINTED }
     {
         &self.bytes[..self.count]
     }

@@ -1,8 +1,8 @@
 // The lines that the rating program prints.
 ghost use Rattle.std.specs.Prelude.{◌≡◌, suc, take};
-ghost use Rattle.meaning.specs.Program.{lines_of};
+ghost use Rattle.meaning.specs.Program.{lines_of, PrintCall};
 
-use crate::buffer::Printed;
+use crate::buffer::{MOST_PRINTED, Printed};
 use crate::result_line::density;
 use meaning::FileRating;
 
@@ -18,7 +18,7 @@ fn coefficients(degree: u64, answer: &[u8; ANSWER_BYTES]) -> &[u8]
 }
 
 // The header, the result line and, where the file is rated, the poly line.
-pub fn print_rating(rating: FileRating, answer: &[u8; ANSWER_BYTES]) -> Printed
+pub fn printed_lines(rating: FileRating, answer: &[u8; ANSWER_BYTES]) -> Printed
     ensures { result ≡ lines_of rating answer.now }
 {
     let mut lines = Printed::new();
@@ -32,4 +32,19 @@ pub fn print_rating(rating: FileRating, answer: &[u8; ANSWER_BYTES]) -> Printed
         }
     }
     lines
+}
+
+// Writes the lines to the front of `out`, and returns their number of bytes. All other bytes are left as they
+// were.
+pub fn print_rating(
+    rating: FileRating,
+    answer: &[u8; ANSWER_BYTES],
+    out: &mut [u8; MOST_PRINTED],
+) -> usize
+    ensures { PrintCall rating answer.now out.old result out.new }
+{
+    let lines = printed_lines(rating, answer);
+    let bytes = lines.as_bytes();
+    out[..bytes.len()].copy_from_slice(bytes);
+    bytes.len()
 }

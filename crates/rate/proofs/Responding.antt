@@ -1,4 +1,4 @@
--- The response, from the contracts of rate_file and print_rating.
+-- The response, from the contracts of rate_file and printed_lines.
 -- Assumes nothing.
 use Prim.Native.Nat.{ℕ, ◌<◌}
 use native.Mathlib.Omega.{arith}

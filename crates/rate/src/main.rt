@@ -1,14 +1,14 @@
 // The rating program. It reads one route file on standard input and writes the header, the result line and,
 // where the file is rated, the poly line to standard output. `main` reads and writes; what is written for
-// what was read is the matter of `respond`. It always ends with status 0: what it could not read or write is a
-// line on standard error, and nothing else is written there.
+// what was read is the matter of `respond`. It always ends with status 0: what it could not read or write is
+// a line on standard error, and nothing else is written there.
 #![tactic(auto)]
 
 ghost use Rattle.std.specs.Prelude.{◌≤◌, length};
 ghost use Rattle.meaning.specs.Program.{Response};
 
 use printing::buffer::Printed;
-use printing::lines::{ANSWER_BYTES, print_rating};
+use printing::lines::{ANSWER_BYTES, printed_lines};
 use rate_file::rate_file;
 use route::framing::part;
 use std::io::{Read, Write};
@@ -27,7 +27,7 @@ fn respond(buffer: &[u8; KEPT_BYTES], count: usize) -> Printed
     let mut answer = [0u8; ANSWER_BYTES];
     let mut work = [0u8; WORK_BYTES];
     let rating = rate_file(part(buffer, 0, count), &mut answer, &mut work);
-    print_rating(rating, &answer)
+    printed_lines(rating, &answer)
 }
 
 // Reads once, to the front of the bytes, and returns how many came: 0 where the input is over, and where the

@@ -19,11 +19,11 @@ use route::payload::{lay_factor, upper_power};
 pub fn written_factors_verdict(field: GaloisField, file: &[u8]) -> Result<(), Refusal>
     ensures { number_in result ≡ first_of (written_table (field_of field) (factors_in file.now)) }
 {
-    let mut factors = Bodies::of(file, Kind::Factor);
+    let mut factors = Bodies::of(file, Kind::Factor as u8);
     if factors.any(|body| file_degree_out_of_range(field, body)) {
         return Err(Refusal::DegreeOutOfRange);
     }
-    let mut factors = Bodies::of(file, Kind::Factor);
+    let mut factors = Bodies::of(file, Kind::Factor as u8);
     if factors.any(|body| file_coefficient_out_of_range(field, body)) {
         return Err(Refusal::CoefficientOutOfRange);
     }
@@ -37,7 +37,7 @@ pub fn gather_uppers(file: &[u8]) -> [u64; 8]
 {
     let mut uppers = [0u64; 8];
     // the first upper powers are in place
-    for (i, body) in Bodies::of(file, Kind::Factor).enumerate() {
+    for (i, body) in Bodies::of(file, Kind::Factor as u8).enumerate() {
         uppers[i] = upper_power(body);
     }
     uppers
@@ -53,7 +53,7 @@ pub fn pack_factors(file: &[u8], to: &mut [u8]) -> [u64; 9]
     let mut lengths = [0u64; 9];
     let mut at = 0;
     // the polynomials of the first factors, `at` bytes in all, and their lengths are in place
-    for (i, body) in Bodies::of(file, Kind::Factor).enumerate() {
+    for (i, body) in Bodies::of(file, Kind::Factor as u8).enumerate() {
         let n = lay_factor(body, to, at);
         lengths[i] = n as u64;
         at += n;

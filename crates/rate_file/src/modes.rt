@@ -67,7 +67,7 @@ pub fn rate_period_file(
         answer.old work.old result answer.new work.new }
 {
     let mut factor = [0u8; 33];
-    let n = lay_factor(first_body(file, Kind::Factor), &mut factor, 0);
+    let n = lay_factor(first_body(file, Kind::Factor as u8), &mut factor, 0);
     let PowerRating {
         power,
         degree,
@@ -98,7 +98,7 @@ pub fn rate_set_file(
         terms.now (length answer.old) (length work.old)))
         answer.old work.old result answer.new work.new }
 {
-    let all = count_of(file, Kind::Factor);
+    let all = count_of(file, Kind::Factor as u8);
     let mut flat = [0u8; 264];
     let lengths = pack_factors(file, &mut flat);
     let uppers = gather_uppers(file);

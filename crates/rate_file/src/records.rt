@@ -31,9 +31,9 @@ fn binary_name(body: &[u8]) -> FieldName
 fn field_name(file: &[u8]) -> FieldName
     ensures { result ≡ field_in (records_from file.now 0) }
 {
-    match Bodies::of(file, Kind::BinaryField).next() {
+    match Bodies::of(file, Kind::BinaryField as u8).next() {
         Some(body) => binary_name(body),
-        None => FieldName::Prime(u64::from(byte_of(file, Kind::PrimeField))),
+        None => FieldName::Prime(u64::from(byte_of(file, Kind::PrimeField as u8))),
     }
 }
 
@@ -52,7 +52,7 @@ fn rate_accepted(
         (length work.old))
         answer.old work.old result answer.new work.new }
 {
-    match Mode::try_from(byte_of(file, Kind::Mode))? {
+    match Mode::try_from(byte_of(file, Kind::Mode as u8))? {
         Mode::Period => {
             written_factors_verdict(field, file)?;
             rate_period_file(field, file, terms, answer, work)

@@ -103,7 +103,8 @@ module _ {F : Field} (I : IsField F) (fs : List Polynomial) (ts : List ℕ) {v :
       }
 
 -- the rating in the field
-module _ {F : Field} (I : IsField F) (fs : List Polynomial) (us ts answer work : List ℕ) {v : Reply (Unit {0})}
+module _ {F : Field} (I : IsField F) (fs : List Polynomial) (us ts answer work : List ℕ)
+    {v : Reply (Unit {0})}
     (e : number_in v ≡ first_of (given_set_table F fs ts)) where
   pub given-set_refused :
       {x : Refusal}

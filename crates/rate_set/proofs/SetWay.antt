@@ -89,8 +89,8 @@ rated_call :
     → k ≡ length fs
     → ProductWritten F fs (padded rs) answer answer' n
     → work' ≡ cleared work
-    → SetRatedAs result answer work (Ok (record { degree = n; repeat = b; count = k; powers = powers })) answer'
-    work'
+    → SetRatedAs result answer work
+    (Ok (record { degree = n; repeat = b; count = k; powers = powers })) answer' work'
 unfolding told_set told set_places set_figures_told map_result figures_of set_padded set_rating
 rated_call {fs = fs} us ts {answer = answer} {F = F} rs {n = n} {b = b} size e j i k y w =
     let g = answer-polynomial F fs us rs size in
@@ -146,7 +146,8 @@ module _ (F : Field) (l : List (Polynomial × ℕ)) (ts : List ℕ) {found : Opt
       told : none ≡ map_option padded (powers_found F l ts)
       told = sym (ap told_powers n) ∙ y
 
-      go : (b : Bool) → annihilates_known F (product F l) ts ≡ b → annihilates_known F (product F l) ts ≡ false
+      go : (b : Bool) → annihilates_known F (product F l) ts ≡ b
+          → annihilates_known F (product F l) ts ≡ false
       go false e = e
       go true e = absurd (none-ne-some _ (rw (e, s, powers_found, map_option) at told))
 
@@ -229,11 +230,13 @@ module _ (F : Field) (fs : List Polynomial) (us ts : List ℕ) (answer work : �
             subst (ProductInput F fs) (sym i) (set-product I set-input s)
 
 module _ (F : Field) (fs : List Polynomial) (us ts answer work : List ℕ) (m : Checked F fs ts)
-    {v : Reply (Unit {0})} (e : number_in v ≡ first_of (set_rest F fs us ts (length answer) (length work))) where
+    {v : Reply (Unit {0})} (e : number_in v ≡ first_of (set_rest F fs us ts (length answer)
+    (length work))) where
   pub set_refused :
       {x : Refusal}
       → v ≡ Err x
-      → SetRatedAs (set_answer F false false (named fs us) ts (length answer) (length work)) answer work (Err x)
+      → SetRatedAs (set_answer F false false (named fs us) ts (length answer) (length work)) answer work
+      (Err x)
       answer work
   set_refused q =
       let k = set-early F fs us ts (length answer) (length work) m e q in

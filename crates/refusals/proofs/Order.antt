@@ -61,10 +61,12 @@ module _ (A B : List Check) {v : Reply (Unit {0})} (e : number_in v ≡ first_of
 
   pub accepted-before : v ≡ Ok tt → first_of (A ++ B) ≡ first_of B
   unfolding number_in
-  accepted-before q = told-before A B v e ∙ ap (λ (x : Reply (Unit {0})). otherwise (number_in x) (first_of B)) q
+  accepted-before q = told-before A B v e
+      ∙ ap (λ (x : Reply (Unit {0})). otherwise (number_in x) (first_of B)) q
 
 -- Two verdicts, u by the table A and v by the table B, before a table C.
-module _ (A B C : List Check) {u v : Reply (Unit {0})} (eu : number_in u ≡ first_of A) (ev : number_in v ≡ first_of B)
+module _ (A B C : List Check) {u v : Reply (Unit {0})} (eu : number_in u ≡ first_of A)
+    (ev : number_in v ≡ first_of B)
     (first : u ≡ Ok tt) where
   pub refused_second : {r : Refusal} → v ≡ Err r
       → number_in (Err r) ≡ first_of (A ++ (B ++ C))

@@ -1,10 +1,9 @@
 // The conditions 7 to 16 and 18 of the numbered list of refusals: one function for each, and a further one
-// where a continuation or a file asks in its own way. Those that are asked of one factor have a name too, by
-// which one function asks them of all factors. (1 to 5 are about a file's records, 6 is asked where the
-// field is made, and 17 what the search for the powers does.) Each answers whether its condition holds over a
-// field, as crate meaning defines it, for any numbers and slices of any length; 12 alone assumes that 10 and
-// 11 let the factor pass, and 14 is given the total degree. None changes a lent byte. The other modules of
-// this crate ask them in the order of each call.
+// where a continuation, a set or a file asks in its own way. (1 to 5 are about a file's records, 6 is asked
+// where the field is made, and 17 what the search for the powers does.) Each answers whether its condition
+// holds over a field, as crate meaning defines it, for any numbers and slices of any length; 12 alone assumes
+// that 10 and 11 let the factor pass. None changes a lent byte. The other modules of this crate ask them in
+// the order of each call.
 pub mod factors;
 pub mod files;
 pub mod lists;

@@ -1,7 +1,7 @@
 // The conditions of the numbered list of refusals in their order, one function for each call: the first that
 // holds in a field, but for 17. Each answers for any numbers and slices of any length, but for those from 12
-// on, which assume that 10 and 11 let the factors pass; none changes a lent byte. All assume a well-formed
-// field: whoever makes it has met 6 or 20.
+// on, which assume that 10 and 11 let the factors pass; none changes a lent byte. Whoever makes the field has
+// met 6 or 20.
 #![tactic(auto)]
 
 pub mod conditions;

@@ -3,7 +3,6 @@
 ghost use Rattle.std.specs.Prelude.{◌≡◌, [], MatchOption, length, get_or, take, drop};
 ghost use Rattle.std.proofs.Math.Option.{none, some};
 ghost use Rattle.meaning.specs.Route.{look_up, body_lengths, bodies};
-ghost use Rattle.route.specs.kind.Kinds.{code};
 ghost use Rattle.route.specs.framing.Framing.{records_from};
 
 use crate::kind::Kind;
@@ -22,7 +21,7 @@ pub struct Records<'a> {
 #[derive(Clone, Copy)]
 pub struct Bodies<'a> {
     records: Records<'a>,
-    kind: Kind,
+    kind: u8,
 }
 
 // The length of the body of a record by the byte that begins it.
@@ -83,8 +82,8 @@ impl<'a> Bodies<'a> {
     ghost use Rattle.route.specs.framing.Iterating.{bodies_left};
 
     // All bodies of a file with records of the kind.
-    pub fn of(file: &'a [u8], kind: Kind) -> Bodies<'a>
-        ensures { bodies_left result ≡ bodies (code kind) (records_from file.now 0) }
+    pub fn of(file: &'a [u8], kind: u8) -> Bodies<'a>
+        ensures { bodies_left result ≡ bodies kind (records_from file.now 0) }
     {
         Bodies {
             records: Records::of(file),
@@ -104,22 +103,22 @@ impl<'a> Iterator for Bodies<'a> {
     ghost remaining = { item_count bodies_left };
 
     fn next(&mut self) -> Option<&'a [u8]> {
-        let kind = u8::from(self.kind);
+        let kind = self.kind;
         let record = self.records.find(|record| record.kind == kind)?;
         Some(record.body)
     }
 }
 
 // The first body of a record of the kind; the empty part where there is none.
-pub fn first_body(file: &[u8], kind: Kind) -> &[u8]
-    ensures { result.now ≡ get_or (bodies (code kind) (records_from file.now 0)) 0 [] }
+pub fn first_body(file: &[u8], kind: u8) -> &[u8]
+    ensures { result.now ≡ get_or (bodies kind (records_from file.now 0)) 0 [] }
 {
     Bodies::of(file, kind).next().unwrap_or(&[])
 }
 
 // The number of records of the kind.
-pub fn count_of(file: &[u8], kind: Kind) -> usize
-    ensures { result ≡ length (bodies (code kind) (records_from file.now 0)) }
+pub fn count_of(file: &[u8], kind: u8) -> usize
+    ensures { result ≡ length (bodies kind (records_from file.now 0)) }
 {
     Bodies::of(file, kind).count()
 }

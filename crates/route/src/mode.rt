@@ -38,9 +38,9 @@ impl Mode {
     fn suits(self, file: &[u8]) -> bool
         ensures { result ≡ suits (mode_told self) (bodies 4 (records_from file.now 0)) }
     {
-        let count = count_of(file, Kind::Factor);
+        let count = count_of(file, Kind::Factor as u8);
         match self {
-            Mode::Period => count == 1 && upper_power(first_body(file, Kind::Factor)) == 0,
+            Mode::Period => count == 1 && upper_power(first_body(file, Kind::Factor as u8)) == 0,
             Mode::Set => 1 <= count && count <= 8,
             Mode::Free => count == 0,
         }
@@ -51,7 +51,7 @@ impl Mode {
 pub fn mode_unsuited(file: &[u8]) -> bool
     ensures { result ≡ mode_unsuited (records_from file.now 0) }
 {
-    match Mode::try_from(byte_of(file, Kind::Mode)) {
+    match Mode::try_from(byte_of(file, Kind::Mode as u8)) {
         Ok(mode) => !mode.suits(file),
         Err(_) => true,
     }

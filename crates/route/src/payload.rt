@@ -4,7 +4,6 @@
 ghost use Rattle.std.specs.Prelude.{◌≡◌, ◌≤◌, length, get_or};
 ghost use Rattle.std.proofs.lemmas.List.Edits.{sets};
 ghost use Rattle.meaning.specs.Route.{number, byte_of, box_of, factor_upper};
-ghost use Rattle.route.specs.kind.Kinds.{code};
 ghost use Rattle.route.specs.framing.Framing.{records_from};
 ghost use Rattle.route.specs.framing.Iterating.{read};
 ghost use Rattle.route.specs.payload.Payload.{HoldsTerms, Gathered, LaidFactor};
@@ -45,8 +44,8 @@ pub fn byte_at(bytes: &[u8], i: usize) -> u8
 }
 
 // The one byte of the first record of the kind; 0 where there is none.
-pub fn byte_of(file: &[u8], kind: Kind) -> u8
-    ensures { result ≡ byte_of (code kind) (records_from file.now 0) }
+pub fn byte_of(file: &[u8], kind: u8) -> u8
+    ensures { result ≡ byte_of kind (records_from file.now 0) }
 {
     byte_at(first_body(file, kind), 0)
 }

@@ -1,6 +1,7 @@
 // The set way on accepted input: from terms in lent bytes to the powers of the factors. The first 8,192 work
-// bytes are two halves of 4,096; they are 0 in the end, and all beyond them is as it was. What one half of the
-// factors leaves of the terms for the other is kept on the stack. Assumes what each function says of its input.
+// bytes are two halves of 4,096; they are 0 in the end, and all beyond them is as it was. What one half of
+// the factors leaves of the terms for the other is kept on the stack. Assumes what each function says of its
+// input.
 #![tactic(auto)]
 
 pub mod actions;

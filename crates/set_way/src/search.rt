@@ -76,8 +76,8 @@ fn settle(field: GaloisField, work: &mut [u8; 8192], set: Powered, terms: &[u8],
     );
 }
 
-// The least powers of the factors by the first D terms, in eight places with zeros after them. Uses both halves
-// of the work bytes, and leaves all beyond them as it was.
+// The least powers of the factors by the first D terms, in eight places with zeros after them. Uses both
+// halves of the work bytes, and leaves all beyond them as it was.
 pub fn least_powers(field: GaloisField, work: &mut [u8], set: Powered, first: &[u8]) -> [u64; 8]
     requires in_bounds { 8192 ≤ length work.old }
     requires set_input { SetInput (field_of field) (lists_of set.factors.now) set.powers.now first.now }

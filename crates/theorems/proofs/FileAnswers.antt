@@ -262,7 +262,8 @@ file-meets :
     → Listed numbers
     → (x : Result FileFigures)
     → Tells numbers x
-    → (r : Reply FileOutcome) × (told_file r ≡ map_result file_figures_told x) × (file_places r ≡ file_padded x)
+    → (r : Reply FileOutcome) × (told_file r ≡ map_result file_figures_told x)
+    × (file_places r ≡ file_padded x)
 unfolding told_file told map_result file_figures_told file_places file_padded
 file-meets numbers numbered x (inl (a, e)) = (
   Ok (outcome_of a.label a.degree a.denominator),

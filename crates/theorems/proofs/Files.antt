@@ -301,7 +301,8 @@ module _ (file answer work : List ℕ) (r : FileRating) (answer' work' : List �
           accepted-file file (length answer) (length work) its
           ∙ known-mode rs (length answer) (length work) mode
 
-      mode-rated : (a : FileTold) → told_file r.outcome ≡ answered a → RatedBy m rs a (file_places r.outcome) answer'
+      mode-rated : (a : FileTold) → told_file r.outcome ≡ answered a
+          → RatedBy m rs a (file_places r.outcome) answer'
       mode-rated a e =
           let (b, q, u) = told_answered a e in
           let (exists, w) = in_answered (field_in rs) way (sym by_mode ∙ q) in
@@ -352,7 +353,8 @@ file_promise file answer work r answer' work' c =
       rated =
           λ a e.
           let (b, q, _) = told_answered file answer work r answer' work' c a e in
-          file-way file answer work r answer' work' c {B = λ rs m. RatedBy m rs a (file_places r.outcome) answer'}
+          file-way file answer work r answer' work' c
+          {B = λ rs m. RatedBy m rs a (file_places r.outcome) answer'}
           (λ n z l. never_answered (sym z ∙ q))
           (λ rs m its mode. mode-rated file answer work r answer' work' c rs m its mode a e);
       seventeen =

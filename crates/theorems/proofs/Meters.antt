@@ -204,7 +204,8 @@ module _ (model : MeterModel) (name : FieldName) where
     I : IsField F
     I = named-is_field name h.field_exists
 
-    reading_figures : (r : Reply FreeRating) → ReadingCall model m r → told_free r ≡ value_of (free_figures F ts)
+    reading_figures : (r : Reply FreeRating) → ReadingCall model m r
+        → told_free r ≡ value_of (free_figures F ts)
     unfolding meter_reading first_of
     reading_figures r c = c.reading name ts terms work h ∙ settle-none [] _ refl
 

@@ -160,7 +160,8 @@ printed-right input output answer work call la lw =
       left = answer';
       lines =
           program_as_call input output call answer work la lw r answer' work' c
-          ∙ ap (λ box. header ++ lines_told box (told_file r.outcome) (file_places r.outcome) answer') c.sender;
+          ∙ ap (λ box. header
+          ++ lines_told box (told_file r.outcome) (file_places r.outcome) answer') c.sender;
       tells = (answers.each r answer' work' c).tells;
       decided =
           subst₂ (λ a w. Decided (file_conditions input a w) (told_file r.outcome)) la lw

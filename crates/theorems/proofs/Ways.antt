@@ -426,7 +426,8 @@ set_promise name fs vs ts answer work r answer' work' c =
           let (b', q', u') = map_answered set_figures_told (figures_of result) (sym c.rating ∙ e) in
           let (b, q, u) = map_answered (λ x. x.figures) result q' in
           let (exists, w) = in_answered name way q in
-          subst (λ a. SetAnswered (GF name) (map (monic_multiple (GF name)) fs) vs ts a (set_places r) answer')
+          subst (λ a. SetAnswered (GF name) (map (monic_multiple (GF name)) fs) vs ts a
+          (set_places r) answer')
           (ap set_figures_told u ∙ u')
           (set_answered (named-is_field name exists) fs vs ts (length answer) (length work) b (set_places r)
           answer answer' w (c.lent.answer_bytes ∙ ap (λ x. answer_after x answer) q)

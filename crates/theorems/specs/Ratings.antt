@@ -99,7 +99,8 @@ pub record PeriodRight (F : Field) (f : Polynomial) (ts : List ℕ) (told : Resu
 
 abbrev pub PeriodPromise : Type 0
 PeriodPromise =
-    (name : FieldName) (f : Polynomial) (ts answer work : List ℕ) (r : Reply PowerRating) (answer' work' : List ℕ)
+    (name : FieldName) (f : Polynomial) (ts answer work : List ℕ) (r : Reply PowerRating)
+    (answer' work' : List ℕ)
     → PeriodCall name f ts answer work r answer' work'
     → PeriodRight (GF name) (monic_multiple (GF name) f) ts (told_power r) answer'
 
@@ -208,7 +209,8 @@ pub record ContinueRight (F : Field) (g : Polynomial) (start buffer : List ℕ) 
 
 abbrev pub ContinuePromise : Type 0
 ContinuePromise =
-    (name : FieldName) (g : Polynomial) (start buffer : List ℕ) (place : ℕ) (r : Reply (Unit {0})) (buffer' : List ℕ)
+    (name : FieldName) (g : Polynomial) (start buffer : List ℕ) (place : ℕ) (r : Reply (Unit {0}))
+    (buffer' : List ℕ)
     → ContinueCall name g start buffer place r buffer'
     → ContinueRight (GF name) (monic_multiple (GF name) g) start buffer place (told_filling r) buffer'
 

@@ -216,7 +216,8 @@ module _ (f : ExtensionField) (c s : List ℕ) where
               ∙ ap₂ (extension_of f).add
               (e
               ∙ ap ((extension_of f).mul 2)
-              (r.is_sum ∙ ap (λ k. act_at (extension_of f) (map (upper f.degree k) c) (known s) 0) (sym less)))
+              (r.is_sum ∙ ap (λ k. act_at (extension_of f) (map (upper f.degree k) c) (known s) 0)
+              (sym less)))
               (g ∙ ap (λ k. plane_of k c (known s) 0) b)
               ∙ sym (planes f (j - 1) (omega (arith, r.within)) c (known s) 0);
         }

@@ -1,24 +1,18 @@
 -- `first_entry` meets its contract. The invariant: no entry before entry i has a power. Assumes nothing.
 use borrow.Author.Rules.{rules}
-use Rattle.find_entry.proofs.Entries.{look_places, searching_none}
 use Rattle.find_entry.proofs.Entries.{searching_more, searching_found, searching_end}
 use Rattle.find_entry.proofs.first_entry.Goals as goal
 
-pub loop-i-init : goal.loop-i-init
-loop-i-init c = searching_none _
-
-pub search_entry-requires-clause-places : goal.search_entry-requires-clause-places
-search_entry-requires-clause-places c =
-    look_places c.requires.binary_period c.min-m.ensures c.last_places-at.ensures
-
 pub returns-in-Some : goal.returns-in-Some
 returns-in-Some c =
-    searching_found c.loop-i.invariant (search rules) c.search_entry.result c.search_entry.ensures c.in-Some.is
+    searching_found c.loop-i.invariant (search rules) c.search_entry.result c.search_entry.ensures
+    c.in-Some.is
     c.catalogue_entry.ensures
 
 pub loop-i-preserved : goal.loop-i-preserved
 loop-i-preserved c =
-    searching_more c.loop-i.invariant (search rules) c.search_entry.result c.search_entry.ensures c.in_default.is
+    searching_more c.loop-i.invariant (search rules) c.search_entry.result c.search_entry.ensures
+    c.in_default.is
 
 pub returns : goal.returns
 returns c = searching_end c.loop-i.invariant (search rules)

@@ -7,6 +7,3 @@ pub returns-then-not-block_is_zero : goal.returns-then-not-block_is_zero
 returns-then-not-block_is_zero c =
     look_none c.requires.field_named _ c.requires.period_input c.args.level c.requires.dividing
     c.requires.places c.block_is_zero.ensures c.if-not-block_is_zero.true
-
-pub returns : goal.returns
-returns c = c.search_level.ensures.power

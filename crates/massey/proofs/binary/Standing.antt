@@ -1,7 +1,6 @@
 -- The state of the model over GF(2) in words and numbers, at the start and after each step.
 --
 --   hold_start       == what stands at the start is the state after no terms
---   hold_sizes       == the numbers of a state
 --   hold_reached, hold_misfit == after the terms that f fits, and at the first that it does not
 --   hold_aligned, misfit_aligned == g is moved down by whole words
 --   hold_kept, hold_changed == a step: the degree stays; it changes
@@ -186,14 +185,6 @@ module _ (ts w lower : List ℕ) (n o : ℕ) (b : o + length lower ≤ 4159)
         (digit-below (get_or w (k / 64) 0) (k % 64))
     | no c ↦ subst (λ n. n < 2) (sym (get_or-eq_default lower 0 (omega arith))) (omega arith)
   ]
-
-pub hold_sizes :
-    {ts : List ℕ} {r : Progress} {f g : List ℕ} {a : ℕ}
-    → WordsHold ts r f g a
-    → (r.degree ≤ r.seen) × (r.earlier + r.degree ≤ r.seen + 1)
-hold_sizes {ts} {r} h =
-    let z = massey_sizes (prime 2) (inverse (prime 2)) ts r.seen in
-    (omega (arith, h.degree), omega (arith, h.degree, h.earlier))
 
 -- Terms that f fits
 after_skip :

@@ -158,15 +158,12 @@ module _ (ts : List ℕ) where
         (omega (arith, h.degree)) in
         (omega arith, omega (arith, h.degree, h.from), omega (arith, h.degree, h.room))
 
-    pub words_turning_reducible : Reducible r f g a
+    pub words_turning_reducible : Reducible r
     words_turning_reducible =
         let z = words_turning_sizes in
         record {
-          words = (h.first, h.second);
-          from = omega (arith, h.room);
           degree = (omega arith, b);
           earlier = (z.0, z.1);
-          most = h.most;
         }
 
     abbrev u : List ℕ

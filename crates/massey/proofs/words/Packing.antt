@@ -12,7 +12,18 @@ use Prim.Native.Nat.{ℕ, suc, ◌+◌, ◌*◌, ◌-◌, ◌/◌, ◌%◌, ◌^
 use mathlib.Core.Path.{◌≡◌, refl, sym, ap, subst, ◌∙◌}
 use mathlib.Core.Logic.{◌⊎◌, inl, inr}
 use mathlib.Core.List.{List, [], ◌∷◌, ◌++◌, append-nil}
-use lib.ListN.{length, get_or, set, drop, length-set, length-drop, length-append, get_or-append, get_or-eq_default, drop_of_length-le}
+use lib.ListN.{
+  length,
+  get_or,
+  set,
+  drop,
+  length-set,
+  length-drop,
+  length-append,
+  get_or-append,
+  get_or-eq_default,
+  drop_of_length-le,
+}
 use lib.Seq.{drop-drop, drop-append_seam, get_or-set_same, get_or-set_other, get_or-drop, ext_get_or}
 use lib.Pow.{pow_mono}
 use native.Mathlib.Nat.{mod-lt, div-add-mod', div-one, pow-suc}
@@ -141,7 +152,8 @@ module _ {ts f : List ℕ} {i : ℕ} (h : Packing ts f i) where
           before : (length block ≡ 64) ⊎ (length rest ≡ 0) → get_or (block ++ rest) r 0 ≡ get_or block r 0
           before (inl k) = get_or-append block rest 0 r (omega arith)
           before (inr k) =
-              ap (λ t. get_or (block ++ t) r 0) (length-zero rest k) ∙ ap (λ t. get_or t r 0) (append-nil block)
+              ap (λ t. get_or (block ++ t) r 0) (length-zero rest k)
+              ∙ ap (λ t. get_or t r 0) (append-nil block)
 
       place :
           (n : ℕ)

@@ -8,11 +8,11 @@
 --                        in the numbers r: those of f have its image, and those of g its marked image, moved
 --                        down (Massey/Images of `bridge`)
 --   WordsHold ts r f g a == what stands there is the state after the terms of ts that r has seen
---   WordsReady r f g a == f can be corrected: the numbers are in range, and g is aligned
+--   WordsReady r a    == f can be corrected: the numbers are in range, and g is aligned
 --   Misfits ts r      == f does not fit the term after those seen
 --   WordsStepped ts r r' f g a == one term more is seen, and the state after it stands there
 --   WordsAdvanced ts r m r' f g a == more terms are seen, at most m, and the state after them stands there
---   Reducible r f g a == f can lose a multiple of x^s·g, s = 2·L − 1 − n, where `seen` is n, counted on from
+--   Reducible r       == f can lose a multiple of x^s·g, s = 2·L − 1 − n, where `seen` is n, counted on from
 --                        the terms
 --   Cancelled r f g a r' f' g' == nothing is done, where f has no coefficient at the place of the leading one
 --                        of x^s·g; or g is aligned, and added
@@ -69,11 +69,8 @@ pub record WordsStand (ts : List ℕ) (x : MasseyState) (r : Progress) (f g : Li
 abbrev pub WordsHold : List ℕ → Progress → List ℕ → List ℕ → ℕ → Type 0
 WordsHold ts r f g a = WordsStand ts (massey_after (prime 2) (inverse (prime 2)) ts r.seen) r f g a
 
-pub record WordsReady (r : Progress) (f g : List ℕ) (a : ℕ) : Type 0 where
-  pub words : Room f × Room g
+pub record WordsReady (r : Progress) (a : ℕ) : Type 0 where
   pub left : 64 * a + r.seen < 4096
-  pub degree : r.degree ≤ r.seen
-  pub most : r.aligned ≤ r.seen + 1
   pub near : r.seen + 1 < r.aligned + 64
 
 abbrev pub Misfits : List ℕ → Progress → Type 0
@@ -90,12 +87,9 @@ pub record WordsAdvanced (ts : List ℕ) (r : Progress) (m : ℕ) (r' : Progress
   pub most : r'.seen ≤ m
   pub holds : WordsHold ts r' f g a
 
-pub record Reducible (r : Progress) (f g : List ℕ) (a : ℕ) : Type 0 where
-  pub words : Room f × Room g
-  pub from : a ≤ 65
+pub record Reducible (r : Progress) : Type 0 where
   pub degree : (r.degree ≤ 4096) × (r.seen < 2 * r.degree)
   pub earlier : (1 ≤ r.earlier) × (r.degree + r.earlier ≤ r.seen + 1)
-  pub most : r.aligned ≤ r.seen + 1
 
 pub data Cancelled (r : Progress) (f g : List ℕ) (a : ℕ) (r' : Progress) (f' g' : List ℕ) : Type 0 where
   none :

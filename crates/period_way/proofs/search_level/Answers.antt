@@ -5,7 +5,8 @@ use Rattle.period_way.proofs.Periodic.{searched-none, searched-some}
 use Rattle.period_way.proofs.search_level.Goals as goal
 
 pub annihilates_at_level-requires : goal.annihilates_at_level-requires
-annihilates_at_level-requires c = period_levelled _ _ _ c.requires.period_input c.args.level c.requires.dividing
+annihilates_at_level-requires c = period_levelled _ _ _ c.requires.period_input c.args.level
+    c.requires.dividing
 
 pub returns-then-not-annihilates_at_level : goal.returns-then-not-annihilates_at_level
 returns-then-not-annihilates_at_level c =

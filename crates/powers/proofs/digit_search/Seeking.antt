@@ -1,8 +1,9 @@
 -- The search in the halves of the work bytes, level by level.
 --
 --   Seeking field f e top s w₀ w at count l r == the power of the terms s with e levels is made of r and the
---                        digits below the level l of the `count` terms of half `at` of w; r is 0 where nothing
---                        is known yet; `top` is the power of the characteristic p by e, and w₀ has become w
+--                        digits below the level l of the `count` terms of half `at` of w; r is 0 where
+--                        nothing is known yet; `top` is the power of the characteristic p by e, and w₀ has
+--                        become w
 --   Going …           == the same where something is left, so that r is at least 1
 --   Below l b         == b is the level below l
 --
@@ -88,14 +89,16 @@ pub record Below (level below : Level) : Type 0 where
   pub exponent : below.exponent + 1 ≡ level.exponent
   pub power : below.power ≡ level.power / level.base
 
-below-parts : {level below : Level} → Below level below → (below.base - 1) * below.power + below.power ≡ level.power
+below-parts : {level below : Level} → Below level below
+    → (below.base - 1) * below.power + below.power ≡ level.power
 below-parts {level} {below} b =
     rw (b.base, b.power)
     (level-parts level.base level.exponent level.power (omega (arith, level.base_least))
     (λ z. omega (arith, b.exponent)) level.is_power)
 
 module _
-    {field : GaloisField} {f : Polynomial} {e top : ℕ} {s w₀ w : List ℕ} {at count : ℕ} {level : Level} {r : ℕ}
+    {field : GaloisField} {f : Polynomial} {e top : ℕ} {s w₀ w : List ℕ} {at count : ℕ} {level : Level}
+    {r : ℕ}
   where
     pub seeking_zero :
         Seeking field f e top s w₀ w at count level r

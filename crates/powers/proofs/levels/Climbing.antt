@@ -60,7 +60,8 @@ climbing_more {p} {r} {level} x l b e =
           subst (λ m. p ^ m < r) j (subst (λ m. m < r) (based-level level x.base).power l);
     }
 
-pub climbing_end : {p r : ℕ} {level : Level} → Base p → Climbing p r level → r ≤ level.power → Reaching p r level
+pub climbing_end : {p r : ℕ} {level : Level} → Base p → Climbing p r level → r ≤ level.power
+    → Reaching p r level
 climbing_end {p} {r} {level} b x l =
     record {
       is_level = based-level level x.base;
@@ -81,7 +82,8 @@ splitting_none {p} {n} {level} (b, e) l =
     record {
       base = b;
       product =
-          sym (ap (λ q. q * n) (level.is_power ∙ ap (◌^◌ level.base) e ∙ ℕ.pow-zero level.base) ∙ ℕ.one-mul n);
+          sym (ap (λ q. q * n) (level.is_power ∙ ap (◌^◌ level.base) e ∙ ℕ.pow-zero level.base)
+          ∙ ℕ.one-mul n);
       positive = l;
     }
 

@@ -1,12 +1,11 @@
 -- The rating of the records of an accepted file, whose terms 7 and 8 accept, by its mode.
 -- Assumes nothing.
 use Prim.Native.Nat.{ℕ, ◌≤◌}
-use native.Mathlib.Decide.{ℕ_discrete}
 use native.Mathlib.Omega.{arith}
-use mathlib.Core.Path.{◌≡◌, refl, sym, ap, subst, ◌∙◌}
+use mathlib.Core.Path.{◌≡◌, refl, sym, ap, ◌∙◌}
 use mathlib.Core.Bool.{false}
 use mathlib.Core.List.{List, [], map}
-use mathlib.Core.Option.{none, some}
+use mathlib.Core.Option.{some}
 use lib.ListN.{length, get_or}
 use Rattle.meaning.specs.declared.FieldName.{FieldName}
 use Rattle.meaning.specs.declared.FileOutcome.{FileOutcome}
@@ -18,11 +17,11 @@ use Rattle.meaning.specs.Period.{period_answer}
 use Rattle.meaning.specs.Portion.{set_answer}
 use Rattle.meaning.specs.Conditions.{named}
 use Rattle.meaning.specs.Free.{free_in}
-use Rattle.meaning.specs.Route.{RouteRecord, Mode, period_mode, set_mode, free_mode, mode_of, byte_of, bodies}
+use Rattle.meaning.specs.Route.{RouteRecord, Mode, period_mode, set_mode, free_mode, mode_of, byte_of}
 use Rattle.meaning.specs.File.{terms_of, of_period, of_set, of_free, rate_mode}
 use Rattle.meaning.specs.File.{field_in, rate_records}
 use Rattle.meaning.specs.FieldNames.{in_field}
-use Rattle.std.specs.Prelude.{Result as Answer, Ok, Err}
+use Rattle.std.specs.Prelude.{Ok, Err}
 use Rattle.meaning.specs.Answers.{Reply, number_of}
 use Rattle.route.specs.framing.Framing.{records_from}
 use Rattle.route.specs.declared.mode.Mode as route

@@ -3,7 +3,7 @@
 --   CheckedFactor F file ts == the file has a factor, and 7, 8, 10 and 11 let the first of its factors and
 --                         the terms ts pass
 --   CheckedFactors F file ts == 7 to 11 let the factors of the file and the terms ts pass
-use Rattle.std.specs.Prelude.{ℕ, ◌≤◌, ◌≡◌, List, [], length, get_or}
+use Rattle.std.specs.Prelude.{ℕ, ◌≤◌, List, [], length, get_or}
 use Rattle.meaning.specs.Field.{Field}
 use Rattle.rate_period.specs.Ratings as period
 use Rattle.rate_set.specs.Ratings as set

@@ -17,14 +17,7 @@ use irreducible::is_irreducible;
 pub fn largest(l: &[u8]) -> u8
     ensures { result ≡ largest l.now }
 {
-    // the larger of m and the largest from x on is the largest of all
-    let mut m = 0;
-    for x in l {
-        if m < *x {
-            m = *x;
-        }
-    }
-    m
+    l.iter().copied().max().unwrap_or(0)
 }
 
 // 8: a term is no element of the field.

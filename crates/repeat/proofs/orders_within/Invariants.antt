@@ -11,4 +11,5 @@ use Rattle.repeat.proofs.orders_within.Given as goal
 
 abbrev pub invariant-loop-i : goal.invariant-loop-i
 invariant-loop-i l = (l.i ≤ length l.set.factors.now)
-    × (l.common ≡ orders_within (field_of l.field) (take l.i (named (lists_of l.set.factors.now) l.set.powers.now)) l.limit)
+    × (l.common ≡ orders_within (field_of l.field)
+    (take l.i (named (lists_of l.set.factors.now) l.set.powers.now)) l.limit)

@@ -9,7 +9,6 @@ use Rattle.meaning.specs.Route.{RouteRecord, bodies}
 use Rattle.meaning.specs.declared.FoundRecord.{FoundRecord}
 use Rattle.route.specs.declared.framing.Records.{Records}
 use Rattle.route.specs.declared.framing.Bodies.{Bodies}
-use Rattle.route.specs.kind.Kinds.{code}
 use Rattle.route.specs.framing.Framing.{framed}
 
 abbrev pub read : FoundRecord → RouteRecord
@@ -19,7 +18,7 @@ abbrev pub left : Records → List RouteRecord
 left s = framed s.rest.now 0
 
 abbrev pub bodies_left : Bodies → List (List ℕ)
-bodies_left s = bodies (code s.kind) (left s.records)
+bodies_left s = bodies s.kind (left s.records)
 
 abbrev pub size_of : List RouteRecord → ℕ
 size_of [] = 0

@@ -38,7 +38,8 @@ module _ {F : Field} (I : IsField F) {fs : List Polynomial} {us ts w : List ℕ}
       record {
         annihilated =
             sym
-            (annihilates_known-all F g ts ∙ ap all_zero (empty (act_on_known F g ts) z) ∙ T_true all_zero-nil);
+            (annihilates_known-all F g ts ∙ ap all_zero (empty (act_on_known F g ts) z)
+            ∙ T_true all_zero-nil);
         kept = kept_same w;
       }
     where

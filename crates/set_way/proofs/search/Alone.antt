@@ -115,7 +115,8 @@ module _
             ∙ ap {B = Option ℕ} some
             (ap
             (λ f.
-            power_found (power_acts (field_of field) f) (field_of field).characteristic (degree f) level.exponent
+            power_found (power_acts (field_of field) f) (field_of field).characteristic
+            (degree f) level.exponent
             (portion_at (field_of field) (named fs us) ts 0))
             (factor_at-named fs us 0)
             ∙ ap

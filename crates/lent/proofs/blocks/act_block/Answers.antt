@@ -1,5 +1,5 @@
--- `blocks::act_block` meets its contract, by sums of either kind: as many as values, from the front of 256 zeros.
--- Assumes nothing.
+-- `blocks::act_block` meets its contract, by sums of either kind: as many as values, from the front of 256
+-- zeros. Assumes nothing.
 use mathlib.Core.Path.{sym, ap, subst, ◌∙◌}
 use Rattle.arith.specs.Represented.{field_of}
 use Rattle.arith.specs.sums.Sums.{Room, elements_of}

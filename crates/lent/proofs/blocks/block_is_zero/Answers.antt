@@ -1,5 +1,5 @@
--- `blocks::block_is_zero` meets its contract, by sums of either kind: as many as values, from the front of 256 zeros.
--- Assumes nothing.
+-- `blocks::block_is_zero` meets its contract, by sums of either kind: as many as values, from the front of
+-- 256 zeros. Assumes nothing.
 use mathlib.Core.Path.{sym, ap, subst, ◌∙◌}
 use Rattle.arith.specs.Represented.{field_of}
 use Rattle.arith.specs.sums.Sums.{Room, elements_of}

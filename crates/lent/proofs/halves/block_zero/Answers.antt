@@ -1,5 +1,5 @@
--- `halves::block_zero` meets its contract. The invariant: `any` is 0 exactly where the first bytes are. Assumes
--- nothing.
+-- `halves::block_zero` meets its contract. The invariant: `any` is 0 exactly where the first bytes are.
+-- Assumes nothing.
 use mathlib.Core.Path.{refl}
 use native.Mathlib.Omega.{arith}
 use Rattle.lent.proofs.Zeros.{anything_more, anything_end}

@@ -1,5 +1,5 @@
--- `halves::block_zero` meets its contract. The invariant: `any` is 0 exactly where the first bytes are. Assumes
--- nothing.
+-- `halves::block_zero` meets its contract. The invariant: `any` is 0 exactly where the first bytes are.
+-- Assumes nothing.
 use Rattle.lent.proofs.Zeros.{Anything}
 use Rattle.lent.proofs.halves.block_zero.Given as goal
 

@@ -14,9 +14,9 @@ use Rattle.arith.proofs.Represented.{field-is_field}
 use Rattle.lent.specs.declared.levels.Level.{Level}
 use Rattle.lent.specs.halves.Halves.{half}
 use Rattle.lent.proofs.halves.Bytes.{lent-half, acted-values, acted-same, acted_halves, acted-again}
-use Rattle.lent.proofs.halves.Bytes.{acted-zero, acted-nonzero, acted-enough, acted-kept, kept_same}
+use Rattle.lent.proofs.halves.Bytes.{acted-zero, acted-nonzero, acted-enough, acted-kept}
 use Rattle.lent.proofs.halves.Bytes.{kept_trans}
-use Rattle.powers.proofs.digit_search.Trying.{Trying, Tried, trying_none, trying_more, trying_stop}
+use Rattle.powers.proofs.digit_search.Trying.{Trying, Tried, trying_more, trying_stop}
 use Rattle.powers.proofs.digit_search.Trying.{trying_all}
 use Rattle.powers.proofs.digit_search.Seeking.{Seeking, Going, seeking_start, seeking_zero}
 use Rattle.powers.proofs.digit_search.Seeking.{seeking_first, seeking_later, going_end}
@@ -63,14 +63,6 @@ returns-then-level-eq0 c =
       | else-power-eq0 w ↦ inr (w.if-power-eq0.false, w.power-is)
     ]) in
     record { power = going_end x c.if-level-eq0.true; kept = x.kept }
-
-pub loop-digit-init : goal.loop-digit-init
-loop-digit-init c =
-    record {
-      tried = trying_none _ _ _ _;
-      halves = c.levels.invariant.halves;
-      kept = kept_same c.levels.work;
-    }
 
 -- what is asked of the level below
 pub act_at_level-requires-clause-levelled : goal.act_at_level-requires-clause-levelled

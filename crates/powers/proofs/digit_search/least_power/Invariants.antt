@@ -1,7 +1,7 @@
--- The invariant of the levels: `power` and the digits below the level of what stands at `at` make the power of
--- the n terms; the measure is the exponent of the level. The invariant of one digit: `digit`, and the digit of
--- what stands at `at`, make the digit of what was there when the level began; the measure is the number of
--- tries that are left.
+-- The invariant of the levels: `power` and the digits below the level of what stands at `at` make the power
+-- of the n terms; the measure is the exponent of the level. The invariant of one digit: `digit`, and the
+-- digit of what stands at `at`, make the digit of what was there when the level began; the measure is the
+-- number of tries that are left.
 use Prim.Native.Nat.{◌-◌}
 use Rattle.lent.specs.halves.Halves.{half, Halves}
 use Rattle.lent.specs.halves.Kept.{Kept}

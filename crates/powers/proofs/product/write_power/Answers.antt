@@ -4,13 +4,9 @@ use Rattle.meaning.specs.Slices.{lists_of}
 use Rattle.powers.proofs.product.Products.{one_input, one_written}
 use Rattle.powers.proofs.product.write_power.Goals as goal
 
-pub write_product-requires : goal.write_product-requires
+pub write_product-requires-clause-product_input : goal.write_product-requires-clause-product_input
 unfolding lists_of
-write_product-requires c =
-    record {
-      in_bounds = c.requires.in_bounds;
-      product_input = one_input c.requires.power_input;
-    }
+write_product-requires-clause-product_input c = one_input c.requires.power_input
 
 pub returns : goal.returns
 unfolding lists_of

@@ -23,7 +23,8 @@ loop-f-init c = (
 pub times_power-n-requires : goal.times_power-n-requires
 times_power-n-requires c =
     let pair =
-    pair_turn c.args.set.factors.now c.args.set.powers.now c.loop-f.yielded _ _ c.next.new.self _ (search rules) (search rules)
+    pair_turn c.args.set.factors.now c.args.set.powers.now c.loop-f.yielded _ _ c.next.new.self _
+    (search rules) (search rules)
     c.loop-f.yielded_by _ c.in-Some.is c.next.ensures.steps in
     rw (← pair.factor, ← pair.power)
     (multiplying_raising (field-is_field c.args.field) c.requires.product_input
@@ -33,7 +34,8 @@ times_power-n-requires c =
 pub loop-f-preserved : goal.loop-f-preserved
 loop-f-preserved c =
     let pair =
-    pair_turn c.args.set.factors.now c.args.set.powers.now c.loop-f.yielded _ _ c.next.new.self _ (search rules) (search rules)
+    pair_turn c.args.set.factors.now c.args.set.powers.now c.loop-f.yielded _ _ c.next.new.self _
+    (search rules) (search rules)
     c.loop-f.yielded_by _ c.in-Some.is c.next.ensures.steps in (
       rw length-append
           (multiplying_more (field-is_field c.args.field) c.requires.product_input c.loop-f.invariant.0
@@ -45,6 +47,7 @@ pub returns : goal.returns
 returns c =
     multiplying_end (field-is_field c.args.field) c.requires.product_input c.loop-f.invariant.0
     c.args.answer.now c.requires.in_bounds refl
-    (pairs_end c.args.set.factors.now c.args.set.powers.now c.loop-f.yielded _ _ c.next.new.self _ (search rules) (search rules)
+    (pairs_end c.args.set.factors.now c.args.set.powers.now c.loop-f.yielded _ _ c.next.new.self _
+    (search rules) (search rules)
     c.loop-f.yielded_by c.in-None.is c.next.ensures.steps
     (omega (arith, c.requires.product_input.enough, lists_length c.args.set.factors.now)))

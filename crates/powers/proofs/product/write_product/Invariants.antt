@@ -8,6 +8,7 @@ use Rattle.powers.proofs.product.Products.{Multiplying}
 use Rattle.powers.proofs.product.write_product.Given as goal
 
 abbrev pub invariant-loop-f : goal.invariant-loop-f
-invariant-loop-f l = Multiplying (field_of l.field) (lists_of l.set.factors.now) l.set.powers.now l.initial.answer l.answer
+invariant-loop-f l = Multiplying (field_of l.field) (lists_of l.set.factors.now)
+    l.set.powers.now l.initial.answer l.answer
     (length l.yielded) l.n
     × (length l.answer ≡ length l.initial.answer)

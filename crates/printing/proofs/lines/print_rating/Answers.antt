@@ -1,34 +1,17 @@
--- `lines::print_rating` meets its contract: the header, the result line and the poly line are put one after
--- the other, and there is room for them.
+-- `lines::print_rating` meets its contract: the lines are copied to the front of the lent bytes.
 -- Assumes nothing.
-use Rattle.std.proofs.Common.{ap, arith, suc, length, length-append}
-use Rattle.std.proofs.lemmas.List.{length-take}
-use Rattle.meaning.specs.Print.{text}
-use Rattle.printing.proofs.result_line.Lines.{lines_refused, lines_rated}
+use Rattle.std.proofs.Common.{ap, ◌∙◌, ◌++◌, length, drop, arith}
+use Rattle.meaning.specs.Result.{written}
 use Rattle.printing.proofs.lines.print_rating.Goals as goal
 
-pub push_poly-requires : goal.push_poly-requires
-unfolding text
-push_poly-requires c =
-    omega (
-      arith,
-      ap length c.coefficients.ensures,
-      length-take (suc c.density-degree.result.0) c.args.answer.now,
-      ap length c.new-lines.ensures,
-      ap length c.push_word.ensures,
-      length-append c.new-lines.result (text "box result density powers\n"),
-    )
-
-pub returns-in-Err : goal.returns-in-Err
-unfolding text
-returns-in-Err c =
-    lines_refused c.args.rating c.args.answer.now c.new-lines.ensures c.push_word.ensures c.in-Err.is
-    c.from.ensures
-    c.push_refused.ensures.put
-
-pub returns-in-Ok : goal.returns-in-Ok
-unfolding text
-returns-in-Ok c =
-    lines_rated c.args.rating c.args.answer.now c.new-lines.ensures c.push_word.ensures c.in-Ok.is
-    c.push_rated.ensures.put
-    (rw (c.push_poly.ensures.put, c.coefficients.ensures, c.density-degree.ensures.0))
+pub returns : goal.returns
+unfolding written
+returns c =
+    let b = c.as_bytes-bytes.result.now in
+    let out = c.args.out.now in
+    let e = c.as_bytes-bytes.ensures.put ∙ c.printed_lines-lines.ensures in record {
+      count = ap length e;
+      fits = omega (arith, c.as_bytes-bytes.ensures.within);
+      bytes = ap (λ u. u ++ drop (length b) out) c.copy_from_slice.ensures.after
+          ∙ ap (λ u. written u out) e;
+    }

@@ -6,7 +6,6 @@ use native.Mathlib.Omega.{arith}
 use Prim.Native.Nat.{ℕ, ◌≤◌}
 use lib.ListN.{length, get_or, take, length-take}
 use lib.Seq.{length-sets}
-use Rattle.std.specs.Prelude.{Ok}
 use Rattle.irreducible.proofs.Accepted.{accepted-short}
 use Rattle.meaning.specs.Field.{Field}
 use Rattle.meaning.specs.File.{file_factor, polynomial_of}

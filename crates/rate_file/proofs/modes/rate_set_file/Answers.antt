@@ -4,7 +4,7 @@ use Prim.Native.Nat.{ℕ, ◌≤◌}
 use native.Mathlib.Nat.{sub-zero}
 use native.Mathlib.Omega.{arith}
 use mathlib.Core.Path.{◌≡◌, sym, ap, ◌∙◌}
-use mathlib.Core.List.{List, map, flatten}
+use mathlib.Core.List.{List, flatten}
 use lib.ListN.{length, take, length-take, length-map}
 use Rattle.std.specs.Borrow.{Bor}
 use Rattle.meaning.specs.Field.{Field}

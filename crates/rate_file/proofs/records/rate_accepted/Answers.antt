@@ -14,8 +14,8 @@ use Rattle.rate_file.proofs.records.rate_accepted.Goals as goal
 -- an accepted file has a mode
 pub returns-in_err-try_from : goal.returns-in_err-try_from
 returns-in_err-try_from c =
-    absurd
-    (some-mode _ c.requires.accepted.suited (sym (ap mode_of c.byte_of.ensures) ∙ c.in_err-try_from.ensures.1))
+    let unknown = sym (ap mode_of c.byte_of.ensures) ∙ c.in_err-try_from.ensures.1 in
+    absurd (some-mode _ c.requires.accepted.suited unknown)
 
 pub returns-in-Free : goal.returns-in-Free
 returns-in-Free c =

@@ -1,49 +1,50 @@
 -- The largest number of a list, and tests of all its numbers by it.
 -- Assumes nothing.
-use Prim.Native.Nat.{ℕ, zero, suc, ◌+◌, max, ◌≤◌, ◌<◌}
+use Prim.Native.Nat.{ℕ, zero, suc, max, ◌≤◌}
 use native.Mathlib.Nat.{max-zero, max-eq_left, max-eq_right, le-max_left, le-max_right, max-le, le_trans}
 use native.Mathlib.Nat.{le_antisymm}
-use native.Mathlib.Numerals.{add-one}
 use native.Mathlib.Decide.{dec_le}
 use native.Mathlib.Omega.{arith}
 use mathlib.Core.Path.{◌≡◌, refl, sym, ap, ◌∙◌}
 use mathlib.Core.Bool.{Bool, true, false, not, ◌&&◌, and-true, and-false, and_comm}
 use mathlib.Core.List.{List, [], ◌∷◌}
 use lib.Dec.{leb, ltb, eqb, eqb-suc-zero}
-use lib.ListN.{length, get_or, drop, drop_of_length-le}
-use lib.Seq.{drop-cons}
+use lib.ListN.{length}
 use borrow.Author.Tests.{lt-ltb, le-ltb, le-leb, lt-leb, ltb-true, eq-eqb, eqb-true}
+use Rattle.std.specs.Prelude.{Option, Some, None, fold, unwrap_or, option_map}
+use Rattle.std.specs.List.{reduce}
 use Rattle.meaning.specs.Search.{holds_for_all}
 use Rattle.meaning.specs.Field.{Field, is_element, are_elements}
 use Rattle.meaning.specs.Conditions.{term_out_of_field}
 use Rattle.refusals.specs.conditions.lists.Lists.{largest}
 use Rattle.refusals.proofs.conditions.numbers.Tests.{all_cons}
 
-largest-drop : (l : List ℕ) (i : ℕ) → i < length l
-    → largest (drop i l) ≡ max (get_or l i 0) (largest (drop (i + 1) l))
+max_assoc : (a b c : ℕ) → max (max a b) c ≡ max a (max b c)
+max_assoc a b c =
+    le_antisymm
+    (max-le (max-le (le-max_left a _) (le_trans (le-max_left b c) (le-max_right a _)))
+    (le_trans (le-max_right b c) (le-max_right a _)))
+    (max-le (le_trans (le-max_left a b) (le-max_left _ c))
+    (max-le (le_trans (le-max_right a b) (le-max_left _ c)) (le-max_right (max a b) c)))
+
+largest_fold : (a : ℕ) (l : List ℕ) → fold max a l ≡ max a (largest l)
 unfolding largest
-largest-drop l i h = rw (add-one, drop-cons l i 0)
+largest_fold a [] = sym (max-zero a)
+largest_fold a (c ∷ l) = largest_fold (max a c) l ∙ max_assoc a c (largest l)
 
--- The larger of m and the largest from i on is the largest of all.
-pub largest_over : (l : List ℕ) (i m : ℕ) → length l ≤ i
-    → max m (largest (drop i l)) ≡ largest l
-    → m ≡ largest l
+-- The library's word for the largest number of a list.
+pub largest_is : (r : Option ℕ) (l : List ℕ) → option_map (λ x. x) r ≡ reduce max l
+    → unwrap_or r 0 ≡ largest l
 unfolding largest
-largest_over l i m h e = sym (max-zero m) ∙ (rw (drop_of_length-le l h) at e)
+largest_is r l e = ap (λ o. unwrap_or o 0) (same r ∙ e) ∙ reduced l
+  where
+    same : (o : Option ℕ) → o ≡ option_map (λ x. x) o
+    same None = refl
+    same (Some x) = refl
 
-module _ (l : List ℕ) (i m : ℕ) (h : i < length l) (e : max m (largest (drop i l)) ≡ largest l) where
-  whole : max m (max (get_or l i 0) (largest (drop (i + 1) l))) ≡ largest l
-  whole = ap (max m) (sym (largest-drop l i h)) ∙ e
-
-  pub larger_found : m < get_or l i 0 → max (get_or l i 0) (largest (drop (i + 1) l)) ≡ largest l
-  larger_found q = sym (max-eq_right (le_trans (omega arith) (le-max_left _ _))) ∙ whole
-
-  pub larger_kept : get_or l i 0 ≤ m → max m (largest (drop (i + 1) l)) ≡ largest l
-  larger_kept q =
-      le_antisymm
-      (max-le (le-max_left m _) (le_trans (le-max_right (get_or l i 0) _) (le-max_right m _)))
-      (max-le (le-max_left m _) (max-le (le_trans q (le-max_left m _)) (le-max_right m _)))
-      ∙ whole
+    reduced : (k : List ℕ) → unwrap_or (reduce max k) 0 ≡ largest k
+    reduced [] = refl
+    reduced (a ∷ k) = largest_fold a k
 
 -- A test that passes on all numbers below one on which it passes.
 abbrev Downward : (ℕ → Bool) → Type 0

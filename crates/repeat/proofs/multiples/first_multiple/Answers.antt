@@ -20,4 +20,5 @@ returns c = trying_missing c.args.limit c.loop-k.invariant.1 (omega arith)
 
 pub returns-else-k-n-eq0 : goal.returns-else-k-n-eq0
 returns-else-k-n-eq0 c =
-    trying_missing c.args.limit (trying_next c.requires.0 c.loop-k.invariant.1 c.if-k-n-eq0.false) (omega arith)
+    trying_missing c.args.limit (trying_next c.requires.0 c.loop-k.invariant.1 c.if-k-n-eq0.false)
+    (omega arith)

@@ -16,7 +16,8 @@ loop-f-init c = passing_start c.args.field c.requires.set_input c.requires.in_bo
 pub act_power-at-requires-clause-actable : goal.act_power-at-requires-clause-actable
 act_power-at-requires-clause-actable c =
     let pair =
-    pair_turn c.args.set.factors.now c.args.set.powers.now c.loop-f.yielded _ _ c.next.new.self _ (search rules)
+    pair_turn c.args.set.factors.now c.args.set.powers.now c.loop-f.yielded _ _ c.next.new.self _
+    (search rules)
     (search rules) c.loop-f.yielded_by _ c.in-Some.is c.next.ensures.steps in
     rw (← pair.factor, ← pair.power)
     (passing_actable c.args.field c.requires.set_input c.loop-f.invariant pair.has_factor)
@@ -24,7 +25,8 @@ act_power-at-requires-clause-actable c =
 pub loop-f-preserved : goal.loop-f-preserved
 loop-f-preserved c =
     let pair =
-    pair_turn c.args.set.factors.now c.args.set.powers.now c.loop-f.yielded _ _ c.next.new.self _ (search rules)
+    pair_turn c.args.set.factors.now c.args.set.powers.now c.loop-f.yielded _ _ c.next.new.self _
+    (search rules)
     (search rules) c.loop-f.yielded_by _ c.in-Some.is c.next.ensures.steps in
     rw length-append
     (passing_more c.args.field c.requires.set_input c.loop-f.invariant pair.has_factor

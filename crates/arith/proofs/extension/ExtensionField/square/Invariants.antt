@@ -10,5 +10,6 @@ use Rattle.arith.proofs.Writing.{Writing}
 use Rattle.arith.proofs.extension.ExtensionField.square.Given as goal
 
 abbrev pub invariant-loop-x : goal.invariant-loop-x
-invariant-loop-x l = (l.x-index ≤ l.x-index-end) × (l.x-index-end ≡ length l.initial.a) × Writing l.initial.a 0
+invariant-loop-x l = (l.x-index ≤ l.x-index-end) × (l.x-index-end ≡ length l.initial.a)
+    × Writing l.initial.a 0
     (map (raise (extension_of l.self) 2) l.initial.a) l.a l.x-index

@@ -1,4 +1,5 @@
--- Sums that are elements meet the contract of `Summation::add`: nothing is added where c is 0. Assumes nothing.
+-- Sums that are elements meet the contract of `Summation::add`: nothing is added where c is 0. Assumes
+-- nothing.
 use mathlib.Core.List.{◌++◌}
 use native.Mathlib.Omega.{arith}
 use lib.ListN.{length-append}

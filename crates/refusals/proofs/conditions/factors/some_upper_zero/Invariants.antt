@@ -9,5 +9,6 @@ use Rattle.meaning.specs.Slices.{lists_of}
 use Rattle.refusals.proofs.conditions.factors.some_upper_zero.Given as goal
 
 abbrev pub invariant-loop-i : goal.invariant-loop-i
-invariant-loop-i l = holds_for_some (λ f. eqb f.1 0) (drop l.i (named (lists_of l.set.factors.now) l.set.powers.now))
+invariant-loop-i l = holds_for_some (λ f. eqb f.1 0)
+    (drop l.i (named (lists_of l.set.factors.now) l.set.powers.now))
     ≡ holds_for_some (λ f. eqb f.1 0) (named (lists_of l.set.factors.now) l.set.powers.now)

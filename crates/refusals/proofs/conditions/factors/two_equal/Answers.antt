@@ -2,7 +2,13 @@
 -- Assumes nothing.
 use mathlib.Core.Path.{refl, sym, ◌∙◌}
 use Prim.Native.Nat.{◌+◌}
-use Rattle.refusals.proofs.conditions.factors.Scan.{equal-scan, factor-found, factor-next, factors_over, rest_of}
+use Rattle.refusals.proofs.conditions.factors.Scan.{
+  equal-scan,
+  factor-found,
+  factor-next,
+  factors_over,
+  rest_of,
+}
 use Rattle.refusals.proofs.conditions.factors.two_equal.Goals as goal
 
 pub loop-i-init : goal.loop-i-init
