@@ -1,7 +1,7 @@
 // What the counting copy calls at each store (tests/counting/copy): the stores of one call, by the addresses that they go
 // to. A store of a single term is one of a byte of the lent work bytes.
 use std::cell::RefCell;
-use std::collections::BTreeSet;
+use std::collections::{BTreeMap, BTreeSet};
 use std::mem::size_of;
 use std::ops::Range;
 use std::panic::Location;
@@ -38,17 +38,50 @@ fn addresses(bytes: &[u8]) -> Range<usize> {
     start..start + bytes.len()
 }
 
-// The sources whose stores outside of the lent bytes are sums of a block, or raised coefficients: in characteristic 2 sums
-// are bytes, and added up by `add_multiple` of `arith::vectors`. Over odd primes they are wider numbers, and these stores are
-// none.
-const SUMS: [&str; 2] = ["/arith/vectors.rs", "/arith/extension.rs"];
+// The functions whose stores outside of the lent bytes are sums of a block, or raised coefficients, by source and name, or
+// all of a source: in characteristic 2 sums are bytes, and added up by `add_multiple`. Over odd primes they are wider
+// numbers, and these stores are none.
+const SUMS: [(&str, Option<&str>); 2] = [
+    ("/arith/vectors.rs", Some("add_multiple")),
+    ("/arith/extension.rs", None),
+];
+
+thread_local! {
+    static ARE_SUMS: RefCell<BTreeMap<(&'static str, u32), bool>> = RefCell::default();
+}
+
+// The name of the function that a place stands in.
+fn function_at(place: &Location) -> String {
+    let text = std::fs::read_to_string(place.file()).expect("the counting copy");
+    let before: Vec<&str> = text.lines().take(place.line() as usize).collect();
+    let heads = before.iter().rev().filter_map(|line| line.split_once("fn "));
+    let name = |(_, head): (&str, &str)| {
+        head.chars()
+            .take_while(|c| c.is_alphanumeric() || *c == '_')
+            .collect()
+    };
+    heads.map(name).next().unwrap_or_default()
+}
+
+// Whether the stores of a place are of sums.
+fn is_of_sums(place: &'static Location<'static>) -> bool {
+    ARE_SUMS.with_borrow_mut(|known| {
+        *known
+            .entry((place.file(), place.line()))
+            .or_insert_with(|| {
+                SUMS.iter().any(|(file, function)| {
+                    place.file().ends_with(file)
+                        && function.is_none_or(|name| function_at(place) == name)
+                })
+            })
+    })
+}
 
 // A value was stored at the place, by the source that calls this.
 #[track_caller]
 pub fn stored<T: Copy>(place: &T) {
     let address = place as *const T as usize;
-    let file = Location::caller().file();
-    let sums = SUMS.iter().any(|name| file.ends_with(name));
+    let caller = Location::caller();
     COUNTING.with_borrow_mut(|counting| {
         let counts = &mut counting.counts;
         if size_of::<T>() != 1 {
@@ -58,7 +91,7 @@ pub fn stored<T: Copy>(place: &T) {
             counts.work.push((address - counting.work.start, value));
         } else if counting.answer.contains(&address) {
             counts.answer += 1;
-        } else if sums {
+        } else if is_of_sums(caller) {
             counts.sums += 1;
         } else {
             counts.elsewhere += 1;

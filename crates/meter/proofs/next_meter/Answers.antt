@@ -4,11 +4,8 @@ use native.Mathlib.Omega.{arith}
 use mathlib.Core.Path.{sym, subst}
 use Rattle.meaning.proofs.Replies.{handed_on}
 use Rattle.meter.specs.Model.{Usable, NextCall}
-use Rattle.meter.proofs.Steps.{next_unusable, next_declined, next_refused, next_taken, room-left}
+use Rattle.meter.proofs.Steps.{next_unusable, next_refused, next_taken, room-left}
 use Rattle.meter.proofs.next_meter.Goals as goal
-
-pub returns-in_err-field : goal.returns-in_err-field
-returns-in_err-field c = next_declined _ _ c.in_err-field.ensures
 
 pub take-requires : goal.take-requires
 take-requires c =

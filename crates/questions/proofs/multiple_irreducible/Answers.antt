@@ -51,9 +51,3 @@ is_irreducible-requires-2 c =
     subst (Accepted (field_of c.args.field))
     (sym (asked-front I c.requires (replicate 33 0) c.monic_multiple.ensures))
     (asked-accepted I c.requires)
-
-pub returns : goal.returns
-returns c =
-    c.is_irreducible-2.ensures
-    ∙ ap (irreducible (field_of c.args.field))
-    (asked-front (field-is_field c.args.field) c.requires (replicate 33 0) c.monic_multiple.ensures)

@@ -21,6 +21,3 @@ returns-in_err-terms_verdict c =
     a.answer.now a.work.now r a.answer.now a.work.now)
     (sym (handed_on _ c.from_residual.ensures))
     (terms_refused _ _ _ _ c.terms_verdict.ensures c.in_err-terms_verdict.was)
-
-pub returns : goal.returns
-returns c = c.rate_checked.ensures

@@ -20,12 +20,6 @@ loop-record-init c =
       few = omega (arith, ap size_of e, records-size c.args.file.now);
     }
 
-pub overflow_add-count : goal.overflow_add-count
-overflow_add-count c =
-    let e = c.in-Some.ensures.steps in
-    let split = size_split c.terms_in-found.ensures (left c.next.new.self) in
-    omega (arith, ap size_of e, split, c.loop-record.invariant.few)
-
 pub loop-record-preserved : goal.loop-record-preserved
 loop-record-preserved c =
     let e = c.in-Some.ensures.steps in

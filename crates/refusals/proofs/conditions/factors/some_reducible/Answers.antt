@@ -1,15 +1,12 @@
 -- `some_reducible` meets its contract. The invariant: the factors from f on decide.
 -- Assumes nothing.
 use native.Mathlib.Omega.{arith}
-use mathlib.Core.Path.{refl, sym, ◌∙◌, subst}
+use mathlib.Core.Path.{sym, ◌∙◌, subst}
 use Rattle.meaning.proofs.Slices.{lists_length, lists_at}
 use Rattle.irreducible.specs.Accepted.{Accepted}
 use Rattle.arith.specs.Represented.{field_of}
 use Rattle.refusals.proofs.conditions.factors.Scan.{some-scan, factor-found, factor-next, factors_over}
 use Rattle.refusals.proofs.conditions.factors.some_reducible.Goals as goal
-
-pub loop-f-init : goal.loop-f-init
-loop-f-init c = refl
 
 pub reducible-requires : goal.reducible-requires
 reducible-requires c =

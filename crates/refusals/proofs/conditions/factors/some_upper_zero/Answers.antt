@@ -1,11 +1,8 @@
 -- `some_upper_zero` meets its contract. The invariant: the factors from i on decide.
 -- Assumes nothing.
-use mathlib.Core.Path.{refl, sym, ◌∙◌}
+use mathlib.Core.Path.{sym, ◌∙◌}
 use Rattle.refusals.proofs.conditions.factors.Uppers.{zero-found, zero-next, zeros_over}
 use Rattle.refusals.proofs.conditions.factors.some_upper_zero.Goals as goal
-
-pub loop-i-init : goal.loop-i-init
-loop-i-init c = refl
 
 pub returns-then-upper_at-eq0 : goal.returns-then-upper_at-eq0
 returns-then-upper_at-eq0 c =

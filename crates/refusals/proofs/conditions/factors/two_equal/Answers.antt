@@ -1,6 +1,6 @@
 -- `two_equal` meets its contract. The invariant: the factors from i on decide.
 -- Assumes nothing.
-use mathlib.Core.Path.{refl, sym, ◌∙◌}
+use mathlib.Core.Path.{sym, ◌∙◌}
 use Prim.Native.Nat.{◌+◌}
 use Rattle.refusals.proofs.conditions.factors.Scan.{
   equal-scan,
@@ -10,9 +10,6 @@ use Rattle.refusals.proofs.conditions.factors.Scan.{
   rest_of,
 }
 use Rattle.refusals.proofs.conditions.factors.two_equal.Goals as goal
-
-pub loop-i-init : goal.loop-i-init
-loop-i-init c = refl
 
 pub returns-then-occurs : goal.returns-then-occurs
 returns-then-occurs c =
