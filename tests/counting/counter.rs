@@ -54,7 +54,10 @@ thread_local! {
 fn function_at(place: &Location) -> String {
     let text = std::fs::read_to_string(place.file()).expect("the counting copy");
     let before: Vec<&str> = text.lines().take(place.line() as usize).collect();
-    let heads = before.iter().rev().filter_map(|line| line.split_once("fn "));
+    let heads = before
+        .iter()
+        .rev()
+        .filter_map(|line| line.split_once("fn "));
     let name = |(_, head): (&str, &str)| {
         head.chars()
             .take_while(|c| c.is_alphanumeric() || *c == '_')
