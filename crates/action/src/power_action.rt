@@ -5,7 +5,7 @@ ghost use Rattle.action.specs.power_action.Acting.{Actable, PowerActed};
 
 use crate::act_at_level;
 use arith::GaloisField;
-use lent::halves::Place;
+pub use lent::halves::Place;
 use lent::levels::Level;
 
 // Acts with f^u on the n terms at a place, and returns where the n − u·deg f values are. For each digit of u

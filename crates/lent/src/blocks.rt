@@ -21,6 +21,7 @@ pub(crate) fn advance(at: usize, step: usize, n: usize) -> usize
 
 // Acts with f and the stride q on the n numbers of w from `from` on as a period: writes the m values from
 // the place i on to w from `to` on, and returns whether they are all 0. All other bytes stay.
+#[inline(always)]
 pub fn act_block(
     field: GaloisField,
     w: &mut [u8],
@@ -60,6 +61,7 @@ pub fn act_block(
 }
 
 // Whether the m values from the place i on of the action of f with the stride q on the period ts are all 0.
+#[inline(always)]
 pub fn block_is_zero(field: GaloisField, ts: &[u8], i: usize, f: &[u8], q: usize, m: usize) -> bool
     requires { Places (length ts.now) i m }
     ensures { result ≡ all_zero (block_on_period (field_of field) f.now q ts.now i m) }

@@ -5,6 +5,7 @@ ghost use Rattle.arith.specs.Slices.{combined};
 ghost use Rattle.lent.specs.sums.Bounded.{Bounded};
 
 use crate::halves::block_zero;
+use crate::overwrite;
 use crate::sums::Summation;
 use arith::GaloisField;
 
@@ -50,7 +51,7 @@ impl Summation for ElementSums {
     }
 
     fn store(self, sums: &[u8], out: &mut [u8]) -> bool {
-        out.copy_from_slice(sums);
+        overwrite(out, sums);
         block_zero(sums)
     }
 

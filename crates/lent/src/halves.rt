@@ -4,6 +4,8 @@ ghost use Rattle.std.specs.Prelude.{◌≡◌, ◌-◌, length};
 ghost use Rattle.bridge.proofs.Sequences.KnownActions.{all_zero};
 ghost use Rattle.lent.specs.halves.Halves.{Halves, Placed};
 
+use crate::overwrite;
+
 // Terms at the front of a half of the work bytes.
 #[derive(Clone, Copy)]
 pub struct Place {
@@ -42,5 +44,5 @@ pub fn load(work: &mut [u8], h: usize, terms: &[u8])
     ensures { Placed work.old h (1 - h) terms.now work.new }
 {
     let at = 4096 * h;
-    work[at..at + terms.len()].copy_from_slice(terms);
+    overwrite(&mut work[at..at + terms.len()], terms);
 }

@@ -4,6 +4,7 @@ ghost use Rattle.meaning.specs.Field.{are_elements};
 ghost use Rattle.bridge.proofs.Lists.Spread.{raise};
 ghost use Rattle.arith.specs.Represented.{field_of};
 
+use crate::overwrite;
 use arith::GaloisField;
 
 // Raises each element to the power p^l, p the characteristic.
@@ -26,6 +27,6 @@ pub fn raised_copy(field: GaloisField, f: &[u8], l: usize, to: &mut [u8])
         ≡ map (raise (field_of field) ((field_of field).characteristic ^ l)) f.now }
 {
     let raised = &mut to[0..f.len()];
-    raised.copy_from_slice(f);
+    overwrite(raised, f);
     raise_levels(field, raised, l);
 }

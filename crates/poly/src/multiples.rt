@@ -9,6 +9,7 @@ ghost use Rattle.arith.specs.Represented.{field_of};
 ghost use Rattle.poly.specs.multiples.Packable.{Packable};
 
 use arith::GaloisField;
+use lent::overwrite;
 
 // Writes the monic multiple of f, which is as long as f, to the front of `to`, and leaves the rest as it was.
 pub fn monic_multiple(field: GaloisField, f: &[u8], to: &mut [u8])
@@ -19,7 +20,7 @@ pub fn monic_multiple(field: GaloisField, f: &[u8], to: &mut [u8])
         ++ drop (length f.now) to.old }
 {
     let n = f.len();
-    to[0..n].copy_from_slice(f);
+    overwrite(&mut to[0..n], f);
     let c = f[n - 1];
     if c != 1 {
         let inverse = field.inverse(c);

@@ -3,7 +3,7 @@
 ghost use Rattle.std.specs.Prelude.{◌≤◌, ◌<◌};
 ghost use Rattle.powers.specs.levels.Levels.{Base, Reaching, Dividing};
 
-use lent::levels::Level;
+pub use lent::levels::Level;
 
 // The least power of p that is at least r.
 pub fn level_reaching(p: usize, r: usize) -> Level

@@ -2,7 +2,8 @@
 ghost use Rattle.std.specs.Prelude.{◌≡◌, suc, take};
 ghost use Rattle.meaning.specs.Program.{lines_of, PrintCall};
 
-use crate::buffer::{MOST_PRINTED, Printed};
+pub use crate::buffer::MOST_PRINTED;
+use crate::buffer::Printed;
 use crate::result_line::density;
 use meaning::FileRating;
 

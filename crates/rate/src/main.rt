@@ -7,8 +7,7 @@
 ghost use Rattle.std.specs.Prelude.{◌≤◌, length};
 ghost use Rattle.meaning.specs.Program.{Response};
 
-use printing::buffer::Printed;
-use printing::lines::{ANSWER_BYTES, printed_lines};
+use printing::lines::{ANSWER_BYTES, MOST_PRINTED, print_rating};
 use rate_file::rate_file;
 use route::framing::part;
 use std::io::{Read, Write};
@@ -19,15 +18,15 @@ const KEPT_BYTES: usize = 16385;
 // The lent work bytes.
 const WORK_BYTES: usize = 8192;
 
-// What the program prints. The first `count` bytes of the buffer are the input, or its first bytes where the
-// buffer is full.
-fn respond(buffer: &[u8; KEPT_BYTES], count: usize) -> Printed
-    ensures { Response buffer.now count (length result) result }
+// Writes what the program prints to the front of `out`, and returns its number of bytes. The first `count`
+// bytes of the buffer are the input, or its first bytes where the buffer is full.
+fn respond(buffer: &[u8; KEPT_BYTES], count: usize, out: &mut [u8; MOST_PRINTED]) -> usize
+    ensures { Response buffer.now count result out.new }
 {
     let mut answer = [0u8; ANSWER_BYTES];
     let mut work = [0u8; WORK_BYTES];
     let rating = rate_file(part(buffer, 0, count), &mut answer, &mut work);
-    printed_lines(rating, &answer)
+    print_rating(rating, &answer, out)
 }
 
 // Reads once, to the front of the bytes, and returns how many came: 0 where the input is over, and where the
@@ -65,8 +64,9 @@ fn main(rt: HostRuntime) {
     let mut errors = rt.stderr();
     let mut buffer = [0u8; KEPT_BYTES];
     let count = read_input(&mut rt.stdin(), &mut errors, &mut buffer);
-    let lines = respond(&buffer, count);
-    if Write::write_all(&mut rt.stdout(), lines.as_bytes()).is_err() {
+    let mut out = [0u8; MOST_PRINTED];
+    let n = respond(&buffer, count, &mut out);
+    if Write::write_all(&mut rt.stdout(), &out[..n]).is_err() {
         let _ = Write::write_all(
             &mut errors,
             b"rate: standard output cannot be written, the lines are not all there\n",

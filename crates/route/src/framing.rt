@@ -3,13 +3,13 @@
 ghost use Rattle.std.specs.Prelude.{◌≡◌, [], MatchOption, length, get_or, take, drop};
 ghost use Rattle.std.proofs.Math.Option.{none, some};
 ghost use Rattle.meaning.specs.Route.{look_up, body_lengths, bodies};
-ghost use Rattle.route.specs.framing.Framing.{records_from};
+ghost use Rattle.route.specs.framing.Framing.{body_length, records_from};
 
 use crate::kind::Kind;
 use meaning::FoundRecord;
 
-// The length of the body of a record of no kind, more than any kind has.
-const UNKNOWN_LENGTH: usize = 255;
+// The length that stands for a kind that there is not, more than any kind has.
+pub const NO_KIND: usize = 255;
 
 // The records of a file one after another: the byte that begins each, and its body, cut where the file ends.
 #[derive(Clone, Copy)]
@@ -24,12 +24,19 @@ pub struct Bodies<'a> {
     kind: u8,
 }
 
-// The length of the body of a record by the byte that begins it.
-pub fn body_length(kind: u8) -> Option<usize>
+// The length of the body of a record by the byte that begins it; none where that is no kind.
+fn known_length(kind: u8) -> Option<usize>
     ensures { MatchOption result (look_up kind body_lengths ≡ none)
         (λ n. look_up kind body_lengths ≡ some n) }
 {
     Kind::try_from(kind).ok().map(Kind::body_length)
+}
+
+// The length of the body of a record by its kind.
+pub fn body_length(kind: u8) -> usize
+    ensures { result ≡ body_length kind }
+{
+    known_length(kind).unwrap_or(NO_KIND)
 }
 
 // The part of at most `count` bytes from the place `from` on, cut where the bytes end.
@@ -71,8 +78,7 @@ impl<'a> Iterator for Records<'a> {
     fn next(&mut self) -> Option<FoundRecord<'a>> {
         let (first, after) = self.rest.split_first()?;
         let kind = *first;
-        let length = body_length(kind).unwrap_or(UNKNOWN_LENGTH);
-        let (body, rest) = after.split_at(length.min(after.len()));
+        let (body, rest) = after.split_at(body_length(kind).min(after.len()));
         self.rest = rest;
         Some(FoundRecord { kind, body })
     }

@@ -11,6 +11,7 @@ ghost use Rattle.route.specs.payload.Payload.{HoldsTerms, Gathered, LaidFactor};
 use crate::acceptance::MOST_BYTES;
 use crate::framing::{Records, first_body, part};
 use crate::kind::Kind;
+pub use crate::mode::mode_unsuited;
 use meaning::FoundRecord;
 
 // The number of up to four bytes, the most significant first.

@@ -1,11 +1,11 @@
 // The reader of a route file by record number. Every function answers for every file of any length and every
 // number, and changes no lent byte.
-ghost use Rattle.std.specs.Prelude.{◌≡◌, get_or};
+ghost use Rattle.std.specs.Prelude.{◌≡◌, Ok, Err, MatchResult, [], get_or};
 ghost use Rattle.meaning.specs.Calls.{RecordCall};
 ghost use Rattle.meaning.specs.Route.{end_record};
 ghost use Rattle.route.specs.framing.Framing.{records_from};
 ghost use Rattle.route.specs.framing.Iterating.{read};
-ghost use Rattle.route.specs.reader.Reading.{kind_replied, body_replied, BodyStart};
+ghost use Rattle.route.specs.reader.Reading.{BodyStart};
 
 use crate::acceptance::file_verdict;
 use crate::framing::Records;
@@ -18,7 +18,7 @@ fn record_at(file: &[u8], n: usize) -> FoundRecord<'_>
 {
     Records::of(file).nth(n).unwrap_or(FoundRecord {
         kind: u8::from(Kind::End),
-        body: &[],
+        body: &file[..0],
     })
 }
 
@@ -37,7 +37,9 @@ pub fn body_start(file: &[u8], n: usize) -> usize
 // Record n, counted from 0, its body a part of the file, or the refusal of the file; beyond the last record
 // the end record.
 pub fn record(file: &[u8], n: usize) -> Result<FoundRecord<'_>, Refusal>
-    ensures { RecordCall file.now n (kind_replied result) (body_replied result) }
+    ensures { MatchResult result
+        (λ r. RecordCall file.now n (Ok r.kind) r.body.now)
+        (λ r. RecordCall file.now n (Err r) []) }
 {
     file_verdict(file)?;
     Ok(record_at(file, n))

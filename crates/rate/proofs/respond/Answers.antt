@@ -12,4 +12,4 @@ returns c =
     respond_call c.args.buffer.now c.args.count (omega arith) c.part.ensures
     (length-replicate {A = ℕ} 4097 0) (length-replicate {A = ℕ} 8192 0)
     c.rate_file-rating.ensures
-    c.printed_lines.ensures
+    c.print_rating.ensures

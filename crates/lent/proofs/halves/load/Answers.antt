@@ -15,6 +15,6 @@ returns c =
     let t = c.args.terms.now in
     let x = 4096 * c.args.h in
     let n = length t in
-    let e = c.copy_from_slice.ensures.after in
+    let e = c.overwrite.ensures in
     placed w c.args.h (1 - c.args.h) (omega arith) (omega arith) refl t (omega arith)
     (put_paste w x n _ (ap length e) ∙ ap (λ y. paste w x y n) e)

@@ -18,11 +18,11 @@ bounds-f-n c =
 pub returns-then-c-ne1 : goal.returns-then-c-ne1
 returns-then-c-ne1 c =
     left-multiplied (field-is_field c.args.field) c.requires.leads c.args.to.now
-    (copied-front c.args.f.now c.args.to.now refl c.copy_from_slice.ensures.after)
+    (copied-front c.args.f.now c.args.to.now refl c.overwrite.ensures)
     c.inverse-inverse.ensures c.multiply.ensures
 
 pub returns-else-c-ne1 : goal.returns-else-c-ne1
 returns-else-c-ne1 c =
     left_as_copied (field-is_field c.args.field) c.requires.leads c.args.to.now
-    (copied-front c.args.f.now c.args.to.now refl c.copy_from_slice.ensures.after)
+    (copied-front c.args.f.now c.args.to.now refl c.overwrite.ensures)
     (omega (arith, c.if-c-ne1.false))

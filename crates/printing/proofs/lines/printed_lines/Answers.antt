@@ -1,22 +1,22 @@
 -- `lines::printed_lines` meets its contract: the header, the result line and the poly line are put one after
 -- the other, and there is room for them.
 -- Assumes nothing.
-use Rattle.std.proofs.Common.{ap, arith, suc, length, length-append}
+use Rattle.std.proofs.Common.{ℕ, ap, arith, length, length-append}
 use Rattle.std.proofs.lemmas.List.{length-take}
 use Rattle.meaning.specs.Print.{text}
 use Rattle.printing.proofs.result_line.Lines.{lines_refused, lines_rated}
 use Rattle.printing.proofs.lines.printed_lines.Goals as goal
 
+-- the lengths, whatever the words and the arrays are
 pub push_poly-requires : goal.push_poly-requires
-unfolding text
 push_poly-requires c =
     omega (
       arith,
+      length-take {A = ℕ},
+      length-append {A = ℕ},
       ap length c.coefficients.ensures,
-      length-take (suc c.density-degree.result.0) c.args.answer.now,
       ap length c.new-lines.ensures,
       ap length c.push_word.ensures,
-      length-append c.new-lines.result (text "box result density powers\n"),
     )
 
 pub returns-in-Err : goal.returns-in-Err
@@ -31,4 +31,4 @@ unfolding text
 returns-in-Ok c =
     lines_rated c.args.rating c.args.answer.now c.new-lines.ensures c.push_word.ensures c.in-Ok.is
     c.push_rated.ensures.put
-    (rw (c.push_poly.ensures.put, c.coefficients.ensures, c.density-degree.ensures.0))
+    cc

@@ -1,7 +1,7 @@
 -- Sums that are plain numbers meet the contract of `Summation::add`. Assumes nothing.
-use Rattle.arith.specs.Represented.{field_of}
+use mathlib.Core.Path.{refl, sym}
+use Rattle.arith.proofs.Sorts.{prime-field}
 use Rattle.lent.proofs.residues.PrimeFieldSummation.add.Goals as goal
 
 pub returns-clause-values : goal.returns-clause-values
-unfolding field_of
-returns-clause-values c = c.add_products.ensures.values
+returns-clause-values c = rw (sym (prime-field c.args.self refl)) c.add_products.ensures.values

@@ -1,8 +1,7 @@
 -- `Records::next` meets its contract: the first record, and what is left after it.
 -- Assumes nothing.
-use Rattle.std.proofs.Common.{◌∙◌}
 use Rattle.route.specs.framing.Iterating.{left}
-use Rattle.route.proofs.framing.Frames.{length_told, framed_nil, framed_first, progress}
+use Rattle.route.proofs.framing.Frames.{framed_nil, framed_first, progress}
 use Rattle.route.proofs.framing.RecordsIterator.next.Goals as goal
 
 pub returns-in_err-first-clause-steps : goal.returns-in_err-first-clause-steps
@@ -13,10 +12,9 @@ returns-in_err-first-clause-steps c =
 pub returns-clause-steps : goal.returns-clause-steps
 returns-clause-steps c =
     let k = c.in_ok-first.first.now in
-    let n = c.unwrap_or-length.ensures ∙ length_told k c.body_length.result c.body_length.ensures in
     rw (c.split_at.ensures.front, c.split_at.ensures.back, c.min.ensures)
-    (framed_first c.args.self.now.rest.now k c.unwrap_or-length.result c.in_ok-first.after.now
-    c.in_ok-first.ensures.cases.0 n)
+    (framed_first c.args.self.now.rest.now k c.body_length.result c.in_ok-first.after.now
+    c.in_ok-first.ensures.cases.0 c.body_length.ensures)
 
 pub returns-clause-goes : goal.returns-clause-goes
 returns-clause-goes c =
